@@ -4,12 +4,14 @@
 usage: bench/compare.py BENCH..              fails where a bench fails, or a ratio is more than 20 per cent worse
        bench/compare.py --write BENCH..      writes the ratios of these benches into bench/baseline.json
 
-A bench prints a ratio as a line `ratio of NAME: VALUE`. A lower value is better, unless the line ends in `, at least LIMIT`.
-`, at most LIMIT` may follow too. The bench itself judges its limits, by its exit status.
+A bench prints a ratio as a line `ratio of NAME: VALUE`. A lower value is better, unless the line
+ends in `, at least LIMIT`. `, at most LIMIT` may follow too. The bench itself judges its limits, by
+its exit status.
 
-A bench of which a ratio is worse runs once more, since other work of the machine disturbs it; the better value of the two
-runs counts. A bench that lacks a program says `nothing was measured`, and is not compared. Ratios of one machine hold about
-on another one. Times do not, so the file has none.
+A bench of which a ratio is worse runs once more, since other work of the machine disturbs it; the
+better value of the two runs counts. A bench that lacks a program says `nothing was measured`, and
+is not compared. Ratios of one machine hold about on another one. Times do not, so the file has
+none.
 """
 import json
 import os
@@ -23,7 +25,9 @@ from typing import NamedTuple
 TOP = pathlib.Path(__file__).resolve().parents[1]
 BASELINE = TOP / "bench" / "baseline.json"
 MOST_WORSE = 0.2
-RATIO = re.compile(r"ratio of (?P<name>.+): (?P<value>\d+(?:\.\d+)?)(?:, at (?P<limit>most|least) \d+(?:\.\d+)?)?")
+RATIO = re.compile(
+    r"ratio of (?P<name>.+): (?P<value>\d+(?:\.\d+)?)(?:, at (?P<limit>most|least) \d+(?:\.\d+)?)?"
+)
 NOT_MEASURED = "nothing was measured"
 
 
@@ -55,7 +59,9 @@ Baseline = dict[str, dict[str, float]]
 
 def ratios_of(printed: str) -> dict[str, Ratio]:
     found = (RATIO.fullmatch(line.strip()) for line in printed.splitlines())
-    return {one["name"]: Ratio(float(one["value"]), one["limit"] == "least") for one in found if one}
+    return {
+        one["name"]: Ratio(float(one["value"]), one["limit"] == "least") for one in found if one
+    }
 
 
 def run(bench: str) -> Result:
@@ -71,7 +77,11 @@ def run(bench: str) -> Result:
 
 def worse(ratios: Mapping[str, Ratio], before: Mapping[str, float]) -> list[str]:
     """The names of the ratios that are too much worse."""
-    return [name for name in before if name in ratios and ratios[name].worse_by(before[name]) > MOST_WORSE]
+    return [
+        name
+        for name in before
+        if name in ratios and ratios[name].worse_by(before[name]) > MOST_WORSE
+    ]
 
 
 def faults(result: Result, before: Mapping[str, float]) -> list[str]:
@@ -79,9 +89,20 @@ def faults(result: Result, before: Mapping[str, float]) -> list[str]:
     told = [f"it ended with status {result.status}"] if result.status else []
     if not result.is_measured:
         return told
-    told += [f"{name}: {result.ratios[name].value:.2f}, and {before[name]:.2f} before" for name in worse(result.ratios, before)]
-    told += [f"{name}: it was not printed, and is in the baseline" for name in before if name not in result.ratios]
-    told += [f"{name}: it is not in the baseline; bench/compare.py --write adds it" for name in result.ratios if name not in before]
+    told += [
+        f"{name}: {result.ratios[name].value:.2f}, and {before[name]:.2f} before"
+        for name in worse(result.ratios, before)
+    ]
+    told += [
+        f"{name}: it was not printed, and is in the baseline"
+        for name in before
+        if name not in result.ratios
+    ]
+    told += [
+        f"{name}: it is not in the baseline; bench/compare.py --write adds it"
+        for name in result.ratios
+        if name not in before
+    ]
     return told
 
 
@@ -91,7 +112,10 @@ def compare(bench: str, before: Mapping[str, float]) -> bool:
     if worse(result.ratios, before) and not result.status:
         print(f"{bench}: a ratio is worse, so it runs once more")
         again = run(bench)
-        better = {name: ratio.better_of(again.ratios.get(name, ratio)) for name, ratio in result.ratios.items()}
+        better = {
+            name: ratio.better_of(again.ratios.get(name, ratio))
+            for name, ratio in result.ratios.items()
+        }
         result = Result(again.status, better, again.is_measured)
     told = faults(result, before)
     for fault in told:
@@ -105,7 +129,8 @@ def read() -> Baseline:
 
 
 def write(benches: Sequence[str]) -> bool:
-    """Takes the ratios of these benches for the baseline. Those of a bench that fails or measures nothing stay."""
+    """Takes the ratios of these benches for the baseline. Those of a bench that fails or measures
+    nothing stay."""
     baseline, has_passed = read(), True
     for bench in benches:
         print(bench, flush=True)

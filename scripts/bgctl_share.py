@@ -1,11 +1,12 @@
 #!/usr/bin/python3 -B
-"""Makes the completions of bgctl and the manual pages of all commands of the package from their parsers, as they are placed below
-/usr/share: scripts/bgctl_share.py FOLDER. It needs python3-shtab, python3-argcomplete and help2man of Debian. The page of the switch
-itself is packaging/bg_switch.1.
+"""Makes the completions of bgctl and the manual pages of all commands of the package from their
+parsers, as they are placed below /usr/share: scripts/bgctl_share.py FOLDER. It needs python3-shtab,
+python3-argcomplete and help2man of Debian. The page of the switch itself is packaging/bg_switch.1.
 
-zsh gets static completions by shtab. bash and fish get those of argcomplete, which ask bgctl itself: shtab has none for fish, and
-those for bash by its version 1.5.5 know the first command alone. They need python3-argcomplete also where they are used. They also
-complete the names of revisions, which bgctl reads from the switch and the plan.
+zsh gets static completions by shtab. bash and fish get those of argcomplete, which ask bgctl
+itself: shtab has none for fish, and those for bash by its version 1.5.5 know the first command
+alone. They need python3-argcomplete also where they are used. They also complete the names of
+revisions, which bgctl reads from the switch and the plan.
 """
 import importlib
 import os
@@ -24,11 +25,13 @@ from bg_switch_tools.bgctl.argument_parser import DESCRIPTION, parser  # noqa: E
 from bg_switch_tools.bgctl.commands import BGCTL_COMMANDS  # noqa: E402
 
 # The other tools, as the package names them: what each does.
-TOOLS = {"operator": "sends lines to the control port of a running switch, shows its state, and waits for it",
-         "controller": "runs a rollout of a blue-green switch by a plan, or judges a plan",
-         "analysis": "judges a revision by its requests in the access log of the switch, or by a query of Prometheus",
-         "dashboard": "shows a running switch, a fleet or both as web pages, and gives their metrics",
-         "fleet": "rolls one plan out over the machines of a fleet"}
+TOOLS = {
+    "operator": "sends lines to the control port of a running switch, shows its state, and waits for it",
+    "controller": "runs a rollout of a blue-green switch by a plan, or judges a plan",
+    "analysis": "judges a revision by its requests in the access log of the switch, or by a query of Prometheus",
+    "dashboard": "shows a running switch, a fleet or both as web pages, and gives their metrics",
+    "fleet": "rolls one plan out over the machines of a fleet",
+}
 DOCUMENTS = "/usr/share/doc/bg-switch"
 PACKAGES = {"shtab": "python3-shtab", "argcomplete": "python3-argcomplete"}
 COLUMNS = "500"  # so that no line of a help is wrapped: man(1) fills the lines
@@ -49,19 +52,25 @@ def library(name: str) -> Any:
 def completions() -> dict[str, str]:
     """The completions, by their paths."""
     shtab, argcomplete = library("shtab"), library("argcomplete")
-    return {"bash-completion/completions/bgctl": argcomplete.shellcode(["bgctl"], shell="bash"),
-            "fish/vendor_completions.d/bgctl.fish": argcomplete.shellcode(["bgctl"], shell="fish"),
-            "zsh/vendor-completions/_bgctl": shtab.complete(parser(shtab.FILE), shell="zsh")}
+    return {
+        "bash-completion/completions/bgctl": argcomplete.shellcode(["bgctl"], shell="bash"),
+        "fish/vendor_completions.d/bgctl.fish": argcomplete.shellcode(["bgctl"], shell="fish"),
+        "zsh/vendor-completions/_bgctl": shtab.complete(parser(shtab.FILE), shell="zsh"),
+    }
 
 
 def page(folder: pathlib.Path, name: str, command: str, about: str) -> str:
-    """The manual page of a command of the package, by the name of the page, the words in bin/ that run it, and what it does. help2man runs
-    a program whose usage begins with a capital, as GNU's do, and which has the name of the page."""
+    """The manual page of a command of the package, by the name of the page, the words in bin/ that
+    run it, and what it does. help2man runs a program whose usage begins with a capital, as GNU's
+    do, and which has the name of the page."""
     program = folder / name
-    program.write_text(f"""#!/bin/sh
+    program.write_text(
+        f"""#!/bin/sh
 [ "$1" != --version ] || {{ echo '{name} {VERSION}'; exit; }}
 BG_SWITCH_DOCUMENTS={DOCUMENTS} COLUMNS={COLUMNS} '{TOP}'/bin/{command} --help | sed '1s/^usage:/Usage:/'
-""", encoding="utf-8")
+""",
+        encoding="utf-8",
+    )
     program.chmod(0o755)
     words = ["help2man", "--no-info", "--section=1", f"--name={about}", str(program)]
     return subprocess.run(words, check=True, capture_output=True, text=True).stdout
@@ -73,10 +82,18 @@ def pages() -> dict[str, str]:
         raise Missing("there is no help2man: apt-get install help2man")
     about = DESCRIPTION[0].lower() + DESCRIPTION[1:].rstrip(".")
     with tempfile.TemporaryDirectory() as folder:
-        asked = {"bgctl": ("bgctl", about),
-                 **{f"bgctl-{command.name}": (f"bgctl {command.name}", command.meaning) for command in BGCTL_COMMANDS},
-                 **{f"bg-{tool}": (tool, meaning) for tool, meaning in TOOLS.items()}}
-        return {f"man/man1/{name}.1": page(pathlib.Path(folder), name, *told) for name, told in asked.items()}
+        asked = {
+            "bgctl": ("bgctl", about),
+            **{
+                f"bgctl-{command.name}": (f"bgctl {command.name}", command.meaning)
+                for command in BGCTL_COMMANDS
+            },
+            **{f"bg-{tool}": (tool, meaning) for tool, meaning in TOOLS.items()},
+        }
+        return {
+            f"man/man1/{name}.1": page(pathlib.Path(folder), name, *told)
+            for name, told in asked.items()
+        }
 
 
 def main() -> int:

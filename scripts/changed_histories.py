@@ -1,9 +1,10 @@
 #!/usr/bin/env python3
-"""Writes crates/bg_tests/src/history/changed_histories.rt: the histories of worked rows, single changes of their entries, and for
-each change whether the history is still legal and settled.
+"""Writes crates/bg_tests/src/history/changed_histories.rt: the histories of worked rows, single
+changes of their entries, and for each change whether the history is still legal and settled.
 
-The verdicts come from the definitions below alone, which ask a list of entries, oldest first, as a reader would ask it.
-They are slow, keep no state, and share nothing with `audit`. What is written is the same at each run.
+The verdicts come from the definitions below alone, which ask a list of entries, oldest first, as a
+reader would ask it. They are slow, keep no state, and share nothing with `audit`. What is written
+is the same at each run.
 """
 import json
 import pathlib
@@ -38,9 +39,12 @@ class Strategy(NamedTuple):
 
 
 def strategy_of(document: str) -> Strategy:
-    """The strategy of a document that `check` accepts, with a default for each setting that it does not have."""
+    """The strategy of a document that `check` accepts, with a default for each setting that it does
+    not have."""
     spec = json.loads(document)["spec"]
-    settings = {name: value for name, value in spec["strategy"]["blueGreen"].items() if value is not None}
+    settings = {
+        name: value for name, value in spec["strategy"]["blueGreen"].items() if value is not None
+    }
     replicas = spec.get("replicas", 1)
     return Strategy(
         replicas=replicas,
@@ -183,7 +187,8 @@ def is_halted(h: History) -> bool:
 
 
 def attempt(h: History) -> list[Placed]:
-    """The entries after the begin of the last attempt, each with the history before it; none where no attempt runs."""
+    """The entries after the begin of the last attempt, each with the history before it; none where
+    no attempt runs."""
     begin = begin_of_attempt(h)
     if begin is None or not is_running(h):
         return []
@@ -248,7 +253,8 @@ def begins(entry: Entry, before: History, r: int) -> bool:
 
 
 def since_scaled_down(h: History, r: int) -> tuple[bool, list[Placed]]:
-    """Whether r has been scaled down, and the entries since the last time, each with the history before it."""
+    """Whether r has been scaled down, and the entries since the last time, each with the history
+    before it."""
     downs = [place for place, entry in enumerate(h) if entry == Outcome("scaled_down", r)]
     first = downs[-1] + 1 if downs else 0
     return bool(downs), [(h[place], h[:place]) for place in range(first, len(h))]
@@ -272,7 +278,8 @@ def available(h: History, r: int) -> int:
 
 
 def passed_at(s: Strategy, h: History) -> int | None:
-    """The moment at which the running attempt passed: at its first Ready, or at the first success after one."""
+    """The moment at which the running attempt passed: at its first Ready, or at the first success
+    after one."""
     for entry, before in attempt(h):
         if not s.pre and entry.word == "ready":
             return moment(before)
@@ -305,7 +312,9 @@ def phase(s: Strategy, h: History) -> Phase | None:
 
 
 def may_be_ready(s: Strategy, h: History) -> bool:
-    return is_running(h) and not stands(h, "ready") and available(h, newest(h)) >= s.preview_replicas
+    return (
+        is_running(h) and not stands(h, "ready") and available(h, newest(h)) >= s.preview_replicas
+    )
 
 
 def may_resume(s: Strategy, h: History) -> bool:
@@ -321,7 +330,12 @@ def may_resume(s: Strategy, h: History) -> bool:
 
 
 def may_switch(s: Strategy, h: History) -> bool:
-    return is_running(h) and stands(h, "resumed") and not stands(h, "switched") and available(h, newest(h)) == s.replicas
+    return (
+        is_running(h)
+        and stands(h, "resumed")
+        and not stands(h, "switched")
+        and available(h, newest(h)) == s.replicas
+    )
 
 
 def may_promote(s: Strategy, h: History) -> bool:
@@ -344,13 +358,22 @@ def mark(s: Strategy, h: History, r: int) -> Mark:
         halts = stops(entry) and newest(before) == r
         if active(before) == r and active(after) != r and not halts:
             return Mark("left", place, moment(after))
-        if entry.word == "deploy" and newest(before) == r and r not in (active(before), stable(before)):
+        if (
+            entry.word == "deploy"
+            and newest(before) == r
+            and r not in (active(before), stable(before))
+        ):
             if desired(s, before, r) >= 1:
                 return Mark("superseded", place, moment(after))
         if halts and s.abort_delay > 0:
             return Mark("aborted", place, moment(after))
         becomes_active = active(before) != r and active(after) == r
-        if begins(entry, before, r) or becomes_active or entry == Outcome("scaled_down", r) or halts:
+        if (
+            begins(entry, before, r)
+            or becomes_active
+            or entry == Outcome("scaled_down", r)
+            or halts
+        ):
             return Mark("cleared", place, moment(after))
     return Mark("cleared", -1, 0)
 
@@ -371,7 +394,9 @@ def is_due(s: Strategy, h: History, r: int) -> bool:
     if kind == "aborted":
         return at + s.abort_delay <= moment(h)
     later = [q for q in spare(s, h) if mark(s, h, q).kind == "left" and mark(s, h, q).place > place]
-    return at + s.delay <= moment(h) or (s.revision_limit is not None and len(later) >= s.revision_limit)
+    return at + s.delay <= moment(h) or (
+        s.revision_limit is not None and len(later) >= s.revision_limit
+    )
 
 
 def open_requests(h: History) -> list[Enter]:
@@ -380,7 +405,11 @@ def open_requests(h: History) -> list[Enter]:
     def has_left(number: int, after: History) -> bool:
         return any(e.word == "leave" and e.number == number for e in after)
 
-    return [e for place, e in enumerate(h) if e.word == "enter" and not has_left(e.number, h[place + 1 :])]
+    return [
+        e
+        for place, e in enumerate(h)
+        if e.word == "enter" and not has_left(e.number, h[place + 1 :])
+    ]
 
 
 def held(h: History, seat: int) -> Enter | None:
@@ -392,7 +421,9 @@ def may_scale_down(s: Strategy, h: History, r: int) -> bool:
 
 
 def may_remove(s: Strategy, h: History, r: int) -> bool:
-    old = [q for q in revisions(h) if desired(s, h, q) == 0 and q not in selected(h) and q != newest(h)]
+    old = [
+        q for q in revisions(h) if desired(s, h, q) == 0 and q not in selected(h) and q != newest(h)
+    ]
     return len(old) > s.history_limit and r == old[0]
 
 
@@ -405,7 +436,9 @@ def is_label(name: str) -> bool:
 
 
 def are_ports(s: Strategy, ports: tuple[str, ...]) -> bool:
-    return len(ports) == s.replicas == len(set(ports)) and all(1 <= int(port) <= 65535 for port in ports)
+    return len(ports) == s.replicas == len(set(ports)) and all(
+        1 <= int(port) <= 65535 for port in ports
+    )
 
 
 def may_deploy(s: Strategy, h: History, asked: Deploy) -> bool:
@@ -430,7 +463,11 @@ def port_of(h: History, r: int, number: int) -> str:
 
 def may_enter(s: Strategy, h: History, asked: Enter) -> bool:
     r = asked.revision
-    if asked.seat >= SEATS or held(h, asked.seat) is not None or selection(s, h, asked.service) != r:
+    if (
+        asked.seat >= SEATS
+        or held(h, asked.seat) is not None
+        or selection(s, h, asked.service) != r
+    ):
         return False
     if available(h, r) < 1 or any(asked.number <= n for n in numbers(h)):
         return False
@@ -439,7 +476,10 @@ def may_enter(s: Strategy, h: History, asked: Enter) -> bool:
 
 def may_leave(h: History, asked: Leave) -> bool:
     request = held(h, asked.seat)
-    return request is not None and (request.number, request.revision) == (asked.number, asked.revision)
+    return request is not None and (request.number, request.revision) == (
+        asked.number,
+        asked.revision,
+    )
 
 
 def may_command(s: Strategy, h: History, word: CommandWord) -> bool:
@@ -456,7 +496,10 @@ def may_come(s: Strategy, h: History, outcome: Outcome) -> bool:
     if outcome.word == "removed":
         return may_remove(s, h, outcome.revision)
     steps: dict[StepWord, Callable[[Strategy, History], bool]] = {
-        "ready": may_be_ready, "resumed": may_resume, "switched": may_switch, "promoted": may_promote,
+        "ready": may_be_ready,
+        "resumed": may_resume,
+        "switched": may_switch,
+        "promoted": may_promote,
     }
     return outcome.revision == newest(h) and steps[outcome.word](s, h)
 
@@ -641,7 +684,9 @@ def changed_entry(entry: Entry, chance: random.Random) -> Entry:
         case Enter():
             return changed_enter(entry, place, chance)
         case Leave():
-            return Leave(entry.word, *one_near([entry.seat, entry.number, entry.revision], place, chance))
+            return Leave(
+                entry.word, *one_near([entry.seat, entry.number, entry.revision], place, chance)
+            )
         case Outcome():
             return entry._replace(revision=near(entry.revision, chance))
 
@@ -656,7 +701,9 @@ def a_change(h: History, chance: random.Random) -> tuple[str, History]:
     if kind == "double":
         return f"double {place}", h[:place] + h[place : place + 1] + h[place:]
     if kind == "move":
-        to = chance.choice([p for p in (place - 1, place + 1, chance.randrange(len(h))) if 0 <= p < len(h)])
+        to = chance.choice(
+            [p for p in (place - 1, place + 1, chance.randrange(len(h))) if 0 <= p < len(h)]
+        )
         return f"move {place} {to}", without[:to] + (h[place],) + without[to:]
     entry = changed_entry(h[place], chance)
     return f"change {place} {text_of(entry)}", h[:place] + (entry,) + h[place + 1 :]
@@ -667,6 +714,7 @@ def a_change(h: History, chance: random.Random) -> tuple[str, History]:
 
 class Row(NamedTuple):
     """A worked row: its name, the document of its strategy, and its lines after the opening."""
+
     name: str
     document: str
     script: str
@@ -674,12 +722,14 @@ class Row(NamedTuple):
 
 class Change(NamedTuple):
     """A change of the history of the row with this name."""
+
     row: str
     line: str
 
 
 class Judged(NamedTuple):
     """A change, and whether it leaves the history legal and settled."""
+
     change: Change
     is_good: bool
 
@@ -687,23 +737,46 @@ class Judged(NamedTuple):
 FIRST_LINE = " ".join(["open", OPENING.name, *OPENING.ports])
 
 
-WORDS = {"report", "tick", "deploy", "available", "verdict", "promote", "abort", "retry", "enter", "leave"}
+WORDS = {
+    "report",
+    "tick",
+    "deploy",
+    "available",
+    "verdict",
+    "promote",
+    "abort",
+    "retry",
+    "enter",
+    "leave",
+}
 
 
 def is_plain(line: str) -> bool:
-    """Whether a line is an event or a report, with single spaces and no number that begins with 0."""
-    return line.split(" ")[0] in WORDS and re.fullmatch(r"[a-z]+( [A-Za-z][A-Za-z0-9]*| 0| [1-9][0-9]*)*", line) is not None
+    """Whether a line is an event or a report, with single spaces and no number that begins with
+    0."""
+    return (
+        line.split(" ")[0] in WORDS
+        and re.fullmatch(r"[a-z]+( [A-Za-z][A-Za-z0-9]*| 0| [1-9][0-9]*)*", line) is not None
+    )
 
 
 def rows() -> list[Row]:
-    """The rows of `replay` for the usual number of seats whose lines are plain and have no fault, after this first line."""
+    """The rows of `replay` for the usual number of seats whose lines are plain and have no fault,
+    after this first line."""
     found = []
     for folder in sorted(ROWS.iterdir()):
         document, _, lines = (folder / "input").read_text(errors="replace").partition("---\n")
         first, *script = lines.splitlines() or [""]
-        if (folder / "command").read_text().split() != ["replay"] or first != FIRST_LINE or not script:
+        if (
+            (folder / "command").read_text().split() != ["replay"]
+            or first != FIRST_LINE
+            or not script
+        ):
             continue
-        if all(is_plain(line) for line in script) and "fault" not in (folder / "replies").read_text():
+        if (
+            all(is_plain(line) for line in script)
+            and "fault" not in (folder / "replies").read_text()
+        ):
             found.append(Row(folder.name, document.strip(), "\n".join(script)))
     return found
 
@@ -716,7 +789,8 @@ def sort_key(judged: Judged) -> tuple[str, str, list[int], str]:
 
 
 def distinct() -> list[tuple[Row, Strategy, History]]:
-    """The rows with their strategies and histories, without each whose history another one begins with."""
+    """The rows with their strategies and histories, without each whose history another one begins
+    with."""
     found: list[tuple[Row, Strategy, History]] = []
     for row in rows():
         s = strategy_of(row.document)
@@ -729,8 +803,9 @@ def distinct() -> list[tuple[Row, Strategy, History]]:
 
 
 def choose() -> tuple[dict[Row, History], list[Judged]]:
-    """The history of each row, and the changes of these histories. At least a third of the changes, where so many are found,
-    leave the history legal and settled; the others are spread over what they break."""
+    """The history of each row, and the changes of these histories. At least a third of the changes,
+    where so many are found, leave the history legal and settled; the others are spread over what
+    they break."""
     chance = random.Random(SEED)
     histories: dict[Row, History] = {}
     good: list[Change] = []
@@ -758,11 +833,16 @@ def choose() -> tuple[dict[Row, History], list[Judged]]:
 
 
 def block(row: Row, h: History, changes: list[Judged]) -> str:
-    """A history and its changes, as the test reads them: each line begins with the word that says what it is."""
+    """A history and its changes, as the test reads them: each line begins with the word that says
+    what it is."""
     lines = [f"row {row.name}", f"strategy {json.dumps(json.loads(row.document))}"]
     lines += [f"play {line}" for line in row.script.splitlines()]
     lines += [f"entry {text_of(entry)}" for entry in h]
-    lines += [f"{'good' if is_good else 'bad'} {line}" for (name, line), is_good in changes if name == row.name]
+    lines += [
+        f"{'good' if is_good else 'bad'} {line}"
+        for (name, line), is_good in changes
+        if name == row.name
+    ]
     return "\n".join(lines)
 
 

@@ -6,7 +6,8 @@ from dataclasses import dataclass
 
 @dataclass(frozen=True)
 class Crate:
-    """A line of crates.txt: the crates of the repository and the libraries of the kit that a crate names."""
+    """A line of crates.txt: the crates of the repository and the libraries of the kit that a crate
+    names."""
 
     below: list[str]
     of_kit: list[str]

@@ -1,11 +1,13 @@
 #!/usr/bin/env python3
-"""Draws the crates by layer, from crates.txt and the first sentence of each crate's own documentation.
+"""Draws the crates by layer, from crates.txt and the first sentence of each crate's own
+documentation.
 
 usage: scripts/crate_map.py             prints the drawing
        scripts/crate_map.py --write     writes it into docs/ARCHITECTURE.md, into the block under `## Crates`
 
-A crate's layer is 0 where it stands on no crate of the repository, else one above the highest crate that it stands on.
-crates.txt has the crates in the order of their layers, lowest first. The drawing has the highest layer first.
+A crate's layer is 0 where it stands on no crate of the repository, else one above the highest crate
+that it stands on. crates.txt has the crates in the order of their layers, lowest first. The drawing
+has the highest layer first.
 """
 import pathlib
 import re

@@ -21,6 +21,7 @@ COMMENT = re.compile(r" *-- ?(.*)")
 
 class Definition(NamedTuple):
     """A definition: its name, its line in the file, the comment above it, and its text."""
+
     name: str
     line: int
     comment: str
@@ -38,7 +39,7 @@ def definitions_of(text: str) -> Iterator[Definition]:
             continue
         defined = DEFINED.match(line)
         if defined:
-            body = itertools.takewhile(str.strip, lines[number - 1:])
+            body = itertools.takewhile(str.strip, lines[number - 1 :])
             yield Definition(defined[1], number, " ".join(comment), "\n".join(body))
         comment = []
 
@@ -56,7 +57,9 @@ def subject_of(text: str) -> str:
 
 def spec_files(top: pathlib.Path) -> list[pathlib.Path]:
     """The files of definitions, by crate and name; a crate's Lib.antt only lists the others."""
-    return [path for path in sorted(top.glob("crates/*/specs/**/*.antt")) if path.name != "Lib.antt"]
+    return [
+        path for path in sorted(top.glob("crates/*/specs/**/*.antt")) if path.name != "Lib.antt"
+    ]
 
 
 def map_of(top: pathlib.Path) -> str:

@@ -4,12 +4,14 @@
 usage: scripts/fleet_drill.py --seed N --seconds S [--folder FOLDER]    faults, plans and persons at random for so many seconds
        scripts/fleet_drill.py --fault NAME [--folder FOLDER]            agents with a planted fault, and without it; `all` is each one
 
-It needs the built program, etcd, HAProxy and nginx. Where root may, the machines are network namespaces; else they are ports of this
-one. What was recorded stays in the folder: without one, in a new one below /tmp.
+It needs the built program, etcd, HAProxy and nginx. Where root may, the machines are network
+namespaces; else they are ports of this one. What was recorded stays in the folder: without one, in
+a new one below /tmp.
 
-At the end it prints the figures, and for each rule whether it holds. Exit status: 0 if all rules hold, the fleet has settled, at least a
-third of the attempts were promoted, and a promote met an abort on its way; for a planted fault, if its rule has found it, and agents
-without it break no rule; else 1. 2 if the words are wrong or a program is missing.
+At the end it prints the figures, and for each rule whether it holds. Exit status: 0 if all rules
+hold, the fleet has settled, at least a third of the attempts were promoted, and a promote met an
+abort on its way; for a planted fault, if its rule has found it, and agents without it break no
+rule; else 1. 2 if the words are wrong or a program is missing.
 """
 import argparse
 import pathlib
@@ -42,30 +44,48 @@ def play_planted(folder: pathlib.Path, name: str) -> bool:
         print(f"{name}: agents without it break rule {rule}: {text}")
     rules = ", ".join(str(rule) for rule in sorted({rule for rule, _ in broken})) or "none"
     is_found = planted.is_found(broken)
-    print(f"{name}: {'FOUND' if is_found else 'NOT FOUND'} by rule {planted.rule}; rules that are broken: {rules}")
+    print(
+        f"{name}: {'FOUND' if is_found else 'NOT FOUND'} by rule {planted.rule}; rules that are broken: {rules}"
+    )
     for rule in sorted({rule for rule, _ in broken}):
         print(f"    rule {rule}: {next(text for number, text in broken if number == rule)}")
     return is_found and not without
 
 
 def main() -> int:
-    parser = argparse.ArgumentParser(prog="fleet_drill.py", usage=(__doc__ or "").split("usage: ")[1].split("\n\n")[0])
+    parser = argparse.ArgumentParser(
+        prog="fleet_drill.py", usage=(__doc__ or "").split("usage: ")[1].split("\n\n")[0]
+    )
     parser.add_argument("--seed", type=int)
     parser.add_argument("--seconds", type=float)
     parser.add_argument("--fault", choices=[*PLANTED, "all"])
     parser.add_argument("--folder", type=pathlib.Path)
     given = parser.parse_args()
-    is_random = given.seed is not None and given.seconds is not None and LEAST_SECONDS <= given.seconds <= MOST_SECONDS
+    is_random = (
+        given.seed is not None
+        and given.seconds is not None
+        and LEAST_SECONDS <= given.seconds <= MOST_SECONDS
+    )
     if is_random == (given.fault is not None):
         parser.error(f"give --seed and --seconds, {LEAST_SECONDS} to {MOST_SECONDS}, or --fault")
     if missing := missing_programs():
-        print(f"fleet_drill: {' and '.join(missing)} can't be found here: apt-get install etcd-server haproxy nginx", file=sys.stderr)
+        print(
+            f"fleet_drill: {' and '.join(missing)} can't be found here: apt-get install etcd-server haproxy nginx",
+            file=sys.stderr,
+        )
         return 2
-    folder: pathlib.Path = (given.folder or pathlib.Path(tempfile.mkdtemp(prefix="bg_fleet_"))).absolute()
+    folder: pathlib.Path = (
+        given.folder or pathlib.Path(tempfile.mkdtemp(prefix="bg_fleet_"))
+    ).absolute()
     if is_random:
         has_passed = play_random(folder, given.seed, given.seconds)
     else:
-        has_passed = all([play_planted(folder, name) for name in (PLANTED if given.fault == "all" else (given.fault,))])
+        has_passed = all(
+            [
+                play_planted(folder, name)
+                for name in (PLANTED if given.fault == "all" else (given.fault,))
+            ]
+        )
     print(f"what was recorded is in {folder}")
     return 0 if has_passed else 1
 

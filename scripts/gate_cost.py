@@ -3,24 +3,28 @@
 
 usage: scripts/gate_cost.py COMMAND [WORD..]        as `make test` does: scripts/gate_cost.py rt ci
 
-The exit status is that of the command. The unit is the processor time of bg_openlist's proof in the same run, since no
-figure in seconds holds on two machines. `rt ci` prints no times, so the processor time of each process that it starts
-for a crate is read from /proc until the process ends. Work on a crate is its proof, its tests or a must-fail edit:
+The exit status is that of the command. The unit is the processor time of bg_openlist's proof in the
+same run, since no figure in seconds holds on two machines. `rt ci` prints no times, so the
+processor time of each process that it starts for a crate is read from /proc until the process ends.
+Work on a crate is its proof, its tests or a must-fail edit:
 
     tests   the command has the word --test
     edits   the process runs outside the crate's folder, since an edit is tried on a copy
     proof   all else
 
-The longest chain is about the least time that the gate takes, however many processors it has: a crate's proof and its
-tests wait for the proofs of the crates below, and its longest edit for both.
+The longest chain is about the least time that the gate takes, however many processors it has: a
+crate's proof and its tests wait for the proofs of the crates below, and its longest edit for both.
 
-What it can't see: a process that ends within the PERIOD in which it begins, and what a process uses after it was last
-looked at; both are in the sum of all processes, which the system counts. Which of the compilers' and linkers' time is
-whose: it is in that sum too. How much longer a processor second is while others use the same core or memory. A crate that
-an earlier run has kept costs nothing, and where bg_openlist is kept there is no unit.
+What it can't see: a process that ends within the PERIOD in which it begins, and what a process uses
+after it was last looked at; both are in the sum of all processes, which the system counts. Which of
+the compilers' and linkers' time is
+whose: it is in that sum too. How much longer a processor second is while others use the same core
+or memory. A crate that an earlier run has kept costs nothing, and where bg_openlist is kept there
+is no unit.
 
-It also compares how many functions may wait: `may-wait=` on the last line of a proof with `may_wait=` of crates.txt, and
-names each crate where they differ. Of a kept crate the gate prints no such line.
+It also compares how many functions may wait: `may-wait=` on the last line of a proof with
+`may_wait=` of crates.txt, and names each crate where they differ. Of a kept crate the gate prints
+no such line.
 """
 import os
 import pathlib
@@ -78,7 +82,8 @@ class Costs:
 
 
 def work_of(words: Sequence[str], folder: str) -> Work | None:
-    """What a process with these words does, which runs in this folder; none where it checks no crate."""
+    """What a process with these words does, which runs in this folder; none where it checks no
+    crate."""
     if not words or os.path.basename(words[0]) != "rattle" or "--crate-name" not in words[:-1]:
         return None
     crate = words[words.index("--crate-name") + 1]
@@ -97,7 +102,9 @@ def processes() -> Iterator[ProcessTime]:
                     parts = file.read().rpartition(")")[2].split()
             except OSError:
                 continue
-            yield ProcessTime(int(each), int(parts[1]), int(parts[19]), (int(parts[11]) + int(parts[12])) / TICKS)
+            yield ProcessTime(
+                int(each), int(parts[1]), int(parts[19]), (int(parts[11]) + int(parts[12])) / TICKS
+            )
 
 
 def below(root: int, every: Iterable[ProcessTime]) -> Iterator[ProcessTime]:
@@ -115,7 +122,12 @@ def below(root: int, every: Iterable[ProcessTime]) -> Iterator[ProcessTime]:
 def work_at(number: int) -> Work | None:
     """What the process of this number does."""
     try:
-        words = pathlib.Path(f"/proc/{number}/cmdline").read_bytes().decode(errors="replace").split("\0")
+        words = (
+            pathlib.Path(f"/proc/{number}/cmdline")
+            .read_bytes()
+            .decode(errors="replace")
+            .split("\0")
+        )
         return work_of(words, os.readlink(f"/proc/{number}/cwd"))
     except OSError:
         return None
@@ -147,7 +159,8 @@ class Sampler(threading.Thread):
 
 
 def longest_chain(crates: Mapping[str, Crate], costs: Costs) -> tuple[float, list[str]]:
-    """The longest time for which one thing waits for another, and the crates of that chain, lowest first."""
+    """The longest time for which one thing waits for another, and the crates of that chain, lowest
+    first."""
     proved: dict[str, tuple[float, list[str]]] = {}
 
     def proof_of(name: str) -> tuple[float, list[str]]:
@@ -206,12 +219,15 @@ def miscounted(crates: Mapping[str, Crate], counts: Mapping[str, int]) -> Iterat
 
 
 def run(command: Sequence[str], out: TextIO) -> tuple[int, list[str], Costs, float]:
-    """Runs a command: its status, what it printed, what was seen of its processes, and what all of them took."""
+    """Runs a command: its status, what it printed, what was seen of its processes, and what all of
+    them took."""
     before = resource.getrusage(resource.RUSAGE_CHILDREN)
     # (what Python prints into a pipe comes late, else)
     environment = {**os.environ, "PYTHONUNBUFFERED": "1"}
     lines = []
-    with subprocess.Popen(command, stdout=subprocess.PIPE, text=True, errors="replace", env=environment) as started:
+    with subprocess.Popen(
+        command, stdout=subprocess.PIPE, text=True, errors="replace", env=environment
+    ) as started:
         sampler = Sampler(started.pid)
         sampler.start()
         assert started.stdout is not None
@@ -222,7 +238,12 @@ def run(command: Sequence[str], out: TextIO) -> tuple[int, list[str], Costs, flo
     sampler.is_over.set()
     sampler.join()
     after = resource.getrusage(resource.RUSAGE_CHILDREN)
-    return status, lines, sampler.costs(), after.ru_utime + after.ru_stime - before.ru_utime - before.ru_stime
+    return (
+        status,
+        lines,
+        sampler.costs(),
+        after.ru_utime + after.ru_stime - before.ru_utime - before.ru_stime,
+    )
 
 
 def main() -> int:
@@ -232,7 +253,10 @@ def main() -> int:
     crates = crates_in(pathlib.Path("crates.txt").read_text(encoding="utf-8"))
     status, lines, costs, every = run(sys.argv[1:], sys.stdout)
     unit = costs.total(UNIT, PROOF)
-    for line in [*miscounted(crates, counted(lines)), *(table(crates, costs, unit) if unit else [])]:
+    for line in [
+        *miscounted(crates, counted(lines)),
+        *(table(crates, costs, unit) if unit else []),
+    ]:
         print(line)
     print(last_line(crates, costs, every))
     return status if status >= 0 else 128 - status

@@ -1,11 +1,13 @@
 #!/usr/bin/env python3
-"""Shows that try_edits.py can fail: makes some edits harmless, and tries them among the others of their crates.
+"""Shows that try_edits.py can fail: makes some edits harmless, and tries them among the others of
+their crates.
 
 usage: scripts/harmless_edits.py [--count N] [--seed N]        20 edits, drawn by seed 1; after `rt ci`, or over built libraries
 
-An edit is made harmless by a comment behind its old text in the place of the new one, so that the body means what it meant.
-try_edits.py has to name each such edit as one that is still proved, and has to refuse all others. The script prints each
-verdict on a harmless edit, and fails where one differs. It is no part of the gate.
+An edit is made harmless by a comment behind its old text in the place of the new one, so that the
+body means what it meant. try_edits.py has to name each such edit as one that is still proved, and
+has to refuse all others. The script prints each verdict on a harmless edit, and fails where one
+differs. It is no part of the gate.
 """
 import argparse
 import contextlib
@@ -29,7 +31,8 @@ def made_harmless(text: str) -> str:
 
 
 def copied(top: pathlib.Path, room: pathlib.Path, harmless: Sequence[pathlib.Path]) -> None:
-    """Fills a folder with links to the crates, and with copies of their edits, of which these are made harmless."""
+    """Fills a folder with links to the crates, and with copies of their edits, of which these are
+    made harmless."""
     (room / "crates.txt").write_bytes((top / "crates.txt").read_bytes())
     for folder in (top / "crates").iterdir():
         copy = room / "crates" / folder.name
@@ -45,7 +48,9 @@ def copied(top: pathlib.Path, room: pathlib.Path, harmless: Sequence[pathlib.Pat
 
 
 def main() -> int:
-    arguments = argparse.ArgumentParser(description="Shows that try_edits.py fails where an edit is harmless.")
+    arguments = argparse.ArgumentParser(
+        description="Shows that try_edits.py fails where an edit is harmless."
+    )
     arguments.add_argument("--count", type=int, default=20)
     arguments.add_argument("--seed", type=int, default=1)
     given = arguments.parse_args()
@@ -61,7 +66,9 @@ def main() -> int:
     print("\n".join(sorted(found)))
     for line in sorted(expected ^ found):
         print(f"FAILED: {'is not so' if line in expected else 'was not expected'}: {line}")
-    print(f"harmless_edits: {len(expected & found)} of {len(expected)} were told, of {len(lines) - 1} edits; try_edits ended with status {status}")
+    print(
+        f"harmless_edits: {len(expected & found)} of {len(expected)} were told, of {len(lines) - 1} edits; try_edits ended with status {status}"
+    )
     return 0 if expected == found and status == 1 else 1
 
 

@@ -3,11 +3,12 @@
 
 usage: scripts/identifiers.py     prints each place, one a line; the exit status is 1 if there is one
 
-The column "Not" of docs/GLOSSARY.md has the words that a term replaces. A word in code font there is one that no
-identifier of the code has: in lower case, it is no part of an identifier (`owner` forbids `owner_of`, `has-owner` and
-`TheOwner`); with a capital, no type has this name (`Order`). A word without code font has other meanings too, and is for
-reviews. Text in comments and in strings is not looked at, since it says what a reader sees. A template of JavaScript counts
-as text with the code in it, which only uses names that stand elsewhere too.
+The column "Not" of docs/GLOSSARY.md has the words that a term replaces. A word in code font there
+is one that no identifier of the code has: in lower case, it is no part of an identifier (`owner`
+forbids `owner_of`, `has-owner` and `TheOwner`); with a capital, no type has this name (`Order`). A
+word without code font has other meanings too, and is for reviews. Text in comments and in strings
+is not looked at, since it says what a reader sees. A template of JavaScript counts as text with the
+code in it, which only uses names that stand elsewhere too.
 """
 import functools
 import pathlib
@@ -48,13 +49,17 @@ class Place(NamedTuple):
     word: str
 
     def __str__(self) -> str:
-        return f"{self.file}:{self.line}: {self.identifier}: the glossary has a term for `{self.word}`"
+        return (
+            f"{self.file}:{self.line}: {self.identifier}: the glossary has a term for `{self.word}`"
+        )
 
 
 def words_to_avoid(glossary: str) -> tuple[str, ...]:
     """The words in code font of the column "Not"."""
     rows = [line.split(" | ") for line in glossary.splitlines() if line.startswith("| ")]
-    return tuple(word for cells in rows if len(cells) == 4 for word in re.findall(r"`([^`]+)`", cells[2]))
+    return tuple(
+        word for cells in rows if len(cells) == 4 for word in re.findall(r"`([^`]+)`", cells[2])
+    )
 
 
 def blanked(text: str) -> str:
@@ -79,13 +84,15 @@ def has_word(identifier: str, word: str) -> bool:
     if word[0].isupper():
         return identifier == word
     parts, sought = parts_of(identifier), word.split()
-    return any(parts[start:start + len(sought)] == sought for start in range(len(parts)))
+    return any(parts[start : start + len(sought)] == sought for start in range(len(parts)))
 
 
 @functools.cache
 def words_of(identifier: str, words: tuple[str, ...]) -> list[str]:
     """The words to avoid that an identifier has."""
-    return [] if identifier in OF_LIBRARIES else [word for word in words if has_word(identifier, word)]
+    return (
+        [] if identifier in OF_LIBRARIES else [word for word in words if has_word(identifier, word)]
+    )
 
 
 def places_in(file: str, text: str, words: tuple[str, ...]) -> Iterator[Place]:
@@ -98,14 +105,24 @@ def places_in(file: str, text: str, words: tuple[str, ...]) -> Iterator[Place]:
 
 def sources(top: pathlib.Path) -> list[str]:
     """The sources of the repository, as paths from its top."""
-    listed = subprocess.run(["git", "ls-files", *FOLDERS], cwd=top, capture_output=True, text=True, check=True).stdout
-    return [file for file in listed.splitlines() if pathlib.Path(file).suffix in COMMENTS and (top / file).exists()]
+    listed = subprocess.run(
+        ["git", "ls-files", *FOLDERS], cwd=top, capture_output=True, text=True, check=True
+    ).stdout
+    return [
+        file
+        for file in listed.splitlines()
+        if pathlib.Path(file).suffix in COMMENTS and (top / file).exists()
+    ]
 
 
 def places(top: pathlib.Path) -> list[Place]:
     """All places of the repository."""
     words = words_to_avoid((top / GLOSSARY).read_text(encoding="utf-8"))
-    return [place for file in sources(top) for place in places_in(file, (top / file).read_text(encoding="utf-8"), words)]
+    return [
+        place
+        for file in sources(top)
+        for place in places_in(file, (top / file).read_text(encoding="utf-8"), words)
+    ]
 
 
 def main() -> int:

@@ -1,6 +1,7 @@
 #!/bin/sh
-# Judges the files that no proof reads: the types of the Python files (mypy) and their faults (flake8, by .flake8), the shell
-# scripts (shellcheck), and the syntax of the scripts of the dashboard's page (node). Without one of these programs it fails.
+# Judges the files that no proof reads: the types of the Python files (mypy), their faults (flake8, by .flake8) and their layout
+# (black), the shell scripts (shellcheck), and the syntax of the scripts of the dashboard's page (node). Without one of these
+# programs it fails.
 set -eu
 cd "$(dirname -- "$0")/.."
 failed=0
@@ -8,7 +9,7 @@ failed=0
 # need PROGRAM..: fails, and names each of these programs that is not installed.
 need() {
     for program in "$@"; do
-        command -v "$program" > /dev/null || { echo "lint needs $program: apt-get install mypy flake8 shellcheck nodejs" >&2; failed=1; }
+        command -v "$program" > /dev/null || { echo "lint needs $program: apt-get install mypy flake8 black shellcheck nodejs" >&2; failed=1; }
     done
     [ "$failed" -eq 0 ] || exit 1
 }
@@ -23,9 +24,10 @@ has_syntax() {
     node --input-type=module --check < "$1" || { echo "lint: the fault is in $1"; false; }
 }
 
-need mypy flake8 shellcheck node
+need mypy flake8 black shellcheck node
 git ls-files '*.py' | MYPYPATH=lib:scripts xargs mypy --strict --cache-dir out/mypy || failed=1
 git ls-files '*.py' | xargs flake8 || failed=1
+git ls-files '*.py' | BLACK_CACHE_DIR=out/black xargs black --quiet --diff --check || failed=1
 shell_scripts | xargs shellcheck || failed=1
 for file in $(git ls-files '*.js'); do
     has_syntax "$file" || failed=1

@@ -1,6 +1,8 @@
-"""`bg_switch serve` on loopback through a rollout: what clients, operators and endpoints get, and the last report.
+"""`bg_switch serve` on loopback through a rollout: what clients, operators and endpoints get, and
+the last report.
 
-Each worker takes exactly K connections. What the checks leave over of them, the end of a switch takes.
+Each worker takes exactly K connections. What the checks leave over of them, the end of a switch
+takes.
 """
 import collections
 import concurrent.futures
@@ -12,8 +14,21 @@ import subprocess
 from support import checks, clients
 from support.checks import check, comes
 from support.endpoints import Answer, Endpoint, Request, by_target
-from support.messages import (BAD_REQUEST, BY_HAND, CONTINUE, HEAD_TOO_LARGE, LARGEST_BODY, NO_PREVIEW, NOT_IMPLEMENTED,
-                              TOO_LARGE, UNAVAILABLE, answer, head_of, request, response)
+from support.messages import (
+    BAD_REQUEST,
+    BY_HAND,
+    CONTINUE,
+    HEAD_TOO_LARGE,
+    LARGEST_BODY,
+    NO_PREVIEW,
+    NOT_IMPLEMENTED,
+    TOO_LARGE,
+    UNAVAILABLE,
+    answer,
+    head_of,
+    request,
+    response,
+)
 from support.operators import Operator
 from support.ports import free_port
 from support.switch import LISTENING, Switch, opened
@@ -32,9 +47,16 @@ class Session:
         self.active, self.preview = self.switch.active, self.switch.preview
         self.entered = 0
 
-    def get(self, path: str = "/", port: int | None = None, method: str = "GET", body: clients.Body = None,
-            fields: dict[str, str] | None = None) -> Got:
-        """What a client is answered whose request enters, at the active port if no other is given."""
+    def get(
+        self,
+        path: str = "/",
+        port: int | None = None,
+        method: str = "GET",
+        body: clients.Body = None,
+        fields: dict[str, str] | None = None,
+    ) -> Got:
+        """What a client is answered whose request enters, at the active port if no other is
+        given."""
         self.entered += 1
         return self.switch.get(self.active if port is None else port, path, method, body, fields)
 
@@ -73,8 +95,12 @@ def carried_messages(session: Session) -> None:
     """Requests of Python's own client, and of curl where it is there."""
     check("GET", session.get(), (200, b"one"))
     check("HEAD", session.get(method="HEAD"), (200, b""))
-    check("POST of 1 MiB by length", session.get(method="POST", body=LARGE) == (200, b"one" + LARGE), True)
-    pieces = (LARGE[start:start + 65536] for start in range(0, len(LARGE), 65536))
+    check(
+        "POST of 1 MiB by length",
+        session.get(method="POST", body=LARGE) == (200, b"one" + LARGE),
+        True,
+    )
+    pieces = (LARGE[start : start + 65536] for start in range(0, len(LARGE), 65536))
     chunked = session.get(method="POST", body=pieces, fields={"Transfer-Encoding": "chunked"})
     check("POST of 1 MiB by chunks", chunked == (200, b"one" + LARGE), True)
     check("a response in chunks", session.get("/chunks") == (200, b"c" * 300000), True)
@@ -85,17 +111,26 @@ def carried_messages(session: Session) -> None:
         session.switch.take(session.active)
         words = ["curl", "-s", "-i", f"http://127.0.0.1:{session.active}/"]
         got = subprocess.run(words, capture_output=True, timeout=LONGEST, check=False).stdout
-        check("curl", (got.startswith(b"HTTP/1.1 200 OK\r\n"), got.endswith(b"\r\n\r\none")), (True, True))
+        check(
+            "curl",
+            (got.startswith(b"HTTP/1.1 200 OK\r\n"), got.endswith(b"\r\n\r\none")),
+            (True, True),
+        )
     else:
         check("GET once more", session.get(), (200, b"one"))
 
 
 def fields_and_bytes(session: Session) -> None:
     """Which fields go on, and requests byte for byte."""
-    got = session.get("/all-fields", fields={"Connection": "keep-alive, X-Drop", "X-Drop": "1", "X-Keep": "2"})
+    got = session.get(
+        "/all-fields", fields={"Connection": "keep-alive, X-Drop", "X-Drop": "1", "X-Keep": "2"}
+    )
     fields = got[1].decode().split("\n") if got else []
-    check("fields that go on", sorted(line for line in fields if not line.startswith("Host")),
-          ["Accept-Encoding: identity", "Connection: close", "Via: 1.1 bg-switch", "X-Keep: 2"])
+    check(
+        "fields that go on",
+        sorted(line for line in fields if not line.startswith("Host")),
+        ["Accept-Encoding: identity", "Connection: close", "Via: 1.1 bg-switch", "X-Keep: 2"],
+    )
     expecting = b"POST / HTTP/1.1\r\nHost: x\r\nExpect: 100-continue\r\nContent-Length: 2\r\n\r\nhi"
     check("an expectation", session.raw(expecting), CONTINUE + answer(b"onehi"))
     check("bytes after a request", session.raw(request() * 200), answer(b"one"))
@@ -103,12 +138,18 @@ def fields_and_bytes(session: Session) -> None:
 
 def refused_messages(switch: Switch) -> None:
     """Messages that are refused, and don't enter."""
-    two_lengths = b"GET / HTTP/1.1\r\nHost: x\r\nContent-Length: 1\r\nTransfer-Encoding: chunked\r\n\r\n"
+    two_lengths = (
+        b"GET / HTTP/1.1\r\nHost: x\r\nContent-Length: 1\r\nTransfer-Encoding: chunked\r\n\r\n"
+    )
     large = head_of(LARGEST_BODY + 1)
     check("no Host", switch.raw(switch.active, b"GET / HTTP/1.1\r\n\r\n"), BAD_REQUEST)
     check("two lengths", switch.raw(switch.active, two_lengths), BAD_REQUEST)
     check("too large", switch.raw(switch.active, large, *[b"x" * 60000] * 10), TOO_LARGE)
-    check("a large head", switch.raw(switch.active, b"GET / HTTP/1.1\r\n" + b"A: b\r\n" * 65 + b"\r\n"), HEAD_TOO_LARGE)
+    check(
+        "a large head",
+        switch.raw(switch.active, b"GET / HTTP/1.1\r\n" + b"A: b\r\n" * 65 + b"\r\n"),
+        HEAD_TOO_LARGE,
+    )
     check("CONNECT", switch.raw(switch.active, request(method=b"CONNECT")), NOT_IMPLEMENTED)
     check("a client that closes early", switch.raw(switch.active, b"GET / HT"), b"")
 
@@ -127,8 +168,16 @@ def switch_under_load(session: Session, operator: Operator) -> None:
         gets += [pool.submit(session.switch.get, session.active) for _ in range(100)]
         counts = collections.Counter(get.result() for get in gets)
     session.entered += 200
-    check("each request of 200 is answered whole", sum(counts[200, body] for body in (b"one", b"two")), 200)
-    check("both revisions have answered", (counts[200, b"one"] > 0, counts[200, b"two"] >= 100), (True, True))
+    check(
+        "each request of 200 is answered whole",
+        sum(counts[200, body] for body in (b"one", b"two")),
+        200,
+    )
+    check(
+        "both revisions have answered",
+        (counts[200, b"one"] > 0, counts[200, b"two"] >= 100),
+        (True, True),
+    )
     check("active after the switch", session.get(), (200, b"two"))
 
 
@@ -150,7 +199,10 @@ def check_last_report(session: Session, operator: Operator) -> None:
     ended = session.switch.end()
     check("status", ended.status, 0)
     check("the operator's report", ended.printed.startswith(told) and told != "", True)
-    check("the last report", ended.printed, f"""moment 30
+    check(
+        "the last report",
+        ended.printed,
+        f"""moment 30
 phase aborted
 active 2
 preview 2
@@ -161,7 +213,8 @@ revision 2 two desired 1 available 1 open 0 deadline none
 revision 3 three desired 1 available 1 open 0 deadline 60
 end
 calls {2 * session.entered}
-""")
+""",
+    )
 
 
 def whole_rollout() -> None:
@@ -192,12 +245,22 @@ def buffering_heads(heads: list[bytes]) -> Answer:
 def byte_for_byte() -> None:
     """Two clients in turn, and what goes to their endpoint."""
     heads: list[bytes] = []
-    switch, operator = opened(Endpoint(buffering_heads(heads)).port, NO_PREVIEW, count=2, preview=False)
+    switch, operator = opened(
+        Endpoint(buffering_heads(heads)).port, NO_PREVIEW, count=2, preview=False
+    )
     for _ in range(2):
-        check("an answer", switch.raw(switch.active, b"GET /a HTTP/1.1\r\nHost: web\r\nA: b\r\n\r\n"), answer(b"ok"))
+        check(
+            "an answer",
+            switch.raw(switch.active, b"GET /a HTTP/1.1\r\nHost: web\r\nA: b\r\n\r\n"),
+            answer(b"ok"),
+        )
     switch.check_end_after(operator, "calls of two requests", 4)
-    check("what went to the backend", heads,
-          [b"GET /a HTTP/1.1\r\nHost: web\r\nA: b\r\nVia: 1.1 bg-switch\r\nConnection: close\r\n\r\n"] * 2)
+    check(
+        "what went to the backend",
+        heads,
+        [b"GET /a HTTP/1.1\r\nHost: web\r\nA: b\r\nVia: 1.1 bg-switch\r\nConnection: close\r\n\r\n"]
+        * 2,
+    )
 
 
 def without_preview() -> None:

@@ -1,5 +1,6 @@
-"""The access log of `bg_switch serve`: what each line says, a file that is renamed, one that takes nothing, one that takes
-nothing for a while, one that takes a part of a line, and one that can't be opened."""
+"""The access log of `bg_switch serve`: what each line says, a file that is renamed, one that takes
+nothing, one that takes nothing for a while, one that takes a part of a line, and one that can't be
+opened."""
 import contextlib
 import os
 import pathlib
@@ -30,12 +31,18 @@ WRITTEN = 0.5  # seconds after which lines are written: the switch writes ten ti
 IN_CHUNKS = b"POST /chunks HTTP/1.1\r\nHost: x\r\nTransfer-Encoding: chunked\r\n\r\n"
 MANY = b"A: " + b"b" * 17000 + b"\r\n"
 # What is wrong behind a head that has no fault, and the status that it is refused in.
-FAULTS_OF_BODIES = (("a wrong size", b"x\r\n", 400), ("a wrong end", b"1\r\nab\r\n0\r\n\r\n", 400), ("a wrong trailer", b"0\r\nA b: c\r\n\r\n", 400),
-                    ("large trailers", b"0\r\n" + MANY + b"\r\n", 400), ("a large chunk", b"100001\r\n", 413))
-# How many bytes of lines wait to be written at most. A request whose line in the log is long, and more of them than the log keeps
-# lines; the first of them fill the FIFO.
+FAULTS_OF_BODIES = (
+    ("a wrong size", b"x\r\n", 400),
+    ("a wrong end", b"1\r\nab\r\n0\r\n\r\n", 400),
+    ("a wrong trailer", b"0\r\nA b: c\r\n\r\n", 400),
+    ("large trailers", b"0\r\n" + MANY + b"\r\n", 400),
+    ("a large chunk", b"100001\r\n", 413),
+)
+# How many bytes of lines wait to be written at most. A request whose line in the log is long, and
+# more of them than the log keeps lines; the first of them fill the FIFO.
 QUEUE = 1 << 24
-# It has no Host, and so is refused; its method and its target, of which each byte is two in the log, make a long line.
+# It has no Host, and so is refused; its method and its target, of which each byte is two in the
+# log, make a long line.
 WIDE = b"M" * 1024 + b" /" + b'"' * 1023 + b" HTTP/1.1\r\n\r\n"
 FIRST_REQUESTS, WIDE_REQUESTS = 32, 5600
 # How many bytes the file of a full disk takes, and how many lines are for it.
@@ -64,11 +71,24 @@ class Log:
 
 
 @contextlib.contextmanager
-def logging(path: pathlib.Path, workers: int = 1, prepare: Callable[[], object] = lambda: None) -> Iterator[tuple[Switch, Endpoint]]:
-    """A switch that logs to this path, and the endpoint of its first revision. `prepare` is called in the switch's process."""
+def logging(
+    path: pathlib.Path, workers: int = 1, prepare: Callable[[], object] = lambda: None
+) -> Iterator[tuple[Switch, Endpoint]]:
+    """A switch that logs to this path, and the endpoint of its first revision. `prepare` is called
+    in the switch's process."""
     endpoint = Endpoint(by_target(b"one"))
-    switch = Switch(NO_PREVIEW, workers=workers, timeout=TIMEOUT, variables={ACCESS_LOG: str(path)}, prepare=prepare)
-    check("open", (switch.answer_to(f"open one {endpoint.port}"), switch.answer_to("available 1 1")), ("ok 0", "ok 0"))
+    switch = Switch(
+        NO_PREVIEW,
+        workers=workers,
+        timeout=TIMEOUT,
+        variables={ACCESS_LOG: str(path)},
+        prepare=prepare,
+    )
+    check(
+        "open",
+        (switch.answer_to(f"open one {endpoint.port}"), switch.answer_to("available 1 1")),
+        ("ok 0", "ok 0"),
+    )
     try:
         yield switch, endpoint
     finally:
@@ -92,24 +112,60 @@ def kinds_of_ends() -> None:
         port = switch.active
         refused: list[tuple[str, bytes, tuple[object, ...]]] = [
             ("answered", request(), ("active", 200, "answered", None, "GET", "/")),
-            ("malformed", b"GET / HTTP/1.1\r\nHost : x\r\n\r\n", ("active", 400, "refused", "head", None, None)),
+            (
+                "malformed",
+                b"GET / HTTP/1.1\r\nHost : x\r\n\r\n",
+                ("active", 400, "refused", "head", None, None),
+            ),
             ("no host", b"GET / HTTP/1.1\r\n\r\n", ("active", 400, "refused", "head", "GET", "/")),
             ("too large a body", head_of(2000000), ("active", 413, "refused", "body", "POST", "/")),
-            *[(f"{name} in a body", IN_CHUNKS + rest, ("active", status, "refused", "body", "POST", "/chunks"))
-              for name, rest, status in FAULTS_OF_BODIES],
-            ("a large head", request(b"/", b"GET").replace(b"Host", MANY + b"Host"), ("active", 431, "refused", "head", None, None)),
-            ("not supported", b"CONNECT x:1 HTTP/1.1\r\nHost: x\r\n\r\n", ("active", 501, "refused", "head", "CONNECT", "x:1")),
-            ("an early end", request(b"/closes"), ("active", 502, "refused", "response_malformed", "GET", "/closes")),
-            ("a malformed response", request(b"/status"), ("active", 502, "refused", "response_malformed", "GET", "/status")),
-            ("a large response", request(b"/large"), ("active", 502, "refused", "response_too_large", "GET", "/large")),
-            ("a silent endpoint", request(b"/hangs"), ("active", 502, "refused", "response_timeout", "GET", "/hangs")),
+            *[
+                (
+                    f"{name} in a body",
+                    IN_CHUNKS + rest,
+                    ("active", status, "refused", "body", "POST", "/chunks"),
+                )
+                for name, rest, status in FAULTS_OF_BODIES
+            ],
+            (
+                "a large head",
+                request(b"/", b"GET").replace(b"Host", MANY + b"Host"),
+                ("active", 431, "refused", "head", None, None),
+            ),
+            (
+                "not supported",
+                b"CONNECT x:1 HTTP/1.1\r\nHost: x\r\n\r\n",
+                ("active", 501, "refused", "head", "CONNECT", "x:1"),
+            ),
+            (
+                "an early end",
+                request(b"/closes"),
+                ("active", 502, "refused", "response_malformed", "GET", "/closes"),
+            ),
+            (
+                "a malformed response",
+                request(b"/status"),
+                ("active", 502, "refused", "response_malformed", "GET", "/status"),
+            ),
+            (
+                "a large response",
+                request(b"/large"),
+                ("active", 502, "refused", "response_too_large", "GET", "/large"),
+            ),
+            (
+                "a silent endpoint",
+                request(b"/hangs"),
+                ("active", 502, "refused", "response_timeout", "GET", "/hangs"),
+            ),
         ]
         for _, text, _ in refused:
             switch.raw(port, text)
-        for (name, _, expected), entry in zip(refused, Log(there / "log").awaited(len(refused)), strict=True):
+        for (name, _, expected), entry in zip(
+            refused, Log(there / "log").awaited(len(refused)), strict=True
+        ):
             check(f"the log of {name}", told(entry), expected)
         later = ends_of_others(switch, endpoint)
-        entries = Log(there / "log").awaited(len(refused) + len(later))[len(refused):]
+        entries = Log(there / "log").awaited(len(refused) + len(later))[len(refused) :]
         for (name, expected), entry in zip(later, entries, strict=True):
             check(f"the log of {name}", told(entry), expected)
 
@@ -123,7 +179,11 @@ def ends_of_others(switch: Switch, endpoint: Endpoint) -> list[tuple[str, tuple[
         client.sendall(request(b"/hangs"))
         comes(lambda: switch.open_requests() == [1])
         reset(client)
-        check("a client that has gone frees its worker", comes(lambda: switch.open_requests() == [0]), True)
+        check(
+            "a client that has gone frees its worker",
+            comes(lambda: switch.open_requests() == [0]),
+            True,
+        )
     switch.raw(switch.preview or 0, request(b"/preview"))
     switch.answer_to("available 1 0")
     switch.raw(switch.active, request(b"/nowhere"))
@@ -152,7 +212,12 @@ def each_field() -> None:
         check("bytes", (first.request_bytes, first.response_bytes), (len(text), len(answer)))
         check("numbers", (first.revision, first.request, first.port), (1, 1, endpoint.port))
         check("a time", began - 1 <= first.time <= time.time() + 1, True)
-        check("milliseconds", 250 <= first.duration_ms <= 5000 and 250 <= (first.upstream_ms or 0) <= first.duration_ms + 1, True)
+        check(
+            "milliseconds",
+            250 <= first.duration_ms <= 5000
+            and 250 <= (first.upstream_ms or 0) <= first.duration_ms + 1,
+            True,
+        )
         check("a hostile target", hostile.target, HOSTILE.decode())
         check("a long target", long.target, LONG.decode()[:KEPT_OF_TARGET])
 
@@ -176,20 +241,33 @@ def as_many_lines() -> None:
         count = REQUESTS + 1
 
         def lines() -> int:
-            return sum(path.read_bytes().count(b"\n") for path in (there / "log", renamed) if path.exists())
+            return sum(
+                path.read_bytes().count(b"\n") for path in (there / "log", renamed) if path.exists()
+            )
 
         check("a line for each request", (comes(lambda: lines() >= count), lines()), (True, count))
         entries = Log(renamed).entries() + Log(there / "log").entries()
-        check("each request once", sorted(entry.request or 0 for entry in entries), list(range(1, count + 1)))
-        check("all answered", {(entry.status, entry.end, entry.reason) for entry in entries}, {(200, "answered", None)})
+        check(
+            "each request once",
+            sorted(entry.request or 0 for entry in entries),
+            list(range(1, count + 1)),
+        )
+        check(
+            "all answered",
+            {(entry.status, entry.end, entry.reason) for entry in entries},
+            {(200, "answered", None)},
+        )
 
 
 def renamed_file() -> None:
-    """A request after the file was renamed has its line in the new file, each time. The renamed file gets no further line."""
+    """A request after the file was renamed has its line in the new file, each time. The renamed
+    file gets no further line."""
     with folder() as there, logging(there / "log") as (switch, _):
         log = Log(there / "log")
         get(switch.active)
-        check("the line before the file is renamed", [entry.request for entry in log.awaited(1)], [1])
+        check(
+            "the line before the file is renamed", [entry.request for entry in log.awaited(1)], [1]
+        )
         for number in (2, 3):
             renamed = there / f"log.{number}"
             log.path.rename(renamed)
@@ -197,7 +275,11 @@ def renamed_file() -> None:
             time.sleep(REOPENED)
             comes(log.path.exists)
             get(switch.active)
-            check("the line of a request after the file was renamed", [entry.request for entry in log.awaited(1)], [number])
+            check(
+                "the line of a request after the file was renamed",
+                [entry.request for entry in log.awaited(1)],
+                [number],
+            )
             time.sleep(WRITTEN)
             check("further bytes of a renamed file", renamed.read_bytes().removeprefix(before), b"")
 
@@ -250,9 +332,11 @@ def longest_wait(port: int, count: int) -> float:
 
 
 def slow_disk() -> None:
-    """A log whose reader stands still holds nobody up. Lines for which there is no room are counted, and the count is written once
-    the reader goes on."""
-    with folder() as there, contextlib.closing(Fifo(there / "log")) as fifo, logging(there / "log", workers=CLIENTS - 1) as (switch, _):
+    """A log whose reader stands still holds nobody up. Lines for which there is no room are
+    counted, and the count is written once the reader goes on."""
+    with folder() as there, contextlib.closing(Fifo(there / "log")) as fifo, logging(
+        there / "log", workers=CLIENTS - 1
+    ) as (switch, _):
         longest_wait(switch.active, FIRST_REQUESTS)
         time.sleep(WRITTEN)
         start = time.monotonic()
@@ -263,22 +347,29 @@ def slow_disk() -> None:
         check("each line is written or counted", fifo.has(count), True)
         check_lost_lines(fifo.lines, count)
         get(switch.active)
-        check("a line once the reader goes on", (fifo.has(count + 1), told(read_lines(fifo.lines[-1:]).entries[-1])),
-              (True, ("active", 200, "answered", None, "GET", "/")))
+        check(
+            "a line once the reader goes on",
+            (fifo.has(count + 1), told(read_lines(fifo.lines[-1:]).entries[-1])),
+            (True, ("active", 200, "answered", None, "GET", "/")),
+        )
 
 
 def leave_room() -> None:
-    """The process that calls this may write `ROOM` bytes to a file. A write beyond that fails, as on a full disk."""
+    """The process that calls this may write `ROOM` bytes to a file. A write beyond that fails, as
+    on a full disk."""
     signal.signal(signal.SIGXFSZ, signal.SIG_IGN)
     resource.setrlimit(resource.RLIMIT_FSIZE, (ROOM, resource.RLIM_INFINITY))
 
 
 def make_room(switch: Switch) -> None:
-    resource.prlimit(switch.process.pid, resource.RLIMIT_FSIZE, (resource.RLIM_INFINITY, resource.RLIM_INFINITY))
+    resource.prlimit(
+        switch.process.pid, resource.RLIMIT_FSIZE, (resource.RLIM_INFINITY, resource.RLIM_INFINITY)
+    )
 
 
 def line_over_rotation() -> None:
-    """A line that a file has taken in part is completed in that file, also if the file is renamed meanwhile."""
+    """A line that a file has taken in part is completed in that file, also if the file is renamed
+    meanwhile."""
     with folder() as there, logging(there / "log", prepare=leave_room) as (switch, _):
         for _ in range(LINES_FOR_ROOM):
             get(switch.active)
@@ -291,46 +382,77 @@ def line_over_rotation() -> None:
         check("a file is opened once the line is whole", comes(log.path.exists), True)
         get(switch.active)
         entries = renamed.entries() + log.awaited(1)
-        check("each request once, beside a rotation", [entry.request for entry in entries], list(range(1, LINES_FOR_ROOM + 2)))
+        check(
+            "each request once, beside a rotation",
+            [entry.request for entry in entries],
+            list(range(1, LINES_FOR_ROOM + 2)),
+        )
 
 
 def full_disk_ends_whole_lines() -> None:
-    """A disk that becomes full in the middle of a line gets the rest of the line first once there is room."""
+    """A disk that becomes full in the middle of a line gets the rest of the line first once there
+    is room."""
     with folder() as there, logging(there / "log", prepare=leave_room) as (switch, _):
         for _ in range(LINES_FOR_ROOM):
             get(switch.active)
         log = Log(there / "log")
         check("the disk is full", comes(lambda: log.path.stat().st_size == ROOM), True)
         check("a line is cut by a full disk", log.path.read_bytes().endswith(b"\n"), False)
-        check("a full disk is told", switch.tells("the access log takes nothing: File too large"), True)
+        check(
+            "a full disk is told",
+            switch.tells("the access log takes nothing: File too large"),
+            True,
+        )
         time.sleep(REOPENED)
         check("a full disk is told once", switch.count_told("the access log takes nothing"), 1)
         make_room(switch)
         entries = log.awaited(LINES_FOR_ROOM)
-        check("each request once, beside a full disk", [entry.request for entry in entries], list(range(1, LINES_FOR_ROOM + 1)))
+        check(
+            "each request once, beside a full disk",
+            [entry.request for entry in entries],
+            list(range(1, LINES_FOR_ROOM + 1)),
+        )
         check("the end of a full disk is told", switch.tells("the access log: lines lost: 0"), True)
 
 
 def starts_after_a_part() -> None:
-    """A file that ends in a part of a line, as an end of the switch on a full disk leaves it, gets a line end first."""
+    """A file that ends in a part of a line, as an end of the switch on a full disk leaves it, gets
+    a line end first."""
     part = b'{"time":"2026-'
     with folder() as there:
         (there / "log").write_bytes(part)
         with logging(there / "log") as (switch, _):
             get(switch.active)
-            check("a line behind a part of a line", comes(lambda: (there / "log").read_bytes().count(b"\n") >= 2), True)
+            check(
+                "a line behind a part of a line",
+                comes(lambda: (there / "log").read_bytes().count(b"\n") >= 2),
+                True,
+            )
             lines = (there / "log").read_bytes().splitlines()
             check("the part of a line", lines[0], part)
-            check("the line behind it", [entry.request for entry in read_lines(lines[1:]).entries], [1])
+            check(
+                "the line behind it",
+                [entry.request for entry in read_lines(lines[1:]).entries],
+                [1],
+            )
 
 
 def check_lost_lines(lines: list[bytes], count: int) -> None:
-    """Checks the lines of so many requests, some of which had no room: the count is behind those that had it."""
+    """Checks the lines of so many requests, some of which had no room: the count is behind those
+    that had it."""
     batch = read_lines(lines)
-    check("the lines that were written and those that were counted", (len(batch.entries) + batch.lost, batch.unreadable), (count, 0))
+    check(
+        "the lines that were written and those that were counted",
+        (len(batch.entries) + batch.lost, batch.unreadable),
+        (count, 0),
+    )
     check("lines are lost", batch.lost > 0, True)
     check("the last line is the count", read_lines(lines[-1:]).lost, batch.lost)
-    check("no line is lost before the queue is full", sum(len(line) + 1 for line in lines) > QUEUE - max(map(len, lines)), True)
+    check(
+        "no line is lost before the queue is full",
+        sum(len(line) + 1 for line in lines) > QUEUE - max(map(len, lines)),
+        True,
+    )
 
 
 def has_ended(switch: Switch) -> bool:
@@ -338,7 +460,8 @@ def has_ended(switch: Switch) -> bool:
 
 
 def unread_fifo() -> None:
-    """A FIFO as the log, whose reader has gone or stands still, doesn't keep the switch from its end."""
+    """A FIFO as the log, whose reader has gone or stands still, doesn't keep the switch from its
+    end."""
     for has_gone in (True, False):
         with tempfile.TemporaryDirectory() as folder:
             path = pathlib.Path(folder) / "log"
@@ -346,16 +469,25 @@ def unread_fifo() -> None:
             reader = os.open(path, os.O_RDONLY | os.O_NONBLOCK)
             endpoint = Endpoint(by_target(b"one"))
             switch = Switch(NO_PREVIEW, preview=False, variables={ACCESS_LOG: str(path)})
-            check("an opening", [switch.answer_to(f"open one {endpoint.port}"), switch.answer_to("available 1 1")], ["ok 0", "ok 0"])
+            check(
+                "an opening",
+                [switch.answer_to(f"open one {endpoint.port}"), switch.answer_to("available 1 1")],
+                ["ok 0", "ok 0"],
+            )
             if has_gone:
                 os.close(reader)
                 time.sleep(REOPENED)
-            answers = {timed(switch.active, [request(b"/" + b"a" * 1000)]).answer for _ in range(120)}
+            answers = {
+                timed(switch.active, [request(b"/" + b"a" * 1000)]).answer for _ in range(120)
+            }
             check("answers beside a log that nobody reads", answers, {answer(b"one")})
             with contextlib.closing(switch.operator()) as operator:
                 operator.send_quit()
-            check(f"an end with a reader that {'has gone' if has_gone else 'stands still'}",
-                  comes(partial(has_ended, switch)), True)
+            check(
+                f"an end with a reader that {'has gone' if has_gone else 'stands still'}",
+                comes(partial(has_ended, switch)),
+                True,
+            )
             switch.kill()
             if not has_gone:
                 os.close(reader)
@@ -366,7 +498,9 @@ def no_file() -> None:
     path = "/nowhere/log"
     switch = Switch(NO_PREVIEW, preview=False, variables={ACCESS_LOG: path})
     check("the end without a log", (switch.first, switch.wait()), ("", ("", 1)))
-    why = f"bg_switch: the access log {path} can't be opened: No such file or directory (os error 2)"
+    why = (
+        f"bg_switch: the access log {path} can't be opened: No such file or directory (os error 2)"
+    )
     check("a log that can't be opened", switch.tells(why), True)
 
 
@@ -391,5 +525,22 @@ def no_log_is_named() -> None:
 
 
 if __name__ == "__main__":
-    run("live_access_log", (kinds_of_ends, each_field, as_many_lines, renamed_file, full_disk, slow_disk, line_over_rotation,
-                            full_disk_ends_whole_lines, starts_after_a_part, unread_fifo, no_file, no_text, no_log_is_named), at_once=3)
+    run(
+        "live_access_log",
+        (
+            kinds_of_ends,
+            each_field,
+            as_many_lines,
+            renamed_file,
+            full_disk,
+            slow_disk,
+            line_over_rotation,
+            full_disk_ends_whole_lines,
+            starts_after_a_part,
+            unread_fifo,
+            no_file,
+            no_text,
+            no_log_is_named,
+        ),
+        at_once=3,
+    )

@@ -1,5 +1,6 @@
-"""The access log of `bg_switch serve` beside an own count: two thousand connections of all kinds, mixed at random and beside each
-other. The log has exactly one line for each, and each member is what the clients and the endpoints saw."""
+"""The access log of `bg_switch serve` beside an own count: two thousand connections of all kinds,
+mixed at random and beside each other. The log has exactly one line for each, and each member is
+what the clients and the endpoints saw."""
 import collections
 import concurrent.futures
 import contextlib
@@ -35,30 +36,46 @@ STRATEGY = """{{"spec": {{"replicas": 3, "strategy": {{"blueGreen": {{"activeSer
 "autoPromotionEnabled": false}}}}}}}}"""
 WITH_PREVIEW = STRATEGY.format(preview='"previewService": "web-preview",')
 WITHOUT_PREVIEW = STRATEGY.format(preview="")
-STATUSES = (b"200 OK", b"204 No Content", b"301 Moved Permanently", b"404 Not Found", b"500 Internal Server Error",
-            b"503 Service Unavailable")
+STATUSES = (
+    b"200 OK",
+    b"204 No Content",
+    b"301 Moved Permanently",
+    b"404 Not Found",
+    b"500 Internal Server Error",
+    b"503 Service Unavailable",
+)
 BIG = b"x" * 3000000
 IN_CHUNKS = b"POST %s HTTP/1.1\r\nHost: x\r\nTransfer-Encoding: chunked\r\n\r\n"
-# Heads that are malformed or too large, and the status that they are refused in; `%s` is the target.
+# Heads that are malformed or too large, and the status that they are refused in; `%s` is the
+# target.
 MALFORMED_HEADS = (
-    (b"GET %s HTTP/1.1\r\nHost : x\r\n\r\n", 400), (b"GET %s HTTP/1.1\r\nHost: x\r\n y\r\n\r\n", 400),
-    (b"GET %s HTTP/1.1\r\nHost: x\r\nLong: " + b"y" * 17000 + b"\r\n\r\n", 431))
+    (b"GET %s HTTP/1.1\r\nHost : x\r\n\r\n", 400),
+    (b"GET %s HTTP/1.1\r\nHost: x\r\n y\r\n\r\n", 400),
+    (b"GET %s HTTP/1.1\r\nHost: x\r\nLong: " + b"y" * 17000 + b"\r\n\r\n", 431),
+)
 # Heads that are well-formed, and break a rule.
 HEAD_FAULTS = (
     (b"GET %s HTTP/1.1\r\n\r\n", 400),
     (b"POST %s HTTP/1.1\r\nHost: x\r\nContent-Length: x\r\n\r\n", 400),
-    (b"POST %s HTTP/1.1\r\nHost: x\r\nTransfer-Encoding: gzip, chunked\r\n\r\n0\r\n\r\n", 501))
-# What is wrong behind a head: the size of a chunk, its end, a trailer, and more than a body may have.
+    (b"POST %s HTTP/1.1\r\nHost: x\r\nTransfer-Encoding: gzip, chunked\r\n\r\n0\r\n\r\n", 501),
+)
+# What is wrong behind a head: the size of a chunk, its end, a trailer, and more than a body may
+# have.
 BODY_FAULTS = (
-    (IN_CHUNKS + b"x\r\n", 400), (IN_CHUNKS + b"-1\r\na\r\n0\r\n\r\n", 400), (IN_CHUNKS + b"3\r\nabcde\r\n0\r\n\r\n", 400),
-    (b"\r\n" + IN_CHUNKS + b"1\r\na\r\n0\r\nA b: c\r\n\r\n", 400), (IN_CHUNKS + b"0\r\nA: " + b"y" * 17000 + b"\r\n\r\n", 400),
+    (IN_CHUNKS + b"x\r\n", 400),
+    (IN_CHUNKS + b"-1\r\na\r\n0\r\n\r\n", 400),
+    (IN_CHUNKS + b"3\r\nabcde\r\n0\r\n\r\n", 400),
+    (b"\r\n" + IN_CHUNKS + b"1\r\na\r\n0\r\nA b: c\r\n\r\n", 400),
+    (IN_CHUNKS + b"0\r\nA: " + b"y" * 17000 + b"\r\n\r\n", 400),
     (IN_CHUNKS + b"%x\r\n" % (LARGEST_BODY + 1), 413),
-    (b"POST %%s HTTP/1.1\r\nHost: x\r\nContent-Length: %d\r\n\r\n" % (LARGEST_BODY + 1), 413))
+    (b"POST %%s HTTP/1.1\r\nHost: x\r\nContent-Length: %d\r\n\r\n" % (LARGEST_BODY + 1), 413),
+)
 MALFORMED = (b"/closes", b"/head", b"/cut", b"/chunk", b"/lengths", b"/status", b"/upgrade")
 
 
 class Sent(NamedTuple):
     """What a client sends, and what it does then."""
+
     number: int
     kind: str
     is_second: bool  # of the two switches
@@ -70,7 +87,9 @@ class Sent(NamedTuple):
 
 
 class Answered(NamedTuple):
-    """What a client saw, and when: the moments before its connect and after the connection's end."""
+    """What a client saw, and when: the moments before its connect and after the connection's
+    end."""
+
     asked: Sent
     answer: bytes
     was_cut: bool
@@ -80,6 +99,7 @@ class Answered(NamedTuple):
 
 class Served(NamedTuple):
     """Where a request was answered, and how long that took at least, in seconds."""
+
     port: int
     seconds: float
 
@@ -89,7 +109,9 @@ class Endpoints:
 
     def __init__(self) -> None:
         self.served: dict[bytes, Served] = {}
-        self.arrived: collections.defaultdict[bytes, threading.Event] = collections.defaultdict(threading.Event)
+        self.arrived: collections.defaultdict[bytes, threading.Event] = collections.defaultdict(
+            threading.Event
+        )
         self.lock = threading.Lock()
 
     def has_come(self, target: bytes) -> threading.Event:
@@ -147,7 +169,8 @@ def whole(rng: random.Random, target: bytes) -> Sent:
 
 
 def answered(rng: random.Random, number: int) -> Sent:
-    """A request that is answered in one of several statuses; some targets have to be escaped or cut."""
+    """A request that is answered in one of several statuses; some targets have to be escaped or
+    cut."""
     place = rng.randrange(len(STATUSES) + 2)
     name = b"/status/%d" % place if place < len(STATUSES) else rng.choice((b"/slow", b"/plain"))
     more = rng.choice((b"", b"", b'"<script>\\\xc3\xa9', b"a" * 2000))
@@ -180,7 +203,7 @@ def part(rng: random.Random, number: int) -> Sent:
     """A request that isn't sent whole: its head is cut, or its body."""
     target = b"/part?%d" % number
     text = request(target, b"POST", rng.randbytes(300), chunked=rng.random() < 0.5)
-    return Sent(0, "", False, "", b"POST", target, text[:rng.randrange(1, len(text) - 5)])
+    return Sent(0, "", False, "", b"POST", target, text[: rng.randrange(1, len(text) - 5)])
 
 
 def nothing(_: random.Random, __: int) -> Sent:
@@ -189,10 +212,21 @@ def nothing(_: random.Random, __: int) -> Sent:
 
 # How often a kind comes, and what its client sends.
 KINDS: dict[str, tuple[int, Callable[[random.Random, int], Sent]]] = {
-    "answered": (1000, answered), "elsewhere": (160, nothing), "malformed": (140, by_get(*MALFORMED)), "too_large": (60, by_get(b"/large")),
-    "timeout": (24, by_get(b"/hangs")), "given_up": (24, by_get(b"/hangs")), "cut_in_answer": (60, by_get(b"/big")),
-    "malformed_head": (80, faulty(MALFORMED_HEADS)), "head": (80, faulty(HEAD_FAULTS)), "body": (160, faulty(BODY_FAULTS)),
-    "silent": (60, nothing), "part": (80, part), "silent_reset": (40, nothing), "part_reset": (60, part)}
+    "answered": (1000, answered),
+    "elsewhere": (160, nothing),
+    "malformed": (140, by_get(*MALFORMED)),
+    "too_large": (60, by_get(b"/large")),
+    "timeout": (24, by_get(b"/hangs")),
+    "given_up": (24, by_get(b"/hangs")),
+    "cut_in_answer": (60, by_get(b"/big")),
+    "malformed_head": (80, faulty(MALFORMED_HEADS)),
+    "head": (80, faulty(HEAD_FAULTS)),
+    "body": (160, faulty(BODY_FAULTS)),
+    "silent": (60, nothing),
+    "part": (80, part),
+    "silent_reset": (40, nothing),
+    "part_reset": (60, part),
+}
 
 
 def answered_request(asked: Sent, port: int, endpoints: Endpoints) -> Answered:
@@ -242,7 +276,14 @@ def cut_in_answer(client: socket.socket, _: Sent, __: Endpoints) -> tuple[bool, 
     return False, first + received(client)
 
 
-ENDS = {"silent": close, "part": close, "silent_reset": cut, "part_reset": cut, "given_up": give_up, "cut_in_answer": cut_in_answer}
+ENDS = {
+    "silent": close,
+    "part": close,
+    "silent_reset": cut,
+    "part_reset": cut,
+    "given_up": give_up,
+    "cut_in_answer": cut_in_answer,
+}
 
 
 def without_times(entry: LogEntry) -> LogEntry:
@@ -251,22 +292,40 @@ def without_times(entry: LogEntry) -> LogEntry:
 
 
 def shown(asked: Sent) -> tuple[str | None, str | None]:
-    """The method and the target of what was sent, if its head came whole, is well-formed, and reading did not fail."""
+    """The method and the target of what was sent, if its head came whole, is well-formed, and
+    reading did not fail."""
     if asked.kind in ("malformed_head", "part_reset") or b"\r\n\r\n" not in asked.text:
         return None, None
     return asked.method.decode(), asked.target[:KEPT_OF_TARGET].decode(errors="replace")
 
 
-REASONS = {"malformed": "response_malformed", "too_large": "response_too_large", "timeout": "response_timeout"}
+REASONS = {
+    "malformed": "response_malformed",
+    "too_large": "response_too_large",
+    "timeout": "response_timeout",
+}
 
 
 def expected_entry(seen: Answered, served: Served | None, dead: int) -> LogEntry:
     """What the log has to say of a connection, without times and numbers."""
     asked, answer = seen.asked, seen.answer
     method, target = shown(asked)
-    entry = LogEntry(time=0, service=asked.service, revision=None, request=None, port=None, method=method, target=target,
-                  status=status_of(answer), end="refused", reason=None, request_bytes=len(asked.text),
-                  response_bytes=len(answer), duration_ms=0, upstream_ms=None)
+    entry = LogEntry(
+        time=0,
+        service=asked.service,
+        revision=None,
+        request=None,
+        port=None,
+        method=method,
+        target=target,
+        status=status_of(answer),
+        end="refused",
+        reason=None,
+        request_bytes=len(asked.text),
+        response_bytes=len(answer),
+        duration_ms=0,
+        upstream_ms=None,
+    )
     if asked.kind.startswith(("silent", "part")):
         return entry._replace(end="read_failed" if asked.kind.endswith("reset") else "closed")
     if asked.kind in ("malformed_head", "head", "body"):
@@ -277,7 +336,9 @@ def expected_entry(seen: Answered, served: Served | None, dead: int) -> LogEntry
     if served is None:
         return entry._replace(reason="connect_failed")
     if asked.kind == "given_up":
-        return entry._replace(status=None, end="write_failed", reason="given_up", response_bytes=len(UNAVAILABLE))
+        return entry._replace(
+            status=None, end="write_failed", reason="given_up", response_bytes=len(UNAVAILABLE)
+        )
     if asked.kind == "cut_in_answer":
         return entry._replace(status=200, end="answered", response_bytes=len(answer_of(BIG)))
     if asked.kind == "answered":
@@ -291,13 +352,17 @@ def status_of(answer: bytes) -> int | None:
 
 
 def fits(entry: LogEntry, expected: LogEntry, kind: str) -> bool:
-    """Whether an entry says what it has to. How far a request with a fault was read isn't fixed, nor whether an answer was handed over
-    before its client went, nor whether the system has taken the 503 to a client that was given up and had gone."""
+    """Whether an entry says what it has to. How far a request with a fault was read isn't fixed,
+    nor whether an answer was handed over before its client went, nor whether the system has taken
+    the 503 to a client that was given up and had gone.
+    """
     if expected.reason in ("head", "body"):
         most, count = expected.request_bytes or 0, entry.request_bytes or 0
         return 0 < count <= most and entry._replace(request_bytes=most) == expected
     if kind == "cut_in_answer" and entry.end == "write_failed":
-        return entry == expected._replace(status=None, end="write_failed", response_bytes=entry.response_bytes)
+        return entry == expected._replace(
+            status=None, end="write_failed", response_bytes=entry.response_bytes
+        )
     if kind == "given_up" and not entry.response_bytes:
         return entry == expected._replace(response_bytes=0)
     return entry == expected
@@ -306,7 +371,9 @@ def fits(entry: LogEntry, expected: LogEntry, kind: str) -> bool:
 def fits_times(entry: LogEntry, seen: Answered, served: Served | None) -> bool:
     """Whether the times of a line lie within what the client and the endpoint measured."""
     millis = (seen.ended - seen.begun) * 1000 + SLACK
-    if not seen.was_cut and not (seen.begun - SLACK / 1000 <= entry.time <= seen.ended and entry.duration_ms <= millis):
+    if not seen.was_cut and not (
+        seen.begun - SLACK / 1000 <= entry.time <= seen.ended and entry.duration_ms <= millis
+    ):
         return False
     if entry.revision is None:
         return entry.upstream_ms is None
@@ -317,7 +384,9 @@ def fits_times(entry: LogEntry, seen: Answered, served: Served | None) -> bool:
 
 
 class LoggedSwitches(NamedTuple):
-    """Two switches with a log each, whose endpoints keep what came; the third port of each refuses."""
+    """Two switches with a log each, whose endpoints keep what came; the third port of each
+    refuses."""
+
     switches: list[Switch]
     logs: list[pathlib.Path]
     endpoints: Endpoints
@@ -330,7 +399,11 @@ class LoggedSwitches(NamedTuple):
     def entries(self, number: int, count: int) -> list[LogEntry]:
         """What stands in a log, once there is so much and no more comes."""
         log = self.logs[number]
-        check("as many lines as connections", comes(lambda: log.read_bytes().count(b"\n") >= count), True)
+        check(
+            "as many lines as connections",
+            comes(lambda: log.read_bytes().count(b"\n") >= count),
+            True,
+        )
         time.sleep(0.3)
         batch = read_lines(log.read_bytes().splitlines())
         check("lines that can't be read, or were lost", (batch.unreadable, batch.lost), (0, 0))
@@ -348,13 +421,26 @@ def logged_switches() -> Iterator[LoggedSwitches]:
         endpoints = Endpoints()
         ports = [Endpoint(endpoints.answer, port).port for port in free_ports(2)]
         logs = [folder / "first", folder / "second"]
-        switches = [Switch(rollout, workers=WORKERS, timeout=TIMEOUT, variables={ACCESS_LOG: str(log)})
-                    for rollout, log in zip((WITH_PREVIEW, WITHOUT_PREVIEW), logs)]
+        switches = [
+            Switch(rollout, workers=WORKERS, timeout=TIMEOUT, variables={ACCESS_LOG: str(log)})
+            for rollout, log in zip((WITH_PREVIEW, WITHOUT_PREVIEW), logs)
+        ]
         for switch in switches:
             stack.callback(switch.stop)
-            check("open", [switch.answer_to(f"open one {ports[0]} {ports[1]} {dead}"), switch.answer_to("available 1 3")], ["ok 0", "ok 0"])
+            check(
+                "open",
+                [
+                    switch.answer_to(f"open one {ports[0]} {ports[1]} {dead}"),
+                    switch.answer_to("available 1 3"),
+                ],
+                ["ok 0", "ok 0"],
+            )
         lines = ["deploy two {} {} {}".format(*free_ports(3)), "available 2 3", "available 2 0"]
-        check("a preview with no endpoint", [switches[0].answer_to(line) for line in lines], ["ok 0", "ok 1", "ok 0"])
+        check(
+            "a preview with no endpoint",
+            [switches[0].answer_to(line) for line in lines],
+            ["ok 0", "ok 1", "ok 0"],
+        )
         yield LoggedSwitches(switches, logs, endpoints, dead)
 
 
@@ -364,7 +450,11 @@ def check_log(setup: LoggedSwitches, number: int, seen: Sequence[Answered]) -> N
     check("a line for each connection", len(entries), len(seen))
     numbers = sorted(entry.request for entry in entries if entry.request is not None)
     check("the numbers of the requests", numbers, list(range(1, len(numbers) + 1)))
-    check("requests that entered", [entry.request is None for entry in entries], [entry.revision is None for entry in entries])
+    check(
+        "requests that entered",
+        [entry.request is None for entry in entries],
+        [entry.revision is None for entry in entries],
+    )
     by_target = {entry.target: entry for entry in entries if entry.target is not None}
     rest = collections.Counter(without_times(entry) for entry in entries if entry.target is None)
     faults: dict[str, list[object]] = {"lines": [], "times": []}
@@ -381,7 +471,11 @@ def check_log(setup: LoggedSwitches, number: int, seen: Sequence[Answered]) -> N
     for name, found in faults.items():
         check(f"{name} that are wrong", (len(found), found[:2]), (0, []))
     check("lines of no connection", list(by_target.values())[:2], [])
-    check("connections that sent no request line", [(line, count) for line, count in rest.items() if count][:3], [])
+    check(
+        "connections that sent no request line",
+        [(line, count) for line, count in rest.items() if count][:3],
+        [],
+    )
 
 
 def two_thousand_connections() -> None:
@@ -389,7 +483,11 @@ def two_thousand_connections() -> None:
     plan = [asked_at_random(rng, number) for number in range(CONNECTIONS)]
     with logged_switches() as setup:
         with concurrent.futures.ThreadPoolExecutor(CLIENTS) as pool:
-            seen = list(pool.map(lambda asked: answered_request(asked, setup.port(asked), setup.endpoints), plan))
+            seen = list(
+                pool.map(
+                    lambda asked: answered_request(asked, setup.port(asked), setup.endpoints), plan
+                )
+            )
         for number in (0, 1):
             check_log(setup, number, [one for one in seen if one.asked.is_second == bool(number)])
         counts = collections.Counter(one.asked.kind for one in seen)

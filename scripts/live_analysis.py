@@ -1,5 +1,6 @@
-"""bin/analysis before a running `serve`: an outage of the new revision after the switch is found, and the revision is taken back;
-by the access log alone, by reports of the switch, and by Prometheus."""
+"""bin/analysis before a running `serve`: an outage of the new revision after the switch is found,
+and the revision is taken back; by the access log alone, by reports of the switch, and by
+Prometheus."""
 import contextlib
 import pathlib
 import shutil
@@ -29,18 +30,23 @@ CLIENTS, PAUSE = 2, 0.02
 WAIT = 30  # seconds for which anything is awaited
 LIMITS = ("--seconds", "1m", "--every", "1s", "--errors-at-most", "1%", "--requests-at-least", "20")
 PROMETHEUS = "prometheus"
-SHARE = ("sum(rate(bg_switch_http_requests_total{revision='{{args.revision}}',status=~'5xx|none'}[5s])) / "
-         "sum(rate(bg_switch_http_requests_total{revision='{{args.revision}}'}[5s]))")
+SHARE = (
+    "sum(rate(bg_switch_http_requests_total{revision='{{args.revision}}',status=~'5xx|none'}[5s])) / "
+    "sum(rate(bg_switch_http_requests_total{revision='{{args.revision}}'}[5s]))"
+)
 
 
 class LoggedSwitch:
-    """A switch with web-v1 and web-v2, of an endpoint each, traffic, and the folder of an access log and a plan."""
+    """A switch with web-v1 and web-v2, of an endpoint each, traffic, and the folder of an access
+    log and a plan."""
 
     def __init__(self, folder: str) -> None:
         self.folder = pathlib.Path(folder)
         self.log = self.folder / "access.log"
         self.ports = dict(zip(("web-v1", "web-v2"), free_ports(2)))
-        self.endpoints = {name: Endpoint(failing(name.encode(), 0), port) for name, port in self.ports.items()}
+        self.endpoints = {
+            name: Endpoint(failing(name.encode(), 0), port) for name, port in self.ports.items()
+        }
         self.switch = Switch(ROLLOUT, workers=4, preview=False, variables=prepared_log(self.log))
         self.traffic = Traffic(self.switch.active, CLIENTS, PAUSE)
 
@@ -113,10 +119,15 @@ def running(path: pathlib.Path, *words: str) -> Iterator[Running]:
 
 
 def in_a_plan() -> None:
-    """The only endpoint of the new revision goes away after the switch: the controller reports it, and the analysis fails."""
+    """The only endpoint of the new revision goes away after the switch: the controller reports it,
+    and the analysis fails."""
     with logged_switch() as played:
-        plan = Plan(str(played.folder), played.switch.control, health={"path": "/", "interval": 0.3, "failures": 2},
-                    analyses={"post": [ANALYSIS, "--log", str(played.log), *LIMITS]})
+        plan = Plan(
+            str(played.folder),
+            played.switch.control,
+            health={"path": "/", "interval": 0.3, "failures": 2},
+            analyses={"post": [ANALYSIS, "--log", str(played.log), *LIMITS]},
+        )
         plan.write([("web-v1", [played.ports["web-v1"]])])
         with running(played.folder / "controller.log", CONTROLLER, plan.path) as controller:
             controller.check_says("available 1 1 => ok 0")
@@ -135,29 +146,64 @@ def by_reports() -> None:
     with logged_switch() as played:
         played.open_and_switch()
         played.fail()
-        words = ("--log", str(played.log), "--revision", "web-v2", "--control", str(played.switch.control), *LIMITS)
+        words = (
+            "--log",
+            str(played.log),
+            "--revision",
+            "web-v2",
+            "--control",
+            str(played.switch.control),
+            *LIMITS,
+        )
         with running(played.folder / "analysis", ANALYSIS, *words) as run:
-            check("an analysis by reports", (run.status(), "errors are above 1%" in run.text()), (1, True))
+            check(
+                "an analysis by reports",
+                (run.status(), "errors are above 1%" in run.text()),
+                (1, True),
+            )
 
 
 def by_prometheus() -> None:
     """The dashboard's metrics tell the outage, and a Prometheus has them."""
     program = shutil.which(PROMETHEUS)
-    why = missing() or ("" if program else f"{PROMETHEUS} is not installed: apt-get install prometheus")
+    why = missing() or (
+        "" if program else f"{PROMETHEUS} is not installed: apt-get install prometheus"
+    )
     if why or program is None:
         print(f"live_analysis: no analysis by Prometheus is tried: {why}")
         return
     with logged_switch() as played:
         played.open_and_switch()
         listen = free_port()
-        with showing(played.switch.control, listen, "--log", str(played.log)), \
-                real_prometheus(program, played.folder, [listen]) as url:
-            words = ("--prometheus", url, "--query", SHARE, "--revision", "web-v2", "--control", str(played.switch.control),
-                     "--at-most", "1%", "--interval", "1s", "--count", "60", "--inconclusive", "20")
+        with showing(played.switch.control, listen, "--log", str(played.log)), real_prometheus(
+            program, played.folder, [listen]
+        ) as url:
+            words = (
+                "--prometheus",
+                url,
+                "--query",
+                SHARE,
+                "--revision",
+                "web-v2",
+                "--control",
+                str(played.switch.control),
+                "--at-most",
+                "1%",
+                "--interval",
+                "1s",
+                "--count",
+                "60",
+                "--inconclusive",
+                "20",
+            )
             with running(played.folder / "analysis", ANALYSIS, *words) as run:
                 run.check_says(": the limits hold\n")
                 played.fail()
-                check("an analysis by Prometheus", (run.status(), "it is above 0.01" in run.text()), (1, True))
+                check(
+                    "an analysis by Prometheus",
+                    (run.status(), "it is above 0.01" in run.text()),
+                    (1, True),
+                )
 
 
 if __name__ == "__main__":

@@ -1,5 +1,6 @@
-"""The ports of clients of a running `serve`: requests that come slowly, answers that are taken slowly, uploads, clients
-that have gone, more connections than a port keeps, and workers that all wait for endpoints."""
+"""The ports of clients of a running `serve`: requests that come slowly, answers that are taken
+slowly, uploads, clients that have gone, more connections than a port keeps, and workers that all
+wait for endpoints."""
 import contextlib
 import select
 import socket
@@ -13,13 +14,23 @@ from support import checks, clients, faults, processes
 from support.checks import check, check_soon, comes
 from support.clients import SMALL_BUFFER, Crowd, at_once, connect, received, reset, timed, timed_for
 from support.endpoints import Endpoint, Held, Request, by_target, held_at
-from support.messages import (BAD_REQUEST, CONTINUE, HEAD_TOO_LARGE, LARGEST_BODY, NOT_IMPLEMENTED, TOO_LARGE, answer,
-                              head_of, request, response)
+from support.messages import (
+    BAD_REQUEST,
+    CONTINUE,
+    HEAD_TOO_LARGE,
+    LARGEST_BODY,
+    NOT_IMPLEMENTED,
+    TOO_LARGE,
+    answer,
+    head_of,
+    request,
+    response,
+)
 from support.ports import HOST, connections_at, is_refused, unread_at
 from support.switch import LaterEnd, Switch, opened, serving
 
-# How long, in seconds, a polite client waits at most beside slow ones. Where one of them kept a worker, it would wait
-# for the timeout of the switch or longer.
+# How long, in seconds, a polite client waits at most beside slow ones. Where one of them kept a
+# worker, it would wait for the timeout of the switch or longer.
 POLITE = 8.0
 TIMEOUT = 40
 ABORT_ON_CLOSE = "--abort-on-close"
@@ -31,7 +42,8 @@ MEGABYTE = 1 << 20
 
 
 def check_polite(name: str, port: int, count: int, body: bytes, most: float = POLITE) -> None:
-    """Checks that a client that asks so often is answered this body, and how long it waits at most."""
+    """Checks that a client that asks so often is answered this body, and how long it waits at
+    most."""
     waits = clients.polite(port, count, 0.05)
     check(f"polite clients beside {name}", set(waits.answers), {answer(body)})
     check_soon(f"the wait beside {name}", waits.longest, most)
@@ -40,18 +52,26 @@ def check_polite(name: str, port: int, count: int, body: bytes, most: float = PO
 def drips() -> None:
     """A hundred clients at once send a byte now and then."""
     endpoint = Endpoint(by_target(b"one"))
-    firsts = {"a request line": b"GET /", "a field": request()[:-2] + b"A: ", "a body": head_of(100000),
-              "a body in chunks": HEAD_OF_CHUNKS + b"ffff\r\n"}
+    firsts = {
+        "a request line": b"GET /",
+        "a field": request()[:-2] + b"A: ",
+        "a body": head_of(100000),
+        "a body in chunks": HEAD_OF_CHUNKS + b"ffff\r\n",
+    }
     with serving(endpoint.port, workers=7, timeout=TIMEOUT) as switch:
         for what, first in firsts.items():
-            with clients.dripping(switch.active, 100, first, 0.2), clients.dripping(switch.preview, 20, first, 0.2):
+            with clients.dripping(switch.active, 100, first, 0.2), clients.dripping(
+                switch.preview, 20, first, 0.2
+            ):
                 check_polite(f"clients that drip {what}", switch.active, 20, b"one")
-                check_polite(f"clients that drip {what} at the preview port", switch.preview, 5, b"one")
+                check_polite(
+                    f"clients that drip {what} at the preview port", switch.preview, 5, b"one"
+                )
         check("requests that dripped reach no endpoint", endpoint.served, 25 * len(firsts))
 
 
 def in_pieces(text: bytes, size: int) -> list[bytes]:
-    return [text[start:start + size] for start in range(0, len(text), size)]
+    return [text[start : start + size] for start in range(0, len(text), size)]
 
 
 def refusals() -> None:
@@ -69,20 +89,33 @@ def refusals() -> None:
     endpoint = Endpoint(by_target(b"one"))
     with serving(endpoint.port, workers=3) as switch:
         whole = at_once([partial(timed, switch.active, [text]) for text in texts])
-        pieces = at_once([partial(timed, switch.active, in_pieces(text, 1 + len(text) // 6), 0.1) for text in texts])
-    check("a faulty request that comes at once", [got.answer for got in whole], list(texts.values()))
-    check("a faulty request that comes in pieces", [got.answer for got in pieces], list(texts.values()))
+        pieces = at_once(
+            [
+                partial(timed, switch.active, in_pieces(text, 1 + len(text) // 6), 0.1)
+                for text in texts
+            ]
+        )
+    check(
+        "a faulty request that comes at once", [got.answer for got in whole], list(texts.values())
+    )
+    check(
+        "a faulty request that comes in pieces",
+        [got.answer for got in pieces],
+        list(texts.values()),
+    )
     check("faulty requests reach no endpoint", endpoint.served, 0)
 
 
 def long_chunks() -> None:
-    """A body within the limits whose chunks have long lines: it takes sixteen times as many bytes, more than are
-    buffered."""
+    """A body within the limits whose chunks have long lines: it takes sixteen times as many bytes,
+    more than are buffered."""
     body = bytes(range(256)) * 4096
     line = b"40;" + b"e" * 1000 + b"\r\n"
     chunks = b"".join(line + piece + b"\r\n" for piece in in_pieces(body, 64))
     with serving(Endpoint(by_target(b"one")).port, workers=2, timeout=TIMEOUT) as switch:
-        got = timed(switch.active, [HEAD_OF_CHUNKS, *in_pieces(chunks + b"0\r\n\r\n", MEGABYTE)], 0.05).answer
+        got = timed(
+            switch.active, [HEAD_OF_CHUNKS, *in_pieces(chunks + b"0\r\n\r\n", MEGABYTE)], 0.05
+        ).answer
     check("a body of 16 MB on the wire", got == answer(b"one" + body), True)
 
 
@@ -114,7 +147,8 @@ def answered(port: int, pieces: list[bytes], pause: float) -> bytes:
 
 
 def ended_early(port: int, text: bytes) -> bytes | None:
-    """What a client is answered that sends this and ends its side; where its connection isn't ended, that is said."""
+    """What a client is answered that sends this and ends its side; where its connection isn't
+    ended, that is said."""
     with connect(port) as client:
         client.settimeout(2 * POLITE)
         try:
@@ -124,8 +158,8 @@ def ended_early(port: int, text: bytes) -> bytes | None:
 
 
 def served_once() -> None:
-    """Each connection is given to one worker once, whichever way its request comes: the endpoint counts the requests,
-    and the run ends with the last connection."""
+    """Each connection is given to one worker once, whichever way its request comes: the endpoint
+    counts the requests, and the run ends with the last connection."""
     counting = Counting()
     switch, operator = opened(Endpoint(counting).port, workers=6, count=50, timeout=3)
     port, calls, expected = switch.active, list[Callable[[], bytes | None]](), list[bytes]()
@@ -133,38 +167,72 @@ def served_once() -> None:
         target, body = b"/%d" % number, b"%d" % number
         text = request(target, b"POST", body * 400, chunked=number % 2 == 0)
         cut = request(b"/cut", b"POST", body * 400)[:-1]
-        calls += [partial(answered, port, [text], 0.0), partial(answered, port, in_pieces(text, 300), 0.02),
-                  partial(ended_early, port, cut), partial(sent_and_reset, port, cut),
-                  partial(answered, port, [cut[:40], cut[40:]], 0.02)]
+        calls += [
+            partial(answered, port, [text], 0.0),
+            partial(answered, port, in_pieces(text, 300), 0.02),
+            partial(ended_early, port, cut),
+            partial(sent_and_reset, port, cut),
+            partial(answered, port, [cut[:40], cut[40:]], 0.02),
+        ]
         expected += [answer(body * 400)] * 2 + [b""] * 3
     check("what each client of 300 is answered", at_once(calls) == expected, True)
-    check("each request is forwarded once", counting.targets, Counter({b"/%d" % number: 2 for number in range(60)}))
+    check(
+        "each request is forwarded once",
+        counting.targets,
+        Counter({b"/%d" % number: 2 for number in range(60)}),
+    )
     check("the port is closed with its last connection", is_refused(port), True)
     operator.send_quit()
     for _ in range(50):
         connect(switch.preview).close()
-    check("each connection is given to a worker", comes(lambda: switch.process.poll() is not None), True)
+    check(
+        "each connection is given to a worker",
+        comes(lambda: switch.process.poll() is not None),
+        True,
+    )
     switch.process.terminate()
     ended = switch.wait()
-    check("each connection is given to one worker once", (ended.printed[-10:], ended.status), ("calls 240\n", 0))
+    check(
+        "each connection is given to one worker once",
+        (ended.printed[-10:], ended.status),
+        ("calls 240\n", 0),
+    )
 
 
 def late_requests() -> None:
     """A request that isn't whole in time is ended without an answer, and not before."""
     timeout = 3
-    firsts = {"that is silent": b"", "in its head": b"GET / HTTP/1.1\r\nHo", "in its body": head_of(1000) + b"abc",
-              "in its chunks": HEAD_OF_CHUNKS + b"ffff\r\nabc"}
+    firsts = {
+        "that is silent": b"",
+        "in its head": b"GET / HTTP/1.1\r\nHo",
+        "in its body": head_of(1000) + b"abc",
+        "in its chunks": HEAD_OF_CHUNKS + b"ffff\r\nabc",
+    }
     with serving(Endpoint(by_target(b"one")).port, workers=2, timeout=timeout) as switch:
         later = LaterEnd(3 * timeout)
-        silent, dripped = at_once([
-            lambda: at_once([partial(timed, switch.active, [first]) for first in firsts.values()]),
-            lambda: at_once([partial(timed, switch.active, [first, *[b"a"] * 500], 0.2) for first in firsts.values()])])
+        silent, dripped = at_once(
+            [
+                lambda: at_once(
+                    [partial(timed, switch.active, [first]) for first in firsts.values()]
+                ),
+                lambda: at_once(
+                    [
+                        partial(timed, switch.active, [first, *[b"a"] * 500], 0.2)
+                        for first in firsts.values()
+                    ]
+                ),
+            ]
+        )
         in_time = timed(switch.active, in_pieces(request(), 8), 0.3)
     for what, ends in (("that says no more", silent), ("that drips", dripped)):
         for where, end in zip(firsts, ends):
             check(f"a client {where} and {what} is answered nothing", end.answer, b"")
             check(f"a client {where} and {what} has its time", end.seconds > timeout - 1, True)
-            check(f"a request past its time is ended ({where}, {what})", later.is_after(end.seconds), True)
+            check(
+                f"a request past its time is ended ({where}, {what})",
+                later.is_after(end.seconds),
+                True,
+            )
     check("a request that is whole in time", in_time.answer, answer(b"one"))
 
 
@@ -182,22 +250,32 @@ def continues() -> None:
         "after a head in pieces": ([*in_pieces(head, 30), body], whole),
         "before chunks": ([chunked, chunks], whole),
         "before chunks that come with the head": ([chunked + chunks], whole),
-        "before more chunks than are buffered": ([chunked, *in_pieces(wide, MEGABYTE)],
-                                                 CONTINUE + answer(b"one" + b"b" * 10000)),
+        "before more chunks than are buffered": (
+            [chunked, *in_pieces(wide, MEGABYTE)],
+            CONTINUE + answer(b"one" + b"b" * 10000),
+        ),
         "not before a body that is too large": ([head.replace(b"1000", b"1048577")], TOO_LARGE),
         "not where no body is to come": ([head.replace(b"1000", b"0")], answer(b"one")),
-        "not in version 1.0": ([head.replace(b"HTTP/1.1", b"HTTP/1.0"), body], answer(b"one" + body)),
+        "not in version 1.0": (
+            [head.replace(b"HTTP/1.1", b"HTTP/1.0"), body],
+            answer(b"one" + body),
+        ),
     }
     with serving(Endpoint(by_target(b"one")).port, workers=2, timeout=TIMEOUT) as switch:
-        got = at_once([partial(answered, switch.active, pieces, 0.1) for pieces, _ in cases.values()])
+        got = at_once(
+            [partial(answered, switch.active, pieces, 0.1) for pieces, _ in cases.values()]
+        )
     for (what, (_, expected)), found in zip(cases.items(), got):
-        check(f"100 Continue is written once: {what}", (found.count(CONTINUE), found == expected),
-              (expected.count(CONTINUE), True))
+        check(
+            f"100 Continue is written once: {what}",
+            (found.count(CONTINUE), found == expected),
+            (expected.count(CONTINUE), True),
+        )
 
 
 def slow_readers() -> None:
-    """Forty clients read an answer of 4 MB at a kilobyte a second: they hold no worker, no request and no revision, and
-    one that reads on gets all of its answer."""
+    """Forty clients read an answer of 4 MB at a kilobyte a second: they hold no worker, no request
+    and no revision, and one that reads on gets all of its answer."""
     one, two = Endpoint(by_target(b"one")), Endpoint(by_target(b"two"))
     switch, operator = opened(one.port, workers=3, timeout=TIMEOUT)
     late = connect(switch.active, SMALL_BUFFER)
@@ -206,13 +284,18 @@ def slow_readers() -> None:
         check("slow readers have reached the endpoint", comes(lambda: one.served == 41), True)
         start = time.monotonic()
         check("slow readers hold no request", comes(lambda: operator.open_requests() == [0]), True)
-        check_soon("the wait until no request of slow readers is open", time.monotonic() - start, POLITE)
+        check_soon(
+            "the wait until no request of slow readers is open", time.monotonic() - start, POLITE
+        )
         check_polite("clients that read slowly", switch.active, 20, b"one")
         operator.check(f"deploy two {two.port}", "ok 0")
         operator.check("available 2 1", "ok 4")
         operator.check("tick 30", "ok 1")
-        check("the revision of slow readers is scaled down", operator.revisions()[0],
-              "revision 1 one desired 0 available 0 open 0 deadline none")
+        check(
+            "the revision of slow readers is scaled down",
+            operator.revisions()[0],
+            "revision 1 one desired 0 available 0 open 0 deadline none",
+        )
         check_polite("slow readers of the revision before", switch.active, 5, b"two")
         with late:
             check("a slow reader gets the whole of its answer", received(late) == answer(BIG), True)
@@ -225,30 +308,46 @@ def stalled_reader() -> None:
     with serving(Endpoint(by_target(b"one")).port, workers=1, timeout=TIMEOUT) as switch:
         with connect(switch.active, SMALL_BUFFER) as client:
             client.sendall(request(b"/big"))
-            check("the answer is pending",
-                  comes(lambda: switch.open_requests() == [0] and connections_at(switch.active) == 1), True)
+            check(
+                "the answer is pending",
+                comes(lambda: switch.open_requests() == [0] and connections_at(switch.active) == 1),
+                True,
+            )
             start = time.monotonic()
-            check("a client that takes nothing is let go",
-                  comes(lambda: connections_at(switch.active) == 0, 30 + SLACK), True)
+            check(
+                "a client that takes nothing is let go",
+                comes(lambda: connections_at(switch.active) == 0, 30 + SLACK),
+                True,
+            )
             check("a client that takes nothing has its time", time.monotonic() - start > 27, True)
 
 
 def many_answers() -> None:
-    """The answers that a port keeps are bounded: of more slow readers some are let go, and others are served."""
+    """The answers that a port keeps are bounded: of more slow readers some are let go, and others
+    are served."""
     endpoint, count = Endpoint(by_target(b"one")), 320
     with serving(endpoint.port, workers=7, timeout=TIMEOUT) as switch:
         with clients.slow_readers(switch.active, count, b"/big"):
-            check("all slow readers reach the endpoint", comes(lambda: endpoint.served == count), True)
+            check(
+                "all slow readers reach the endpoint", comes(lambda: endpoint.served == count), True
+            )
             check_polite("more answers than a port keeps", switch.active, 10, b"one", 10.0)
-            check("some of the slow readers are let go", comes(lambda: connections_at(switch.active) < count - 20, 10),
-                  True)
+            check(
+                "some of the slow readers are let go",
+                comes(lambda: connections_at(switch.active) < count - 20, 10),
+                True,
+            )
 
 
 def steady_readers() -> None:
     """Clients that read fast enough get the whole of their answers, however many there are."""
     with serving(Endpoint(by_target(b"one")).port, workers=7, timeout=TIMEOUT) as switch:
         got = at_once([partial(read_steadily, switch.active)] * 80)
-    check("steady readers get the whole of their answers", Counter(got), Counter({len(answer(BIG)): 80}))
+    check(
+        "steady readers get the whole of their answers",
+        Counter(got),
+        Counter({len(answer(BIG)): 80}),
+    )
 
 
 def read_steadily(port: int) -> int:
@@ -263,12 +362,14 @@ def read_steadily(port: int) -> int:
 
 
 def large_bodies() -> None:
-    """The answer to a body that is too large arrives, also where the client sends all of the body first, and isn't
-    reset."""
+    """The answer to a body that is too large arrives, also where the client sends all of the body
+    first, and isn't reset."""
     mega = bytes(MEGABYTE)
     cases = {f"{count} MB at once": [head_of(count << 20) + mega * count] for count in (2, 4, 15)}
     cases["4 MB in pieces"] = [head_of(4 << 20), *in_pieces(mega * 4, 65536)]
-    cases["6 MB in chunks"] = [HEAD_OF_CHUNKS + (b"%x\r\n" % MEGABYTE + mega + b"\r\n") * 6 + b"0\r\n\r\n"]
+    cases["6 MB in chunks"] = [
+        HEAD_OF_CHUNKS + (b"%x\r\n" % MEGABYTE + mega + b"\r\n") * 6 + b"0\r\n\r\n"
+    ]
     with serving(Endpoint(by_target(b"one")).port, workers=2) as switch:
         got = at_once([partial(clients.asked, switch.active, *pieces) for pieces in cases.values()])
     for what, found in zip(cases, got):
@@ -276,23 +377,33 @@ def large_bodies() -> None:
 
 
 def endless_bodies() -> None:
-    """A client that was answered and sends on is passed over for ten seconds and up to 16 MiB, and keeps no worker."""
+    """A client that was answered and sends on is passed over for ten seconds and up to 16 MiB, and
+    keeps no worker."""
     with serving(Endpoint(by_target(b"one")).port, workers=1) as switch:
         with connect(switch.active) as client, contextlib.suppress(OSError):
             client.sendall(head_of(1 << 40))
             sent = 0
             while sent < 64 * MEGABYTE:
                 sent += client.send(bytes(65536))
-        check("a client that sends without end is passed over up to a bound", sent < 64 * MEGABYTE, True)
+        check(
+            "a client that sends without end is passed over up to a bound",
+            sent < 64 * MEGABYTE,
+            True,
+        )
         start = time.monotonic()
         with connect(switch.active) as client:
             client.sendall(head_of(1 << 40))
             check("it is answered", client.recv(65536), TOO_LARGE)
-            sender = threading.Thread(target=clients.send_in_pieces, args=(client, [b"a"] * 200, 0.1), daemon=True)
+            sender = threading.Thread(
+                target=clients.send_in_pieces, args=(client, [b"a"] * 200, 0.1), daemon=True
+            )
             sender.start()
             check_polite("a client that sends on after its answer", switch.active, 10, b"one")
-            check("a client that sends on is let go in the end",
-                  comes(lambda: connections_at(switch.active) == 0, 10 + SLACK), True)
+            check(
+                "a client that sends on is let go in the end",
+                comes(lambda: connections_at(switch.active) == 0, 10 + SLACK),
+                True,
+            )
             check("it isn't let go before", time.monotonic() - start > 8, True)
             sender.join()
 
@@ -308,28 +419,42 @@ def two_thousand_uploads() -> None:
 
 def upload_at_once(count: int) -> None:
     processes.limit_descriptors(16000)
-    with serving(Endpoint(by_target(b"one")).port, workers=7, timeout=300, descriptors=8192) as switch:
+    with serving(
+        Endpoint(by_target(b"one")).port, workers=7, timeout=300, descriptors=8192
+    ) as switch:
         got = at_once([partial(clients.upload, switch.active, LARGEST_BODY, 65536, 0.02)] * count)
     check(f"{count} uploads of 1 MB at once", clients.counted(got), {b"200": count})
 
 
 def few_descriptors() -> None:
     """With `ulimit -n 30` it serves on beside silent and dripping clients."""
-    with serving(Endpoint(by_target(b"one")).port, workers=1, timeout=TIMEOUT, descriptors=30) as switch:
+    with serving(
+        Endpoint(by_target(b"one")).port, workers=1, timeout=TIMEOUT, descriptors=30
+    ) as switch:
         with Crowd(switch.active, 12, b""), clients.dripping(switch.active, 4, b"GET /"):
-            check_polite("silent clients and thirty descriptors", switch.active, 5, b"one", TIMEOUT / 2)
-        check("it has let go of them", comes(lambda: connections_at(switch.active) == 0, SLACK), True)
+            check_polite(
+                "silent clients and thirty descriptors", switch.active, 5, b"one", TIMEOUT / 2
+            )
+        check(
+            "it has let go of them", comes(lambda: connections_at(switch.active) == 0, SLACK), True
+        )
         check("a client once they have gone", clients.get(switch.active), (200, b"one"))
 
 
 def full_port() -> None:
     """Of 1,130 clients a port keeps 1,024. Silent ones are let go where others come."""
     processes.limit_descriptors(16000)
-    with serving(Endpoint(by_target(b"one")).port, workers=3, timeout=TIMEOUT, descriptors=4096) as switch:
+    with serving(
+        Endpoint(by_target(b"one")).port, workers=3, timeout=TIMEOUT, descriptors=4096
+    ) as switch:
         with Crowd(switch.active, 1130, b""):
             check("a port that is full", comes(lambda: connections_at(switch.active) >= 1024), True)
             check_polite("more silent clients than a port keeps", switch.active, 10, b"one", 10.0)
-            check("connections that a port keeps", comes(lambda: connections_at(switch.active) < 1100), True)
+            check(
+                "connections that a port keeps",
+                comes(lambda: connections_at(switch.active) < 1100),
+                True,
+            )
 
 
 def is_accepted(switch: Switch, before: int) -> bool:
@@ -338,7 +463,8 @@ def is_accepted(switch: Switch, before: int) -> bool:
 
 
 def filled(switch: Switch, uploads: list[socket.socket]) -> socket.socket:
-    """Adds uploads until the port is full. Gives the first client that has to wait for an accept."""
+    """Adds uploads until the port is full. Gives the first client that has to wait for an
+    accept."""
     while True:
         before = connections_at(switch.active)
         client = connect(switch.active)
@@ -354,13 +480,17 @@ def has_bytes(client: socket.socket) -> bool:
 
 
 def room_is_noticed() -> None:
-    """A client that came while the port was full is accepted by a free worker once there is room, whatever the others do."""
+    """A client that came while the port was full is accepted by a free worker once there is room,
+    whatever the others do."""
+
     def slow(asked: Request, connection: socket.socket) -> None:
         time.sleep(12 if asked.target == b"/slow" else 0)
         connection.sendall(response(b"one"))
 
     for _ in range(4):
-        with serving(Endpoint(slow).port, workers=2, descriptors=64) as switch, contextlib.ExitStack() as stack:
+        with serving(
+            Endpoint(slow).port, workers=2, descriptors=64
+        ) as switch, contextlib.ExitStack() as stack:
             uploads: list[socket.socket] = []
             stack.enter_context(going_on(uploads))
             late = filled(switch, uploads)
@@ -369,11 +499,16 @@ def room_is_noticed() -> None:
             late.sendall(request())
             uploads[-1].sendall(b"x" * MEGABYTE)
             check("a client that waited for room", received(late), answer(b"one"))
-            check("a worker was free: the other one still waits for its endpoint", has_bytes(uploads[-1]), False)
+            check(
+                "a worker was free: the other one still waits for its endpoint",
+                has_bytes(uploads[-1]),
+                False,
+            )
 
 
 def memory_of_pending_requests() -> None:
-    """Requests that came whole and wait for a worker count: beyond the bound no further large request is read."""
+    """Requests that came whole and wait for a worker count: beyond the bound no further large
+    request is read."""
     held = Held(b"held")
     with serving(Endpoint(held).port, timeout=TIMEOUT) as switch, contextlib.ExitStack() as stack:
         uploads = [stack.enter_context(connect(switch.active)) for _ in range(400)]
@@ -406,16 +541,23 @@ def many_steady_clients() -> None:
 
 def keep_steady(count: int, descriptors: int) -> None:
     processes.limit_descriptors(16000)
-    with serving(Endpoint(by_target(b"one")).port, workers=3, timeout=TIMEOUT, descriptors=descriptors) as switch:
+    with serving(
+        Endpoint(by_target(b"one")).port, workers=3, timeout=TIMEOUT, descriptors=descriptors
+    ) as switch:
         got = at_once([partial(clients.upload, switch.active, 40960, 8192, 0.5)] * count)
-    check(f"{count} clients whose requests go on, with {descriptors} descriptors", clients.counted(got),
-          {b"200": count})
+    check(
+        f"{count} clients whose requests go on, with {descriptors} descriptors",
+        clients.counted(got),
+        {b"200": count},
+    )
 
 
 def ten_thousand_left_open() -> None:
     """Beside ten thousand connections that are left open a client is answered within a second."""
     processes.limit_descriptors(16000)
-    with serving(Endpoint(by_target(b"one")).port, workers=3, timeout=300, descriptors=16000) as switch:
+    with serving(
+        Endpoint(by_target(b"one")).port, workers=3, timeout=300, descriptors=16000
+    ) as switch:
         with Crowd(switch.active, 10000, b"GET / HTTP/1.1\r\n"):
             time.sleep(3)
             check_polite("ten thousand connections", switch.active, 50, b"one", 1.0)
@@ -434,23 +576,38 @@ def busy(switch: Switch, held: Held, count: int) -> Iterator[None]:
 
 
 def all_workers_busy() -> None:
-    """While all workers wait for endpoints, a pending answer is written, a request is read, and one is ended at its
-    time."""
+    """While all workers wait for endpoints, a pending answer is written, a request is read, and one
+    is ended at its time."""
     held, timeout = Held(b"held"), 12
     endpoint = Endpoint(held_at(b"/held", held, by_target(b"one")))
-    with serving(endpoint.port, workers=2, timeout=timeout) as switch, contextlib.ExitStack() as stack:
-        reader, late, expecting = (stack.enter_context(connect(switch.active, SMALL_BUFFER)) for _ in range(3))
+    with serving(
+        endpoint.port, workers=2, timeout=timeout
+    ) as switch, contextlib.ExitStack() as stack:
+        reader, late, expecting = (
+            stack.enter_context(connect(switch.active, SMALL_BUFFER)) for _ in range(3)
+        )
         reader.sendall(request(b"/big"))
         late.sendall(b"GET / HT")
         expecting.sendall(head_of(3)[:-2])
-        check("the answer of the reader is pending",
-              comes(lambda: endpoint.served == 1 and switch.open_requests() == [0]), True)
+        check(
+            "the answer of the reader is pending",
+            comes(lambda: endpoint.served == 1 and switch.open_requests() == [0]),
+            True,
+        )
         time.sleep(timeout / 3)
         with busy(switch, held, 2):
             whole = received(reader) == answer(BIG)
-            check("a pending answer is written while all workers wait", (whole, held.closed), (True, 0))
+            check(
+                "a pending answer is written while all workers wait",
+                (whole, held.closed),
+                (True, 0),
+            )
             expecting.sendall(b"Expect: 100-continue\r\n\r\n")
-            check("a request is read while all workers wait", (expecting.recv(100), held.closed), (CONTINUE, 0))
+            check(
+                "a request is read while all workers wait",
+                (expecting.recv(100), held.closed),
+                (CONTINUE, 0),
+            )
             expecting.sendall(b"abc")
             check("a late request is answered nothing while all workers wait", received(late), b"")
             check("all workers have waited meanwhile", (held.pending, held.closed), (2, 0))
@@ -459,7 +616,8 @@ def all_workers_busy() -> None:
 
 @contextlib.contextmanager
 def requests_that_wait(switch: Switch, held: Held, count: int) -> Iterator[list[socket.socket]]:
-    """So many clients whose requests are whole, and wait for the one worker, which waits for its endpoint."""
+    """So many clients whose requests are whole, and wait for the one worker, which waits for its
+    endpoint."""
     waiting = [connect(switch.active) for _ in range(count)]
     for number, client in enumerate(waiting):
         client.sendall(request(b"/%d" % number)[:-1])
@@ -487,29 +645,46 @@ def connect_and_send(port: int, text: bytes) -> socket.socket:
 
 
 def first_come_first_served() -> None:
-    """A worker takes the requests that wait, in their order, before it accepts clients that came later."""
+    """A worker takes the requests that wait, in their order, before it accepts clients that came
+    later."""
     held, order = Held(b"held"), list[bytes]()
 
     def note(asked: Request, connection: socket.socket) -> None:
         order.append(asked.target)
         connection.sendall(response(b"one"))
 
-    with serving(Endpoint(held_at(b"/held", held, note)).port, workers=1, timeout=TIMEOUT) as switch:
+    with serving(
+        Endpoint(held_at(b"/held", held, note)).port, workers=1, timeout=TIMEOUT
+    ) as switch:
         with requests_that_wait(switch, held, 5) as waiting:
             later = [connect_and_send(switch.active, request(b"/later")) for _ in range(5)]
             held.is_free.set()
-            check("all are answered", [received(client) for client in (*waiting, *later)], [answer(b"one")] * 10)
-    check("the order of the requests", order, [b"/%d" % number for number in range(5)] + [b"/later"] * 5)
+            check(
+                "all are answered",
+                [received(client) for client in (*waiting, *later)],
+                [answer(b"one")] * 10,
+            )
+    check(
+        "the order of the requests",
+        order,
+        [b"/%d" % number for number in range(5)] + [b"/later"] * 5,
+    )
 
 
 def missed_signal() -> None:
     """A request that waits is served though no worker has seen the signal for it."""
     held = Held(b"held")
-    with serving(Endpoint(held_at(b"/held", held, by_target(b"one"))).port, workers=1, timeout=TIMEOUT) as switch:
+    with serving(
+        Endpoint(held_at(b"/held", held, by_target(b"one"))).port, workers=1, timeout=TIMEOUT
+    ) as switch:
         with requests_that_wait(switch, held, 3) as waiting:
             faults.take_posts(switch.process.pid)
             held.is_free.set()
-            check("requests whose signal was lost", [received(client) for client in waiting], [answer(b"one")] * 3)
+            check(
+                "requests whose signal was lost",
+                [received(client) for client in waiting],
+                [answer(b"one")] * 3,
+            )
 
 
 def leave_by(way: Callable[[socket.socket], None], *flags: str) -> None:
@@ -525,11 +700,22 @@ def leave_by(way: Callable[[socket.socket], None], *flags: str) -> None:
             for client in gone:
                 way(client)
             start = time.monotonic()
-            check("a polite client after clients that have gone", timed(switch.active).answer, answer(b"one"))
+            check(
+                "a polite client after clients that have gone",
+                timed(switch.active).answer,
+                answer(b"one"),
+            )
             check_soon("a client that has gone frees its worker", time.monotonic() - start, POLITE)
-            check("the endpoint of a client that has gone sees its connection closed",
-                  comes(lambda: held.closed == number, POLITE), True)
-        check("no request of clients that have gone is open", comes(lambda: switch.open_requests() == [0], SLACK), True)
+            check(
+                "the endpoint of a client that has gone sees its connection closed",
+                comes(lambda: held.closed == number, POLITE),
+                True,
+            )
+        check(
+            "no request of clients that have gone is open",
+            comes(lambda: switch.open_requests() == [0], SLACK),
+            True,
+        )
 
 
 def clients_that_close() -> None:
@@ -559,7 +745,9 @@ def half_closed_client() -> None:
             time.sleep(4)
             check("a client that shut its writing side hasn't gone", held.closed, 0)
             held.is_free.set()
-            check("a client that shut its writing side is answered", received(client), answer(b"held"))
+            check(
+                "a client that shut its writing side is answered", received(client), answer(b"held")
+            )
 
 
 def dual_stack(port: int) -> socket.socket:
@@ -572,7 +760,8 @@ def dual_stack(port: int) -> socket.socket:
 
 
 def dual_stack_clients() -> None:
-    """A client with a socket for both IPv6 and IPv4 that shut its writing side is answered, and one that resets has gone."""
+    """A client with a socket for both IPv6 and IPv4 that shut its writing side is answered, and one
+    that resets has gone."""
     held = Held(b"held")
     with serving(Endpoint(held).port, workers=2, timeout=TIMEOUT) as switch:
         with dual_stack(switch.active) as client, dual_stack(switch.active) as other:
@@ -583,17 +772,27 @@ def dual_stack_clients() -> None:
             time.sleep(4)
             check("a client of both kinds that shut its writing side hasn't gone", held.closed, 0)
             reset(other)
-            check("a client of both kinds that resets has gone", comes(lambda: held.closed == 1), True)
+            check(
+                "a client of both kinds that resets has gone", comes(lambda: held.closed == 1), True
+            )
             held.is_free.set()
-            check("a client of both kinds that shut its writing side is answered", received(client), answer(b"held"))
+            check(
+                "a client of both kinds that shut its writing side is answered",
+                received(client),
+                answer(b"held"),
+            )
 
 
 def stuck_uploads() -> None:
     """Clients that send all but the last byte of a megabyte shut out no other upload."""
-    with serving(Endpoint(by_target(b"one")).port, workers=3, timeout=TIMEOUT) as switch, contextlib.ExitStack() as stack:
+    with serving(
+        Endpoint(by_target(b"one")).port, workers=3, timeout=TIMEOUT
+    ) as switch, contextlib.ExitStack() as stack:
         stuck = [stack.enter_context(connect(switch.active)) for _ in range(140)]
         for client in stuck:
-            threading.Thread(target=send_all, args=(client, head_of(MEGABYTE) + bytes(MEGABYTE - 1)), daemon=True).start()
+            threading.Thread(
+                target=send_all, args=(client, head_of(MEGABYTE) + bytes(MEGABYTE - 1)), daemon=True
+            ).start()
         time.sleep(3)
         start = time.monotonic()
         got = at_once([partial(clients.upload, switch.active, 300000, 65536, 0.0)] * 5)
@@ -612,7 +811,10 @@ def paused_uploads() -> None:
         check("all are accepted", comes(lambda: connections_at(switch.active) >= 300), True)
         stack.enter_context(connect(switch.active)).sendall(request())
         check("the worker waits for its endpoint", held.holds(1), True)
-        senders = {client: threading.Thread(target=send_all, args=(client, bytes(MEGABYTE)), daemon=True) for client in uploads}
+        senders = {
+            client: threading.Thread(target=send_all, args=(client, bytes(MEGABYTE)), daemon=True)
+            for client in uploads
+        }
         for sender in senders.values():
             sender.start()
         time.sleep(2 * timeout)
@@ -669,13 +871,47 @@ def gone_while_answered() -> None:
         reset(client)
         start = time.monotonic()
         check("an endpoint that answers slowly is let go", ended.wait(clients.LONGEST), True)
-        check_soon("an endpoint that answers slowly sees that its client has gone", time.monotonic() - start, 2 + SLACK)
+        check_soon(
+            "an endpoint that answers slowly sees that its client has gone",
+            time.monotonic() - start,
+            2 + SLACK,
+        )
 
 
 if __name__ == "__main__":
-    checks.run("live_clients", (
-        stalled_reader, drips, refusals, long_chunks, served_once, late_requests, continues, slow_readers, many_answers,
-        steady_readers, large_bodies, endless_bodies, uploads, few_descriptors, full_port, room_is_noticed, memory_of_pending_requests, steady_clients,
-        all_workers_busy, first_come_first_served, missed_signal, clients_that_close, clients_that_end_their_input, clients_that_reset, half_closed_client, dual_stack_clients, stuck_uploads,
-        paused_uploads, gone_while_answered), 4, by_hand=(
-            two_thousand_uploads, many_steady_clients, ten_thousand_left_open))
+    checks.run(
+        "live_clients",
+        (
+            stalled_reader,
+            drips,
+            refusals,
+            long_chunks,
+            served_once,
+            late_requests,
+            continues,
+            slow_readers,
+            many_answers,
+            steady_readers,
+            large_bodies,
+            endless_bodies,
+            uploads,
+            few_descriptors,
+            full_port,
+            room_is_noticed,
+            memory_of_pending_requests,
+            steady_clients,
+            all_workers_busy,
+            first_come_first_served,
+            missed_signal,
+            clients_that_close,
+            clients_that_end_their_input,
+            clients_that_reset,
+            half_closed_client,
+            dual_stack_clients,
+            stuck_uploads,
+            paused_uploads,
+            gone_while_answered,
+        ),
+        4,
+        by_hand=(two_thousand_uploads, many_steady_clients, ten_thousand_left_open),
+    )

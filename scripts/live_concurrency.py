@@ -1,4 +1,5 @@
-"""`bg_switch serve --concurrency` on loopback: hundreds of requests at a time, and workers that wait."""
+"""`bg_switch serve --concurrency` on loopback: hundreds of requests at a time, and workers that
+wait."""
 import concurrent.futures
 import contextlib
 import random
@@ -30,7 +31,8 @@ MANY = (8192, 8192)
 
 
 class Gate:
-    """An endpoint whose answers to `/held` wait until it is opened. It answers all others at once."""
+    """An endpoint whose answers to `/held` wait until it is opened. It answers all others at
+    once."""
 
     def __init__(self) -> None:
         self.opening = threading.Event()
@@ -57,9 +59,11 @@ def held(port: int, count: int) -> Iterator[list[socket.socket]]:
 
 
 @contextlib.contextmanager
-def serving(gate: Gate, descriptors: tuple[int, int], *words: str, preview: bool = True) -> Iterator[Switch]:
-    """A switch with these words in place of `--workers`, that serves the endpoint, and may have so many descriptors by
-    its soft and its hard limit."""
+def serving(
+    gate: Gate, descriptors: tuple[int, int], *words: str, preview: bool = True
+) -> Iterator[Switch]:
+    """A switch with these words in place of `--workers`, that serves the endpoint, and may have so
+    many descriptors by its soft and its hard limit."""
     switch = Switch(BY_HAND, instead_of_workers=words, preview=preview, descriptors=descriptors)
     try:
         check("opened", switch.answer_to(f"open one {gate.endpoint.port}"), "ok 0")
@@ -82,14 +86,23 @@ def hundreds_at_a_time() -> None:
 
 
 def most_at_a_time() -> None:
-    """As many requests as the words say are at the endpoint; a further one waits, and is answered after them."""
-    for words, active, preview in ((("--concurrency=24",), 24, 3), (("--concurrency", "5"), 5, 1),
-                                   (("--concurrency", "9", "--preview-concurrency", "4"), 9, 4),
-                                   (("--workers", "3"), 3, 1), (("--workers", "3", "--preview-concurrency=2"), 3, 2)):
+    """As many requests as the words say are at the endpoint; a further one waits, and is answered
+    after them."""
+    for words, active, preview in (
+        (("--concurrency=24",), 24, 3),
+        (("--concurrency", "5"), 5, 1),
+        (("--concurrency", "9", "--preview-concurrency", "4"), 9, 4),
+        (("--workers", "3"), 3, 1),
+        (("--workers", "3", "--preview-concurrency=2"), 3, 2),
+    ):
         for is_preview, most in ((False, active), (True, preview)):
             with serving(gate := Gate(), MANY, *words) as switch:
-                check_most_at_a_time(gate, switch.preview if is_preview else switch.active, most,
-                                     f"{' '.join(words)} at the {'preview' if is_preview else 'active'} port")
+                check_most_at_a_time(
+                    gate,
+                    switch.preview if is_preview else switch.active,
+                    most,
+                    f"{' '.join(words)} at the {'preview' if is_preview else 'active'} port",
+                )
 
 
 def check_most_at_a_time(gate: Gate, port: int, most: int, name: str) -> None:
@@ -98,7 +111,11 @@ def check_most_at_a_time(gate: Gate, port: int, most: int, name: str) -> None:
         time.sleep(SEEN)
         check(f"{name}: no more than {most}", gate.held, most)
         gate.opening.set()
-        check(f"{name}: answers", [clients.received(client) for client in pending], [answer(b"ok")] * (most + 1))
+        check(
+            f"{name}: answers",
+            [clients.received(client) for client in pending],
+            [answer(b"ok")] * (most + 1),
+        )
 
 
 def a_slow_route_beside_a_fast_one() -> None:
@@ -115,7 +132,8 @@ def a_slow_route_beside_a_fast_one() -> None:
 
 
 def calls_of_idle_workers() -> None:
-    """An idle switch with 1,000 workers makes at most ten system calls a second, all threads together."""
+    """An idle switch with 1,000 workers makes at most ten system calls a second, all threads
+    together."""
     if shutil.which("strace") is None:
         print("live_concurrency: no strace, so the system calls of idle workers were not counted")
         return
@@ -123,12 +141,18 @@ def calls_of_idle_workers() -> None:
     with serving(gate, MANY, "--concurrency", "1000") as switch:
         check("a request", clients.asked(switch.active, request()), answer(b"ok"))
         time.sleep(4)
-        traced = subprocess.run(["timeout", "--signal=INT", "9", "strace", "-ttt", "-f", "-p", str(switch.process.pid)],
-                                capture_output=True, text=True, check=False).stderr
+        traced = subprocess.run(
+            ["timeout", "--signal=INT", "9", "strace", "-ttt", "-f", "-p", str(switch.process.pid)],
+            capture_output=True,
+            text=True,
+            check=False,
+        ).stderr
         moments = [float(found[1]) for line in traced.splitlines() if (found := CALL.match(line))]
         check("system calls were counted", moments != [], True)
         # strace interrupts each thread as it begins, and so makes each of them call again
-        check_within("system calls of a second", sum(moment > moments[0] + 3 for moment in moments) / 6, 10)
+        check_within(
+            "system calls of a second", sum(moment > moments[0] + 3 for moment in moments) / 6, 10
+        )
         check("a request after it", clients.asked(switch.active, request()), answer(b"ok"))
 
 
@@ -145,7 +169,8 @@ def memory_of_idle_workers() -> None:
 
 
 def descriptors_of_many_workers() -> None:
-    """The switch raises its soft limit of descriptors to the hard one, and tells where that is too little."""
+    """The switch raises its soft limit of descriptors to the hard one, and tells where that is too
+    little."""
     gate = Gate()
     with serving(gate, (256, 4096), "--concurrency", "255") as switch:
         soft, _ = resource.prlimit(switch.process.pid, resource.RLIMIT_NOFILE)
@@ -163,7 +188,9 @@ class Soak:
         self.rng = random.Random(SEED)
         self.requests = requests
         self.endpoints = [Endpoint(self.answer) for _ in range(2)]
-        self.switch = Switch(BY_HAND, instead_of_workers=("--concurrency", str(workers)), descriptors=MANY)
+        self.switch = Switch(
+            BY_HAND, instead_of_workers=("--concurrency", str(workers)), descriptors=MANY
+        )
         self.ends: dict[bytes | None, int] = {}
         self.lock = threading.Lock()
         self.over = threading.Event()
@@ -182,7 +209,7 @@ class Soak:
         with contextlib.suppress(OSError), clients.connect(port) as client:
             text = request(target)
             if kind % 11 == 0:
-                client.sendall(text[:kind % len(text)])
+                client.sendall(text[: kind % len(text)])
                 return
             client.sendall(text)
             if kind % 13 == 0:
@@ -196,9 +223,23 @@ class Soak:
         """Orders at random, none of which takes the last endpoint for long."""
         rng = random.Random(SEED + 1)
         first, second = (endpoint.port for endpoint in self.endpoints)
-        lines = [f"deploy two {second}", "available 2 1", "promote", "promote full", "abort", "retry", "available 1 1",
-                 f"deploy one {first}", "tick 1", "report", "compact", "verdict pre successful", "available 1 0",
-                 "available 1 1", "available 2 1"]
+        lines = [
+            f"deploy two {second}",
+            "available 2 1",
+            "promote",
+            "promote full",
+            "abort",
+            "retry",
+            "available 1 1",
+            f"deploy one {first}",
+            "tick 1",
+            "report",
+            "compact",
+            "verdict pre successful",
+            "available 1 0",
+            "available 1 1",
+            "available 2 1",
+        ]
         moment = 1
         while not self.over.wait(0.02):
             line = rng.choice(lines)
@@ -244,23 +285,40 @@ class Soak:
         return min(counts), threads(process)
 
     def check_end(self, before: tuple[int, int] | None) -> None:
-        check("each answer is of a known kind", set(self.ends) - {answer(b"ok"), BAD_GATEWAY, UNAVAILABLE, b"", None}, set())
-        check("many answers are of endpoints", self.ends.get(answer(b"ok"), 0) > self.requests // 10, True)
+        check(
+            "each answer is of a known kind",
+            set(self.ends) - {answer(b"ok"), BAD_GATEWAY, UNAVAILABLE, b"", None},
+            set(),
+        )
+        check(
+            "many answers are of endpoints",
+            self.ends.get(answer(b"ok"), 0) > self.requests // 10,
+            True,
+        )
         check("no open request", comes(lambda: not any(self.switch.open_requests()), SOON), True)
         check("descriptors and threads", self.footprint(), before)
         with contextlib.closing(self.switch.operator()) as operator:
             operator.send_quit()
             ended = self.switch.wait()
         check("the status", ended.status, 0)
-        opens = [line.split(" open ")[1].split()[0] for line in ended.printed.splitlines() if " open " in line]
+        opens = [
+            line.split(" open ")[1].split()[0]
+            for line in ended.printed.splitlines()
+            if " open " in line
+        ]
         check("open requests of the last report", set(opens), {"0"})
         calls = int(ended.printed.splitlines()[-1].removeprefix("calls "))
         check("calls come in pairs", calls % 2, 0)
-        check("at least the answered requests entered", calls // 2 >= self.ends.get(answer(b"ok"), 0), True)
+        check(
+            "at least the answered requests entered",
+            calls // 2 >= self.ends.get(answer(b"ok"), 0),
+            True,
+        )
 
 
 def requests_beside_crashes() -> None:
-    """3,000 requests over 200 workers, with random orders, endpoints that crash, and clients that go."""
+    """3,000 requests over 200 workers, with random orders, endpoints that crash, and clients that
+    go."""
     Soak(3_000, 200).run(64)
 
 
@@ -271,6 +329,16 @@ def three_hundred_thousand() -> None:
 
 
 if __name__ == "__main__":
-    checks.run("live_concurrency", [hundreds_at_a_time, most_at_a_time, a_slow_route_beside_a_fast_one,
-                                    calls_of_idle_workers, memory_of_idle_workers, descriptors_of_many_workers,
-                                    requests_beside_crashes], by_hand=[three_hundred_thousand])
+    checks.run(
+        "live_concurrency",
+        [
+            hundreds_at_a_time,
+            most_at_a_time,
+            a_slow_route_beside_a_fast_one,
+            calls_of_idle_workers,
+            memory_of_idle_workers,
+            descriptors_of_many_workers,
+            requests_beside_crashes,
+        ],
+        by_hand=[three_hundred_thousand],
+    )

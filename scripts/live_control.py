@@ -1,5 +1,5 @@
-"""The control port of a running `serve`: the order of connections, those that are idle, silent, endless or don't read,
-requests of browsers, and accepts that fail."""
+"""The control port of a running `serve`: the order of connections, those that are idle, silent,
+endless or don't read, requests of browsers, and accepts that fail."""
 import contextlib
 import os
 import pathlib
@@ -18,8 +18,8 @@ from support.ports import HOST
 from support.stderr_lines import accepts_fail, check_told_once, told
 from support.switch import Switch, book
 
-# How long, in seconds, an order waits at most. Where another connection kept it out, it would wait for as long as that
-# one stays.
+# How long, in seconds, an order waits at most. Where another connection kept it out, it would wait
+# for as long as that one stays.
 SOON = 4.0
 # How long an order waits at most beside connections that take turns, and an urgent one.
 PROMPT, AT_ONCE = 1.0, 0.3
@@ -31,10 +31,11 @@ MANY_REVISIONS = BY_HAND.replace('"replicas": 1', '"replicas": 1, "revisionHisto
 MIDDLE_BUFFER = 262_144
 # For how long it is seen that a line that has not ended has no reply.
 SEEN = 4.0
-# How long, in seconds, the switch has for a line before another connection sends one: much less than a silence.
+# How long, in seconds, the switch has for a line before another connection sends one: much less
+# than a silence.
 BETWEEN_LINES = 0.1
-# How many connections wait at a port while the switch is stopped: more than the 128 that a listener of Rattle's library has
-# room for, and no more than the system allows.
+# How many connections wait at a port while the switch is stopped: more than the 128 that a listener
+# of Rattle's library has room for, and no more than the system allows.
 WAITING = min(400, int(pathlib.Path("/proc/sys/net/core/somaxconn").read_text(encoding="ascii")))
 # What comes before the lines that a web page would have carried out.
 BROWSERS = {
@@ -48,8 +49,15 @@ BROWSERS = {
     "a field without a value": b"X_a|~:\n",
 }
 # Faulty lines that aren't HTTP, and their faults.
-FAULTS = {b"jump": "UnknownWord", b"": "Empty", b"tick x": "BadNumber", b"tick\t5": "NotAscii",
-          b"GET / HTTP": "UnknownWord", b": x": "UnknownWord", b"a b: c": "UnknownWord"}
+FAULTS = {
+    b"jump": "UnknownWord",
+    b"": "Empty",
+    b"tick x": "BadNumber",
+    b"tick\t5": "NotAscii",
+    b"GET / HTTP": "UnknownWord",
+    b": x": "UnknownWord",
+    b"a b: c": "UnknownWord",
+}
 
 
 def check_line(name: str, switch: Switch, line: str, most: float = SOON) -> None:
@@ -60,11 +68,12 @@ def check_line(name: str, switch: Switch, line: str, most: float = SOON) -> None
 
 
 def idle_connections() -> None:
-    """Connections that say nothing, or no whole line, keep nobody out, before a book is open and after."""
+    """Connections that say nothing, or no whole line, keep nobody out, before a book is open and
+    after."""
     with book(is_open=False) as switch, contextlib.ExitStack() as stack:
         for number in range(40):
             idle = stack.enter_context(connect(switch.control))
-            idle.sendall(b"quit"[:number % 5])
+            idle.sendall(b"quit"[: number % 5])
         start = time.monotonic()
         check("open beside idle connections", switch.answer_to("open one 9"), "ok 0")
         check_soon("the wait of open beside idle connections", time.monotonic() - start, SOON)
@@ -92,18 +101,28 @@ def lasting_connections() -> None:
 
 
 class Load:
-    """Connections of each kind that one thread serves: watchers that ask each half second, silent ones, endless lines,
-    pipelines of 100,000 lines, and those that read no replies."""
+    """Connections of each kind that one thread serves: watchers that ask each half second, silent
+    ones, endless lines, pipelines of 100,000 lines, and those that read no replies."""
 
     def __init__(self, port: int, of_each: int) -> None:
         self.has_ended = threading.Event()
         self.answered = {"watchers": 0, "pipelines": 0}
         pipeline = b"tick 0\n" * 100_000
         self.sent: dict[socket.socket, bytes] = {}
-        kinds = {"watchers": b"", "silent": b"", "endless": b"a" * 65536, "pipelines": pipeline,
-                 "not reading": b"report\n" * 100_000}
-        self.kinds = {kind: [connect(port, SMALL_BUFFER if kind == "not reading" else None) for _ in range(of_each)]
-                      for kind in kinds}
+        kinds = {
+            "watchers": b"",
+            "silent": b"",
+            "endless": b"a" * 65536,
+            "pipelines": pipeline,
+            "not reading": b"report\n" * 100_000,
+        }
+        self.kinds = {
+            kind: [
+                connect(port, SMALL_BUFFER if kind == "not reading" else None)
+                for _ in range(of_each)
+            ]
+            for kind in kinds
+        }
         for kind, connections in self.kinds.items():
             for connection in connections:
                 connection.setblocking(False)
@@ -130,7 +149,9 @@ class Load:
                 send_part(connection, self.sent[connection])
             for kind in "pipelines", "not reading":
                 for connection in self.kinds[kind]:
-                    self.sent[connection] = self.sent[connection][send_part(connection, self.sent[connection]):]
+                    self.sent[connection] = self.sent[connection][
+                        send_part(connection, self.sent[connection]) :
+                    ]
             for connection in self.kinds["pipelines"]:
                 self.take("pipelines", connection)
 
@@ -170,15 +191,26 @@ def abort_beside_watchers() -> None:
         check("watchers and pipelines are answered", comes(load.is_at_work, 10), True)
         urgent, elsewhere, others = list[float](), list[float](), list[float]()
         for number in range(20):
-            line, expected = ("verdict pre failed", "refused NoAnalysis") if number % 2 else (
-                "abort", "refused AlreadyAborted" if number else "ok 0")
+            line, expected = (
+                ("verdict pre failed", "refused NoAnalysis")
+                if number % 2
+                else ("abort", "refused AlreadyAborted" if number else "ok 0")
+            )
             urgent.append(wait_of(switch, line, expected))
             elsewhere.append(wait_of(calm, line, expected))
             others.append(wait_of(switch, "tick 0", "ok 0"))
             time.sleep(0.1)
-        check_beside("the wait of an abort, or of a failed verdict, beside 1,000 connections", urgent, elsewhere, AT_ONCE)
-        check_within("twice such a wait, where a line that takes its turn is answered later", 2 * statistics.median(urgent),
-                     statistics.median(others))
+        check_beside(
+            "the wait of an abort, or of a failed verdict, beside 1,000 connections",
+            urgent,
+            elsewhere,
+            AT_ONCE,
+        )
+        check_within(
+            "twice such a wait, where a line that takes its turn is answered later",
+            2 * statistics.median(urgent),
+            statistics.median(others),
+        )
         start = time.monotonic()
         check("a report beside 1,000 connections", "phase aborted" in report(switch), True)
         check_soon("the wait of a report beside 1,000 connections", time.monotonic() - start, SOON)
@@ -198,8 +230,8 @@ def stopped(switch: Switch) -> Iterator[None]:
 
 
 def lines_take_turns() -> None:
-    """Of all lines that wait, the first is answered first, but an urgent one before; a connection with many lines has
-    one answered, and then the next connection."""
+    """Of all lines that wait, the first is answered first, but an urgent one before; a connection
+    with many lines has one answered, and then the next connection."""
     with book() as switch, contextlib.ExitStack() as stack:
         operators = [stack.enter_context(contextlib.closing(switch.operator())) for _ in range(4)]
         for operator in operators:
@@ -208,45 +240,68 @@ def lines_take_turns() -> None:
             for moment, place in enumerate((2, 0, 3, 1), 1):
                 operators[place].socket.sendall(b"tick %d\n" % moment)
         # a tick to a moment before the present one is refused
-        check("lines that wait are carried out in the order in which they came",
-              [operator.next_line() for operator in operators], ["ok 0"] * 4)
+        check(
+            "lines that wait are carried out in the order in which they came",
+            [operator.next_line() for operator in operators],
+            ["ok 0"] * 4,
+        )
         first, second, third, fourth = operators
         first.check("deploy two 2", "ok 0")
         with stopped(switch):
-            for operator, line in ((second, b"promote full\n"), (third, b"tick 5\n"), (first, b"verdict post error\n"),
-                                   (fourth, b"abort\n")):
+            for operator, line in (
+                (second, b"promote full\n"),
+                (third, b"tick 5\n"),
+                (first, b"verdict post error\n"),
+                (fourth, b"abort\n"),
+            ):
                 operator.socket.sendall(line)
-        check("an abort and a failed verdict are carried out before all that waits",
-              [operator.next_line() for operator in (first, fourth, second, third)],
-              ["refused NoAnalysis", "ok 0", "refused Aborted", "ok 0"])
+        check(
+            "an abort and a failed verdict are carried out before all that waits",
+            [operator.next_line() for operator in (first, fourth, second, third)],
+            ["refused NoAnalysis", "ok 0", "refused Aborted", "ok 0"],
+        )
         first.socket.sendall(b"tick 6\n" + b"report\n" * 5000 + b"tick 7\n")
         check_line("a connection with 5,000 lines", switch, "tick 8", PROMPT)
         first.socket.shutdown(socket.SHUT_WR)
         lines = received(first.socket).splitlines()
-        check("the last line of a connection with 5,000 lines", (lines[0], lines[-1]), (b"ok 0", b"refused MomentBack"))
+        check(
+            "the last line of a connection with 5,000 lines",
+            (lines[0], lines[-1]),
+            (b"ok 0", b"refused MomentBack"),
+        )
         check("each report of a connection with 5,000 lines", lines.count(b"end"), 5000)
 
 
 def sequence_within_a_connection() -> None:
-    """The lines of a connection are answered in their order, an abort too, one between those of other connections."""
-    with book() as switch, contextlib.closing(switch.operator()) as one, contextlib.closing(switch.operator()) as other:
+    """The lines of a connection are answered in their order, an abort too, one between those of
+    other connections."""
+    with book() as switch, contextlib.closing(switch.operator()) as one, contextlib.closing(
+        switch.operator()
+    ) as other:
         one.check("tick 0", "ok 0")
         other.check("tick 0", "ok 0")
         with stopped(switch):
             one.socket.sendall(b"tick 1\ntick 3\ntick 5\n")
             other.socket.sendall(b"tick 2\ntick 4\ntick 6\n")
-        check("lines of two connections", [operator.next_line() for _ in range(3) for operator in (one, other)], ["ok 0"] * 6)
+        check(
+            "lines of two connections",
+            [operator.next_line() for _ in range(3) for operator in (one, other)],
+            ["ok 0"] * 6,
+        )
         with stopped(switch):
             one.socket.sendall(b"deploy two 2\nabort\nretry\nabort\njump\n")
             other.socket.sendall(b"tick 7\n" * 9)
-        check("an abort behind a line of its own connection", [one.next_line() for _ in range(5)],
-              ["ok 0"] * 4 + ["fault UnknownWord"])
+        check(
+            "an abort behind a line of its own connection",
+            [one.next_line() for _ in range(5)],
+            ["ok 0"] * 4 + ["fault UnknownWord"],
+        )
         check("lines beside an abort", [other.next_line() for _ in range(9)], ["ok 0"] * 9)
 
 
 def replies_not_taken_hold_nobody() -> None:
-    """Connections that don't read their replies hold nobody up. One that takes nothing for ten seconds is ended, and one
-    that takes them late has all of them."""
+    """Connections that don't read their replies hold nobody up. One that takes nothing for ten
+    seconds is ended, and one that takes them late has all of them."""
     count = 600
     with book(rollout=MANY_REVISIONS) as switch, contextlib.ExitStack() as stack:
         with contextlib.closing(switch.operator()) as operator:
@@ -266,11 +321,17 @@ def replies_not_taken_hold_nobody() -> None:
         got = b""
         while len(got) < count * length and (piece := late.recv(1 << 20)):
             got += piece
-        check("the replies of a connection that takes them late", (got.count(b"moment 0\n"), got.count(b"\nend\n")),
-              (count, count))
+        check(
+            "the replies of a connection that takes them late",
+            (got.count(b"moment 0\n"), got.count(b"\nend\n")),
+            (count, count),
+        )
         late.close()
-        check("connections that read no replies are ended",
-              comes(lambda: switch.count_descriptors() <= before, 3 * NOT_TAKEN), True)
+        check(
+            "connections that read no replies are ended",
+            comes(lambda: switch.count_descriptors() <= before, 3 * NOT_TAKEN),
+            True,
+        )
         check_line("connections that were ended", switch, "tick 1", PROMPT)
 
 
@@ -279,14 +340,17 @@ def urgent_lines() -> None:
     with book() as switch, contextlib.ExitStack() as stack:
         for _ in range(8):
             client = stack.enter_context(connect(switch.control))
-            threading.Thread(target=send_in_pieces, args=(client, [b"abort\n" * 100_000], 0), daemon=True).start()
+            threading.Thread(
+                target=send_in_pieces, args=(client, [b"abort\n" * 100_000], 0), daemon=True
+            ).start()
         time.sleep(BETWEEN_LINES)
         for moment in range(1, 6):
             check_line("aborts without end", switch, f"tick {moment}", PROMPT)
 
 
 def full_port() -> None:
-    """Where the port is full, the connection goes that is silent for the longest, so a new operator always gets in."""
+    """Where the port is full, the connection goes that is silent for the longest, so a new operator
+    always gets in."""
     switch = Switch(BY_HAND, descriptors=4 * 16)
     check("open", switch.answer_to("open one 1"), "ok 0")
     with contextlib.closing(switch.operator()) as busy, contextlib.ExitStack() as stack:
@@ -296,7 +360,9 @@ def full_port() -> None:
             busy.check(f"tick {moment}", "ok 0")
         check_line("silent connections at a full port", switch, "tick 101", PROMPT)
         busy.check("tick 102", "ok 0")
-        check("the connections that were silent for the longest are ended", received(silent[0]), b"")
+        check(
+            "the connections that were silent for the longest are ended", received(silent[0]), b""
+        )
         silent[-1].sendall(b"tick 103\n")
         check("a connection that was silent for less long", silent[-1].recv(100), b"ok 0\n")
     switch.stop()
@@ -330,7 +396,8 @@ def waiting_at(port: int) -> int:
 
 
 def backlog() -> None:
-    """While the switch takes no connections, as many wait at the control port as at a client port."""
+    """While the switch takes no connections, as many wait at the control port as at a client
+    port."""
     with book() as switch:
         with stopped(switch):
             for name, port in (("active", switch.active), ("control", switch.control)):
@@ -341,10 +408,18 @@ def backlog() -> None:
 def lines_that_are_too_long() -> None:
     """A line that is too long has its fault once it ends, and holds nobody up before."""
     with book() as switch:
-        for length, expected in ((4096, "NotAscii"), (4097, "TooLong"), (4098, "TooLong"), (4099, "TooLong"), (100_000, "TooLong")):
+        for length, expected in (
+            (4096, "NotAscii"),
+            (4097, "TooLong"),
+            (4098, "TooLong"),
+            (4099, "TooLong"),
+            (100_000, "TooLong"),
+        ):
             for ending in b"\n", b"\r\n":
                 with contextlib.closing(switch.operator()) as operator:
-                    got = operator.answer(b"\t" * length + ending[:-1]), operator.answer_to("tick 0")
+                    got = operator.answer(b"\t" * length + ending[:-1]), operator.answer_to(
+                        "tick 0"
+                    )
                     check(f"a line of {length} bytes", got, ([f"fault {expected}"], "ok 0"))
             got_at_end = timed_for(switch.control, SEEN, [b"tick 0\n" + b"\t" * length])
             check("a line that has not ended has no reply", got_at_end.answer, b"")
@@ -352,7 +427,11 @@ def lines_that_are_too_long() -> None:
                 client.sendall(b"\t" * length)
                 check_line("a line that has not ended", switch, "tick 0", PROMPT)
                 client.shutdown(socket.SHUT_WR)
-                check(f"a line of {length} bytes at the end", received(client), b"fault %s\n" % expected.encode())
+                check(
+                    f"a line of {length} bytes at the end",
+                    received(client),
+                    b"fault %s\n" % expected.encode(),
+                )
 
 
 def lines_of_the_gone() -> None:
@@ -361,11 +440,19 @@ def lines_of_the_gone() -> None:
         for moment, ending in ((1, b"\n"), (2, b"")):
             with connect(switch.control) as client:
                 client.sendall(b"tick %d" % moment + ending)
-            check("the line of a connection that was closed", comes(lambda: switch_moment(switch) == moment), True)
+            check(
+                "the line of a connection that was closed",
+                comes(lambda: switch_moment(switch) == moment),
+                True,
+            )
         with connect(switch.control) as client:
             client.sendall(b"tick 3\ntick 4")
             client.shutdown(socket.SHUT_WR)
-            check("lines of a connection whose writing side is shut", received(client), b"ok 0\nok 0\n")
+            check(
+                "lines of a connection whose writing side is shut",
+                received(client),
+                b"ok 0\nok 0\n",
+            )
 
 
 def switch_moment(switch: Switch) -> int:
@@ -383,7 +470,8 @@ def http_before_open() -> None:
 
 
 def sent_by_browser(switch: Switch, *pieces: bytes) -> bytes:
-    """What a connection that sends this is answered up to its end, or nothing where it isn't ended soon."""
+    """What a connection that sends this is answered up to its end, or nothing where it isn't ended
+    soon."""
     return timed_for(switch.control, SEEN, pieces, 0.1).answer
 
 
@@ -392,14 +480,20 @@ def is_one_fault(answer: bytes) -> bool:
 
 
 def http() -> None:
-    """The first line that is written as HTTP is answered its fault, and ends the connection. Nothing behind it is
-    carried out."""
+    """The first line that is written as HTTP is answered its fault, and ends the connection.
+    Nothing behind it is carried out."""
     with book() as switch:
         for what, text in BROWSERS.items():
             before = switch.answer_to("tick 1"), report(switch)
-            got = sent_by_browser(switch, text + b"deploy evil 22402\r\navailable 2 1\r\npromote full\r\n")
+            got = sent_by_browser(
+                switch, text + b"deploy evil 22402\r\navailable 2 1\r\npromote full\r\n"
+            )
             check(f"{what} is answered one fault, and ends the connection", is_one_fault(got), True)
-            check(f"no line behind {what} is carried out", (switch.answer_to("tick 1"), report(switch)), before)
+            check(
+                f"no line behind {what} is carried out",
+                (switch.answer_to("tick 1"), report(switch)),
+                before,
+            )
         for text in BROWSERS.values():
             sent_by_browser(switch, text + b"quit\r\n")
         check("no quit behind a line of HTTP is carried out", switch.answer_to("tick 2"), "ok 0")
@@ -409,11 +503,24 @@ def http_in_pieces() -> None:
     """The same, where lines came before and others come later."""
     with book() as switch:
         for moment, text in enumerate(BROWSERS.values(), 1):
-            got = sent_by_browser(switch, b"tick %d\n" % moment, text[:9], text[9:], b"deploy evil 22402\r\n",
-                                  b"tick 99\r\n")
-            check("a good line before a line of HTTP", (got[:5], is_one_fault(got[5:])), (b"ok 0\n", True))
-            check("no line that comes after a line of HTTP is carried out",
-                  (switch_moment(switch), "evil" in report(switch)), (moment, False))
+            got = sent_by_browser(
+                switch,
+                b"tick %d\n" % moment,
+                text[:9],
+                text[9:],
+                b"deploy evil 22402\r\n",
+                b"tick 99\r\n",
+            )
+            check(
+                "a good line before a line of HTTP",
+                (got[:5], is_one_fault(got[5:])),
+                (b"ok 0\n", True),
+            )
+            check(
+                "no line that comes after a line of HTTP is carried out",
+                (switch_moment(switch), "evil" in report(switch)),
+                (moment, False),
+            )
 
 
 def other_faults() -> None:
@@ -430,8 +537,8 @@ def report(switch: Switch) -> str:
 
 
 def accepts_that_fail() -> None:
-    """Accepts that fail for want of descriptors are told once and tried again for ever; who is connected is served
-    meanwhile."""
+    """Accepts that fail for want of descriptors are told once and tried again for ever; who is
+    connected is served meanwhile."""
     with book() as switch, contextlib.closing(switch.operator()) as operator:
         operator.check("tick 1", "ok 0")
         limit = processes.DescriptorLimit(switch.process.pid)
@@ -440,13 +547,17 @@ def accepts_that_fail() -> None:
             pending = [stack.enter_context(connect(switch.control)) for _ in range(3)]
             for client in pending:
                 client.sendall(b"report\n")
-            check_told_once("accepts that fail at the control port are told", switch, accepts_fail("control"))
+            check_told_once(
+                "accepts that fail at the control port are told", switch, accepts_fail("control")
+            )
             for moment in range(2, 5):
                 operator.check(f"tick {moment}", "ok 0")
                 time.sleep(1)
             limit.lift()
             for client in pending:
-                check("a connection once there are descriptors again", client.recv(9), b"moment 4\n")
+                check(
+                    "a connection once there are descriptors again", client.recv(9), b"moment 4\n"
+                )
         check_line("accepts that have failed", switch, "tick 5")
         check("accepts that fail are told once", len(told(switch, accepts_fail("control"))), 1)
 
@@ -475,7 +586,26 @@ def notices_without_room() -> None:
 
 
 if __name__ == "__main__":
-    checks.run("live_control", (
-        replies_not_taken_hold_nobody, abort_beside_watchers, lines_take_turns, sequence_within_a_connection, urgent_lines,
-        full_port, backlog, idle_connections, lasting_connections, lines_that_are_too_long, lines_of_the_gone, http_before_open,
-        http, http_in_pieces, other_faults, accepts_that_fail, notices_without_room), 5)
+    checks.run(
+        "live_control",
+        (
+            replies_not_taken_hold_nobody,
+            abort_beside_watchers,
+            lines_take_turns,
+            sequence_within_a_connection,
+            urgent_lines,
+            full_port,
+            backlog,
+            idle_connections,
+            lasting_connections,
+            lines_that_are_too_long,
+            lines_of_the_gone,
+            http_before_open,
+            http,
+            http_in_pieces,
+            other_faults,
+            accepts_that_fail,
+            notices_without_room,
+        ),
+        5,
+    )

@@ -1,6 +1,7 @@
-"""bin/controller before a running `serve` and endpoints: through a deploy, endpoints that are killed, a failed
-analysis, a retry, an undo and an abort by hand; an outage of all endpoints after the switch; and rollouts whose endpoints the
-plan starts and stops, under requests, while the controller and the switch are killed."""
+"""bin/controller before a running `serve` and endpoints: through a deploy, endpoints that are
+killed, a failed analysis, a retry, an undo and an abort by hand; an outage of all endpoints after
+the switch; and rollouts whose endpoints the plan starts and stops, under requests, while the
+controller and the switch are killed."""
 import contextlib
 import os
 import pathlib
@@ -27,7 +28,9 @@ from bg_switch_tools.controller.state_file import write_whole
 SEED = int(os.environ.get("SEED", "1"))
 CONTROLLER = str(TOP / "bin" / "controller")
 WAIT = 20  # seconds for which anything is awaited
-LINE = re.compile(r"\d{4}-\d\d-\d\dT\d\d:\d\d:\d\d[+-]\d\d:\d\d (moment (?P<moment>\d+): )?(?P<text>\S.*)")
+LINE = re.compile(
+    r"\d{4}-\d\d-\d\dT\d\d:\d\d:\d\d[+-]\d\d:\d\d (moment (?P<moment>\d+): )?(?P<text>\S.*)"
+)
 GOOD, BAD, ENDLESS = 'test -n "$BG_REVISION" -a -n "$BG_PORTS" || exit 3', "exit 1", "sleep 600"
 ROLLOUT = """{"spec": {"replicas": 2, "strategy": {"blueGreen": {"activeService": "web",
 "previewService": "web-preview", "prePromotionAnalysis": {}, "postPromotionAnalysis": {},
@@ -35,19 +38,30 @@ ROLLOUT = """{"spec": {"replicas": 2, "strategy": {"blueGreen": {"activeService"
 
 
 class ControlledSwitch:
-    """A switch, endpoints of three revisions, and the folder of a plan whose analyses are the scripts `pre` and
-    `post`."""
+    """A switch, endpoints of three revisions, and the folder of a plan whose analyses are the
+    scripts `pre` and `post`."""
 
     def __init__(self, folder: str, redispatch: bool = False) -> None:
         self.folder = pathlib.Path(folder)
         self.ports = {name: free_ports(2) for name in ("one", "two", "three")}
-        self.endpoints = {port: Endpoint(by_target(name.encode()), port)
-                          for name, ports in self.ports.items() for port in ports}
-        self.switch = (Switch(ROLLOUT, instead_of_workers=("--concurrency", "8", "--redispatch")) if redispatch else
-                       Switch(ROLLOUT, workers=2, count=100))
+        self.endpoints = {
+            port: Endpoint(by_target(name.encode()), port)
+            for name, ports in self.ports.items()
+            for port in ports
+        }
+        self.switch = (
+            Switch(ROLLOUT, instead_of_workers=("--concurrency", "8", "--redispatch"))
+            if redispatch
+            else Switch(ROLLOUT, workers=2, count=100)
+        )
         # Without --redispatch, the first endpoints up to one that is down take requests.
-        self.plan = Plan(folder, self.switch.control, redispatch=redispatch, health={"path": "/", "interval": 0.3, "failures": 2},
-                         analyses={"pre": ["sh", "pre"], "post": ["sh", "post"]})
+        self.plan = Plan(
+            folder,
+            self.switch.control,
+            redispatch=redispatch,
+            health={"path": "/", "interval": 0.3, "failures": 2},
+            analyses={"pre": ["sh", "pre"], "post": ["sh", "post"]},
+        )
         self.write("pre", GOOD)
         self.write("post", GOOD)
 
@@ -78,12 +92,22 @@ class ControlledSwitch:
 
 
 def deploys(setup: ControlledSwitch) -> None:
-    setup.await_report("the first revision is opened", "revision 1 one desired 2 available 2 open 0 deadline none\n")
+    setup.await_report(
+        "the first revision is opened",
+        "revision 1 one desired 2 available 2 open 0 deadline none\n",
+    )
     setup.write_plan("one", "two")
-    setup.await_report("a deploy", "phase steady\n", "active 2\n", "stable 2\n",
-                       "revision 2 two desired 2 available 2 ")
+    setup.await_report(
+        "a deploy",
+        "phase steady\n",
+        "active 2\n",
+        "stable 2\n",
+        "revision 2 two desired 2 available 2 ",
+    )
     setup.check_active("live traffic has moved", (200, b"two"))
-    setup.await_report("the old one is scaled down", "revision 1 one desired 0 available 0 open 0 deadline none\n")
+    setup.await_report(
+        "the old one is scaled down", "revision 1 one desired 0 available 0 open 0 deadline none\n"
+    )
 
 
 def endpoints_die(setup: ControlledSwitch) -> None:
@@ -127,15 +151,36 @@ def operator_steps_in(setup: ControlledSwitch) -> None:
 def check_log(log: str) -> None:
     """What the controller has told of its orders."""
     lines = [LINE.fullmatch(line) for line in log.rstrip("\n").split("\n")]
-    check("each line has a time with its zone, and a moment once a book is open", None in lines, False)
+    check(
+        "each line has a time with its zone, and a moment once a book is open", None in lines, False
+    )
     told = [line["text"] for line in lines if line]
     replies = [text for text in told if " => " in text]
-    check("nothing was refused", [reply for reply in replies if "refused" in reply or "fault" in reply], [])
-    check("verdicts", [reply.split(" => ")[0] for reply in replies if reply.startswith("verdict")],
-          ["verdict pre successful", "verdict post successful", "verdict pre successful", "verdict post failed",
-           "verdict pre successful", "verdict post successful", "verdict pre successful", "verdict post successful"])
+    check(
+        "nothing was refused",
+        [reply for reply in replies if "refused" in reply or "fault" in reply],
+        [],
+    )
+    check(
+        "verdicts",
+        [reply.split(" => ")[0] for reply in replies if reply.startswith("verdict")],
+        [
+            "verdict pre successful",
+            "verdict post successful",
+            "verdict pre successful",
+            "verdict post failed",
+            "verdict pre successful",
+            "verdict post successful",
+            "verdict pre successful",
+            "verdict post successful",
+        ],
+    )
     moments = [int(line["moment"]) for line in lines if line and line["moment"]]
-    check("seconds are ticked", (moments == sorted(moments), moments[-1] - moments[0] > 5), (True, True))
+    check(
+        "seconds are ticked",
+        (moments == sorted(moments), moments[-1] - moments[0] > 5),
+        (True, True),
+    )
     check("no tick is told", [text for text in told if text.startswith("tick ")], [])
     check("what others ordered is told", "phase: preAnalysis -> aborted" in told, True)
 
@@ -144,7 +189,9 @@ def whole_run() -> None:
     with tempfile.TemporaryDirectory() as folder:
         setup = ControlledSwitch(folder)
         setup.write_plan("one")
-        controller = subprocess.Popen([CONTROLLER, setup.plan.path], stdout=subprocess.PIPE, text=True)
+        controller = subprocess.Popen(
+            [CONTROLLER, setup.plan.path], stdout=subprocess.PIPE, text=True
+        )
         try:
             for part in (deploys, endpoints_die, analysis_fails, operator_steps_in):
                 part(setup)
@@ -157,14 +204,16 @@ def whole_run() -> None:
 
 
 def outage_after_the_switch() -> None:
-    """All endpoints of the revision that has just gone live are killed while its analysis runs: live traffic goes back within
-    ten seconds, with the defaults of the plan."""
+    """All endpoints of the revision that has just gone live are killed while its analysis runs:
+    live traffic goes back within ten seconds, with the defaults of the plan."""
     with tempfile.TemporaryDirectory() as folder:
         setup = ControlledSwitch(folder)
         setup.plan.told.pop("health")
         setup.write("post", ENDLESS)
         setup.write_plan("one")
-        controller = subprocess.Popen([CONTROLLER, setup.plan.path], stdout=subprocess.PIPE, text=True)
+        controller = subprocess.Popen(
+            [CONTROLLER, setup.plan.path], stdout=subprocess.PIPE, text=True
+        )
         try:
             setup.await_report("it is open", "available 2 open 0 deadline none\n")
             setup.write_plan("one", "two")
@@ -179,26 +228,39 @@ def outage_after_the_switch() -> None:
             controller.send_signal(signal.SIGTERM)
             log = controller.communicate(timeout=WAIT)[0]
             setup.switch.kill()
-        check("it is told", ("no endpoint is up of revision 2 two, which is active" in log, "verdict post error => ok" in log), (True, True))
+        check(
+            "it is told",
+            (
+                "no endpoint is up of revision 2 two, which is active" in log,
+                "verdict post error => ok" in log,
+            ),
+            (True, True),
+        )
 
 
 def endpoints_die_one_by_one() -> None:
-    """The first of two endpoints is killed, then the second, then both, by a switch that passes over those that are down: a
-    request fails only while both are gone."""
+    """The first of two endpoints is killed, then the second, then both, by a switch that passes
+    over those that are down: a request fails only while both are gone."""
     with tempfile.TemporaryDirectory() as folder:
         setup = ControlledSwitch(folder, redispatch=True)
         setup.write_plan("two")
-        controller = subprocess.Popen([CONTROLLER, setup.plan.path], stdout=subprocess.PIPE, text=True)
+        controller = subprocess.Popen(
+            [CONTROLLER, setup.plan.path], stdout=subprocess.PIPE, text=True
+        )
         first, second = (setup.endpoints[port] for port in setup.ports["two"])
         try:
             setup.await_report("it is open", "revision 1 two desired 2 available 2 ")
             for killed, name in ((first, "first"), (second, "second")):
                 killed.stop()
                 setup.check_active(f"the {name} endpoint was killed just now", (200, b"two"), 20)
-                setup.await_report(f"the {name} endpoint was killed", "revision 1 two desired 2 available 1 ")
+                setup.await_report(
+                    f"the {name} endpoint was killed", "revision 1 two desired 2 available 1 "
+                )
                 setup.check_active(f"the {name} endpoint is known to be down", (200, b"two"), 20)
                 killed.start()
-                setup.await_report(f"the {name} endpoint is up again", "revision 1 two desired 2 available 2 ")
+                setup.await_report(
+                    f"the {name} endpoint is up again", "revision 1 two desired 2 available 2 "
+                )
             first.stop()
             second.stop()
             setup.await_report("both are down", "revision 1 two desired 2 available 0 ")
@@ -213,7 +275,8 @@ def endpoints_die_one_by_one() -> None:
 
 
 def launched_rollout() -> None:
-    """One edit of the plan, from no process to the end of the old ones: no request fails, though the controller is killed."""
+    """One edit of the plan, from no process to the end of the old ones: no request fails, though
+    the controller is killed."""
     with tempfile.TemporaryDirectory() as folder:
         setup = Launched(folder, SEED)
         try:
@@ -238,7 +301,9 @@ def launched_under_kills(rounds: int, kills: int) -> None:
             traffic = Traffic(setup.active)
             for number in range(2, 2 + rounds):
                 setup.name_last(f"web-v{number}")
-                setup.kill_at_random(kills, setup.kill_controller, setup.kill_switch, setup.kill_both)
+                setup.kill_at_random(
+                    kills, setup.kill_controller, setup.kill_switch, setup.kill_both
+                )
                 setup.await_settled(f"web-v{number}")
             traffic.stop()
             setup.check_traffic(traffic)
@@ -258,14 +323,34 @@ def launched_with_many_kills() -> None:
 def plans_that_are_wrong() -> None:
     with tempfile.TemporaryDirectory() as folder:
         plan = pathlib.Path(folder) / "plan.json"
-        for text in ("", "{}", "[]", '{"control": 1, "revisions": []}', '{"control": 1, "revisions": [{"name": "a"}]}'):
+        for text in (
+            "",
+            "{}",
+            "[]",
+            '{"control": 1, "revisions": []}',
+            '{"control": 1, "revisions": [{"name": "a"}]}',
+        ):
             plan.write_text(text, encoding="ascii")
             run = run_to_end([CONTROLLER, str(plan)], longest=WAIT)
-            check(f"the plan {text!r}", (run.printed, run.status, "is not a plan" in run.told), ("", 1, True))
+            check(
+                f"the plan {text!r}",
+                (run.printed, run.status, "is not a plan" in run.told),
+                ("", 1, True),
+            )
 
 
 if __name__ == "__main__":
     print(f"live_controller: seed {SEED}", flush=True)
-    checks.run("live_controller", [whole_run, plans_that_are_wrong, outage_after_the_switch, endpoints_die_one_by_one,
-                                   launched_rollout, launched_with_kills], 4,
-               by_hand=[launched_with_many_kills])
+    checks.run(
+        "live_controller",
+        [
+            whole_run,
+            plans_that_are_wrong,
+            outage_after_the_switch,
+            endpoints_die_one_by_one,
+            launched_rollout,
+            launched_with_kills,
+        ],
+        4,
+        by_hand=[launched_with_many_kills],
+    )

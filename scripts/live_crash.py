@@ -1,6 +1,6 @@
-"""What outlives a crash: the switch, the controller or both are killed while web-v2 is stable and web-v3 is in its
-pause, and web-v1 is gone. Started again, clients are answered by web-v2 within two seconds, and web-v3 is deployed
-again."""
+"""What outlives a crash: the switch, the controller or both are killed while web-v2 is stable and
+web-v3 is in its pause, and web-v1 is gone. Started again, clients are answered by web-v2 within two
+seconds, and web-v3 is deployed again."""
 import json
 import pathlib
 import subprocess
@@ -33,7 +33,9 @@ WATCHED = 3.0  # seconds for which clients ask after a start
 
 
 class Answer(NamedTuple):
-    """What a client of the active port was answered, and how many seconds after the switch listened."""
+    """What a client of the active port was answered, and how many seconds after the switch
+    listened."""
+
     after: float
     text: tuple[int, bytes] | None
 
@@ -50,7 +52,9 @@ class Process:
 
     def start(self) -> None:
         """Starts it, and waits for its first line, where it prints one at once."""
-        self.process = subprocess.Popen(self.words, stdin=subprocess.PIPE, stdout=subprocess.PIPE, text=True)
+        self.process = subprocess.Popen(
+            self.words, stdin=subprocess.PIPE, stdout=subprocess.PIPE, text=True
+        )
         processes.limit(self.process)
         assert self.process.stdin is not None and self.process.stdout is not None
         with self.process.stdin:
@@ -77,10 +81,15 @@ class Machine:
     def __init__(self, folder: str) -> None:
         self.state = pathlib.Path(folder) / "plan.json.state"
         self.ports = {name: free_ports(2) for name in NAMES}
-        self.endpoints = [Endpoint(by_target(name.encode()), port)
-                          for name, ports in self.ports.items() for port in ports]
+        self.endpoints = [
+            Endpoint(by_target(name.encode()), port)
+            for name, ports in self.ports.items()
+            for port in ports
+        ]
         self.active, preview, self.control = free_ports(3)
-        self.plan = Plan(folder, self.control, health={"interval": 0.2, "timeout": 1, "failures": 2})
+        self.plan = Plan(
+            folder, self.control, health={"interval": 0.2, "timeout": 1, "failures": 2}
+        )
         self.write_plan(2)
         words = [PROGRAM, *words_of_serve(self.active, self.control, preview, WORKERS, COUNT)]
         self.switch = Process(words, ROLLOUT, LISTENING)
@@ -98,14 +107,26 @@ class Machine:
 
     def is_at(self, phase: str, stable: str, newest: str) -> bool:
         report = self.report()
-        return report is not None and (report.phase, report.stable.name, report.newest.name) == (phase, stable, newest)
+        return report is not None and (report.phase, report.stable.name, report.newest.name) == (
+            phase,
+            stable,
+            newest,
+        )
 
     def bring_v3_to_its_pause(self) -> None:
         """web-v2 is stable, web-v3 is in its pause, and web-v1 is gone."""
-        check("web-v2 is in its pause", comes(lambda: self.is_at("paused", "web-v1", "web-v2"), WAIT), True)
+        check(
+            "web-v2 is in its pause",
+            comes(lambda: self.is_at("paused", "web-v1", "web-v2"), WAIT),
+            True,
+        )
         check("a promotion", ask(self.control, b"promote", WAIT)[0].startswith("ok "), True)
         self.write_plan(3)
-        check("web-v3 is in its pause", comes(lambda: self.is_at("paused", "web-v2", "web-v3"), WAIT), True)
+        check(
+            "web-v3 is in its pause",
+            comes(lambda: self.is_at("paused", "web-v2", "web-v3"), WAIT),
+            True,
+        )
         for endpoint in self.endpoints[:2]:
             endpoint.stop()
         check("the attempt is remembered", comes(self.remembers_attempt, WAIT), True)
@@ -117,7 +138,7 @@ class Machine:
     def cut_state(self) -> None:
         """Cuts the state file in the middle."""
         whole = self.state.read_bytes()
-        self.state.write_bytes(whole[:len(whole) // 2])
+        self.state.write_bytes(whole[: len(whole) // 2])
 
     def answers(self) -> list[Answer]:
         """What a client that asks without pause is answered, from now on and for a while."""
@@ -132,9 +153,16 @@ class Machine:
         answers = self.answers()
         check(f"{what}: the first answer", answers[0].text, (200, b"web-v2"))
         check_soon(f"{what}: the first answer", answers[0].after, SOON)
-        check(f"{what}: other answers", [answer for answer in answers if answer.text != (200, b"web-v2")], [])
-        check(f"{what}: web-v3 is in its pause again", comes(lambda: self.is_at("paused", "web-v2", "web-v3"), WAIT),
-              True)
+        check(
+            f"{what}: other answers",
+            [answer for answer in answers if answer.text != (200, b"web-v2")],
+            [],
+        )
+        check(
+            f"{what}: web-v3 is in its pause again",
+            comes(lambda: self.is_at("paused", "web-v2", "web-v3"), WAIT),
+            True,
+        )
 
     def end(self) -> None:
         self.switch.kill()
@@ -147,8 +175,14 @@ def switch_is_killed(machine: Machine) -> None:
     machine.switch.kill()
     machine.switch.start()
     machine.check_answers("the switch is killed")
-    check("it is told", (machine.controller.says("no book is open: it is opened with web-v2, which was stable"),
-                         machine.controller.says("the attempt of web-v3, which ran, is begun again")), (True, True))
+    check(
+        "it is told",
+        (
+            machine.controller.says("no book is open: it is opened with web-v2, which was stable"),
+            machine.controller.says("the attempt of web-v3, which ran, is begun again"),
+        ),
+        (True, True),
+    )
 
 
 def switch_is_killed_after_a_promote(machine: Machine) -> None:
@@ -157,9 +191,17 @@ def switch_is_killed_after_a_promote(machine: Machine) -> None:
     time.sleep(KNOWN)
     machine.switch.kill()
     machine.switch.start()
-    check("web-v3 is stable", comes(lambda: machine.is_at("steady", "web-v3", "web-v3"), WAIT), True)
-    check("the first answers", [clients.get(machine.active) for _ in range(5)], [(200, b"web-v3")] * 5)
-    check("it is told", machine.controller.says("no book is open: it is opened with web-v3, which was stable"), True)
+    check(
+        "web-v3 is stable", comes(lambda: machine.is_at("steady", "web-v3", "web-v3"), WAIT), True
+    )
+    check(
+        "the first answers", [clients.get(machine.active) for _ in range(5)], [(200, b"web-v3")] * 5
+    )
+    check(
+        "it is told",
+        machine.controller.says("no book is open: it is opened with web-v3, which was stable"),
+        True,
+    )
 
 
 def controller_is_killed(machine: Machine) -> None:
@@ -167,7 +209,11 @@ def controller_is_killed(machine: Machine) -> None:
     machine.controller.lines.clear()
     machine.controller.start()
     machine.check_answers("the controller is killed")
-    check("it goes on", comes(lambda: machine.controller.says("continues from the state file"), WAIT), True)
+    check(
+        "it goes on",
+        comes(lambda: machine.controller.says("continues from the state file"), WAIT),
+        True,
+    )
     check("nothing is deployed", machine.controller.says("deploy "), False)
 
 
@@ -211,5 +257,11 @@ def run_drill(kill: Callable[[Machine], None]) -> Callable[[], None]:
 
 
 if __name__ == "__main__":
-    DRILLS = (switch_is_killed, switch_is_killed_after_a_promote, controller_is_killed, both_are_killed, state_is_cut)
+    DRILLS = (
+        switch_is_killed,
+        switch_is_killed_after_a_promote,
+        controller_is_killed,
+        both_are_killed,
+        state_is_cut,
+    )
     checks.run("live_crash", list(map(run_drill, DRILLS)), 4)

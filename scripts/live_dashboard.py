@@ -1,5 +1,6 @@
-"""bin/dashboard before a running `serve`, looked at by a headless Chromium: a rollout that is played and read off the page,
-orders by its buttons, and orders by tricks. Pictures of each stage go into a folder that is named at the end."""
+"""bin/dashboard before a running `serve`, looked at by a headless Chromium: a rollout that is
+played and read off the page, orders by its buttons, and orders by tricks. Pictures of each stage go
+into a folder that is named at the end."""
 import contextlib
 import http.client
 import http.server
@@ -40,12 +41,16 @@ HOSTILE_NAME = "<img/src=x/onerror=window.taken=1><script>window.taken=1</script
 REBOUND = "rebound.example"
 DEMONSTRATION = TOP / "examples" / "live" / "bad_revision.py"
 LONGEST_DEMONSTRATION = 100
-MANY, SWITCHES = 15, 8  # revisions of a page that is full, and switches of the active service among them
+MANY, SWITCHES = (
+    15,
+    8,
+)  # revisions of a page that is full, and switches of the active service among them
 OUTLIER = 20_000.0  # milliseconds of one request, of which the others take 4
 
 
 class ShownSwitch(NamedTuple):
     """A switch with web-v1 open, whose traffic is logged, and its dashboard."""
+
     switch: Switch
     operator: Operator
     traffic: Traffic
@@ -94,7 +99,11 @@ def shown_switch(*words: str) -> Iterator[ShownSwitch]:
 
 
 def current_step(browser: Browser) -> str:
-    return str(browser.run("const step = document.querySelector('#steps [aria-current]'); return step ? step.dataset.step : ''"))
+    return str(
+        browser.run(
+            "const step = document.querySelector('#steps [aria-current]'); return step ? step.dataset.step : ''"
+        )
+    )
 
 
 def await_step(browser: Browser, name: str) -> None:
@@ -110,7 +119,10 @@ def bars(browser: Browser, selector: str) -> str:
 
 def fill(browser: Browser, kind: str) -> object:
     """The colour of bars of a kind that belong to the second revision."""
-    return browser.run("return getComputedStyle(document.querySelector('#requests .bar.r1' + arguments[0])).fill", kind)
+    return browser.run(
+        "return getComputedStyle(document.querySelector('#requests .bar.r1' + arguments[0])).fill",
+        kind,
+    )
 
 
 def open_page(browser: Browser, address: str) -> None:
@@ -127,7 +139,14 @@ def looks_at_a_deploy(browser: Browser, played: ShownSwitch) -> None:
     check("and moves on", comes(lambda: bars(browser, ".r0") not in ("", first)), True)
     played.deploy()
     await_step(browser, "scaling")
-    check_shown("a revision without endpoints", browser, "[data-revision=web-v2]", "web-v2", "newest", "0 of 2")
+    check_shown(
+        "a revision without endpoints",
+        browser,
+        "[data-revision=web-v2]",
+        "web-v2",
+        "newest",
+        "0 of 2",
+    )
     played.send("available 2 1", "ok 0")
     check_shown("one endpoint of two", browser, "[data-revision=web-v2]", "1 of 2")
     picture(browser, "1-scaling")
@@ -143,7 +162,11 @@ def looks_at_a_deploy(browser: Browser, played: ShownSwitch) -> None:
 def promotes_by_its_button(browser: Browser, played: ShownSwitch) -> None:
     browser.click("[data-order=promote]")
     check("a question comes first", browser.text("#question-title"), "Promote web-v2?")
-    check("and does nothing at a mere Enter", browser.run("return document.activeElement.id"), "cancel")
+    check(
+        "and does nothing at a mere Enter",
+        browser.run("return document.activeElement.id"),
+        "cancel",
+    )
     browser.screenshot(PICTURES / "3-question.png")
     browser.press("\ue00c")  # Escape
     is_open = browser.is_true("return document.getElementById('question').open")
@@ -157,7 +180,11 @@ def promotes_by_its_button(browser: Browser, played: ShownSwitch) -> None:
     check("live traffic has moved", ask(played.switch.active).revision, "web-v2")
     check("requests of the new revision", comes(lambda: bars(browser, ".r1.good") != ""), True)
     check("its errors", comes(lambda: bars(browser, ".server") != ""), True)
-    check("errors have a colour of their own", fill(browser, ".server") != fill(browser, ".good"), True)
+    check(
+        "errors have a colour of their own",
+        fill(browser, ".server") != fill(browser, ".good"),
+        True,
+    )
     check_shown("a mark at the switch", browser, "#durations .mark-text", "to web-v2")
     moved = "active: revision 1 web-v1 → revision 2 web-v2"
     check_shown("the switch in the list", browser, "#happened", moved, "promote => ok")
@@ -166,17 +193,30 @@ def promotes_by_its_button(browser: Browser, played: ShownSwitch) -> None:
 
 def shows_hostile_text(browser: Browser, played: ShownSwitch) -> None:
     ask(played.switch.active, HOSTILE)
-    check_shown("a target with a script, as text", browser, "#failed .target", "<script>window.taken=1</script>")
+    check_shown(
+        "a target with a script, as text",
+        browser,
+        "#failed .target",
+        "<script>window.taken=1</script>",
+    )
     check_no_element(browser)
     picture(browser, "4-errors")
 
 
 def aborts_by_its_button(browser: Browser, played: ShownSwitch) -> None:
     browser.click("[data-order=abort]")
-    check("the question of an abort", "back to web-v1, the stable revision" in browser.text("#question-text"), True)
+    check(
+        "the question of an abort",
+        "back to web-v1, the stable revision" in browser.text("#question-text"),
+        True,
+    )
     browser.click("#confirm")
     check_shown("an abort by its button", browser, "#phase", "Aborted", "web-v2")
-    check("the step that failed", browser.run("return document.querySelector('#steps .failed').dataset.step"), "postAnalysis")
+    check(
+        "the step that failed",
+        browser.run("return document.querySelector('#steps .failed').dataset.step"),
+        "postAnalysis",
+    )
     check("the switch was aborted", played.phase(), "aborted")
     check("live traffic is back", ask(played.switch.active).revision, "web-v1")
     check_shown("a mark at the abort", browser, "#requests .mark-text", "abort")
@@ -214,7 +254,13 @@ def when_the_switch_ends(browser: Browser, played: ShownSwitch) -> None:
     played.traffic.end()
     check("requests that failed by the switch", played.traffic.failed, 0)
     played.switch.kill()
-    check_shown("a switch that gives no answer", browser, "#alarm", "The switch gives no answer since", "can't be reached")
+    check_shown(
+        "a switch that gives no answer",
+        browser,
+        "#alarm",
+        "The switch gives no answer since",
+        "can't be reached",
+    )
     check("no order can be given then", browser.text("#orders button:enabled"), "")
     picture(browser, "8-no-answer")
 
@@ -223,7 +269,13 @@ def rollout(browser: Browser) -> None:
     """A rollout that the page shows and moves."""
     with shown_switch() as played:
         open_page(browser, played.address)
-        for step in (looks_at_a_deploy, promotes_by_its_button, shows_hostile_text, aborts_by_its_button, by_keyboard):
+        for step in (
+            looks_at_a_deploy,
+            promotes_by_its_button,
+            shows_hostile_text,
+            aborts_by_its_button,
+            by_keyboard,
+        ):
             step(browser, played)
         in_other_windows(browser)
         when_the_switch_ends(browser, played)
@@ -236,35 +288,74 @@ def outage(browser: Browser) -> None:
         played.traffic.start()
         check("a chart of requests moves", comes(lambda: bars(browser, ".r0") != ""), True)
         played.send("available 1 0", "ok 0")
-        check_shown("an alarm in words", browser, "#alarm", "No endpoint of web-v1 is up", "answered 503")
+        check_shown(
+            "an alarm in words", browser, "#alarm", "No endpoint of web-v1 is up", "answered 503"
+        )
         check_shown("beside the phase", browser, "#phase-name", "Steady, and no endpoint is up")
-        good = browser.run("return getComputedStyle(document.documentElement).getPropertyValue('--good')")
+        good = browser.run(
+            "return getComputedStyle(document.documentElement).getPropertyValue('--good')"
+        )
         painted = "return getComputedStyle(document.querySelector('#steps .done .dot')).getPropertyValue('background-color')"
-        browser.run("document.body.insertAdjacentElement('beforeend', document.createElement('i')).style.color = arguments[0]", good)
+        browser.run(
+            "document.body.insertAdjacentElement('beforeend', document.createElement('i')).style.color = arguments[0]",
+            good,
+        )
         green = browser.run("return getComputedStyle(document.querySelector('body > i')).color")
         check("no step is green", browser.run(painted) != green, True)
         check_shown("the service", browser, "[data-service=active] .bad", "no endpoint is up")
-        check("errors of the revision", comes(lambda: browser.text("[data-revision=web-v1] .bad").count("%") > 0), True)
+        check(
+            "errors of the revision",
+            comes(lambda: browser.text("[data-revision=web-v1] .bad").count("%") > 0),
+            True,
+        )
         time.sleep(4)  # so that the picture has slots without an answer
         picture(browser, "10-no-endpoint")
         played.send("available 1 2", "ok 0")
-        check("the alarm ends", comes(lambda: browser.is_true("return document.getElementById('alarm').hidden")), True)
+        check(
+            "the alarm ends",
+            comes(lambda: browser.is_true("return document.getElementById('alarm').hidden")),
+            True,
+        )
         check_shown("a steady phase", browser, "#phase-name", "Steady")
-        check_shown("each endpoint's requests", browser, "[data-revision=web-v1] .ports", *map(str, played.ports["web-v1"]))
+        check_shown(
+            "each endpoint's requests",
+            browser,
+            "[data-revision=web-v1] .ports",
+            *map(str, played.ports["web-v1"]),
+        )
 
 
 def crowded_report(active: int) -> list[str]:
     """A report of many revisions, of which the active service selects one."""
-    return ["moment 1", "phase steady", f"active {active}", f"preview {active}", "stable 1", f"newest {MANY}",
-            *(f"revision {number} web-v{number} desired 2 available 2 open 0 deadline none" for number in range(1, MANY + 1)), "end"]
+    return [
+        "moment 1",
+        "phase steady",
+        f"active {active}",
+        f"preview {active}",
+        "stable 1",
+        f"newest {MANY}",
+        *(
+            f"revision {number} web-v{number} desired 2 available 2 open 0 deadline none"
+            for number in range(1, MANY + 1)
+        ),
+        "end",
+    ]
 
 
 def fill_log(log: GrowingLog) -> None:
-    """Requests of each revision in each of the last seconds, and one that took much longer than all others."""
+    """Requests of each revision in each of the last seconds, and one that took much longer than all
+    others."""
     now = time.time()
     for second in range(50, 0, -1):
-        log.add([ANSWERED._replace(time=now - second, revision=number, status=500 if number == 2 else 200)
-                 for number in range(1, MANY + 1) for _ in range(3)])
+        log.add(
+            [
+                ANSWERED._replace(
+                    time=now - second, revision=number, status=500 if number == 2 else 200
+                )
+                for number in range(1, MANY + 1)
+                for _ in range(3)
+            ]
+        )
     log.add([ANSWERED._replace(time=now - 20, revision=3, duration_ms=OUTLIER)])
 
 
@@ -283,12 +374,17 @@ def crowded(browser: Browser) -> None:
     def report(_: str) -> list[str]:
         moved.append(len(moved) % SWITCHES + 1 if len(moved) < 2 * SWITCHES else 1)
         return crowded_report(moved[-1])
+
     with tempfile.TemporaryDirectory() as folder, FakePort(report, free_port()) as control:
         log = GrowingLog(pathlib.Path(folder) / "access.log")
         fill_log(log)
         with showing(control.port, free_port(), "--log", str(log.path)) as address:
             open_page(browser, address)
-            check("marks of switches", comes(lambda: browser.text("#requests .mark-text").count("to web-v") > 2), True)
+            check(
+                "marks of switches",
+                comes(lambda: browser.text("#requests .mark-text").count("to web-v") > 2),
+                True,
+            )
             comes(lambda: len(moved) > 2 * SWITCHES + 4)
             check("texts of marks that overlap", browser.run(OVERLAPS), 0)
             check("colours", browser.run(COLOURS), MANY)
@@ -334,7 +430,8 @@ class QuietHandler(http.server.BaseHTTPRequestHandler):
 
 
 def tricks(browser: Browser) -> None:
-    """Neither a page of another site nor one whose name was led to this machine reads or orders anything."""
+    """Neither a page of another site nor one whose name was led to this machine reads or orders
+    anything."""
     other = http.server.ThreadingHTTPServer((HOST, free_port()), QuietHandler)
     threading.Thread(target=other.serve_forever, daemon=True).start()
     with shown_switch() as played:
@@ -343,25 +440,52 @@ def tricks(browser: Browser) -> None:
         check("a page of another site", browser.run_later(ATTACK), ["refused"] * 5)
         check("has ordered nothing", played.phase(), "paused")
         browser.open(played.address.replace(HOST, REBOUND))
-        check("a name that leads here", "reached by the name localhost" in browser.text("body"), True)
-        check("reads and orders nothing", (browser.run_later(REBOUND_ATTACK), played.phase()), ([403] * 4, "paused"))
+        check(
+            "a name that leads here", "reached by the name localhost" in browser.text("body"), True
+        )
+        check(
+            "reads and orders nothing",
+            (browser.run_later(REBOUND_ATTACK), played.phase()),
+            ([403] * 4, "paused"),
+        )
         browser.open(played.address)
         comes(lambda: current_step(browser) == "paused")
-        asks = "const done = arguments[arguments.length - 1]; fetch('api/order', {method: 'POST', headers: {'X-Token': 'x'}, " \
-               "body: '{\"order\": \"abort\", \"revision\": 2}'}).then((answer) => done(answer.status))"
-        check("an order without the token", (browser.run_later(asks), played.phase()), (403, "paused"))
+        asks = (
+            "const done = arguments[arguments.length - 1]; fetch('api/order', {method: 'POST', headers: {'X-Token': 'x'}, "
+            'body: \'{"order": "abort", "revision": 2}\'}).then((answer) => done(answer.status))'
+        )
+        check(
+            "an order without the token", (browser.run_later(asks), played.phase()), (403, "paused")
+        )
     other.shutdown()
 
 
 def hostile_names(browser: Browser) -> None:
-    """A name of a revision that no switch would take is text as well, and each object of JavaScript has a `constructor`."""
-    lines = ["moment 1", "phase paused", "active 1", "preview 2", "stable 1", "newest 2",
-             "revision 1 constructor desired 2 available 2 open 0 deadline none",
-             f"revision 2 {HOSTILE_NAME} desired 2 available 2 open 0 deadline none", "end"]
-    with FakePort(lambda _: lines, free_port()) as control, showing(control.port, free_port()) as address:
+    """A name of a revision that no switch would take is text as well, and each object of JavaScript
+    has a `constructor`."""
+    lines = [
+        "moment 1",
+        "phase paused",
+        "active 1",
+        "preview 2",
+        "stable 1",
+        "newest 2",
+        "revision 1 constructor desired 2 available 2 open 0 deadline none",
+        f"revision 2 {HOSTILE_NAME} desired 2 available 2 open 0 deadline none",
+        "end",
+    ]
+    with FakePort(lambda _: lines, free_port()) as control, showing(
+        control.port, free_port()
+    ) as address:
         open_page(browser, address)
         check_shown("a name with a script, as text", browser, "#revisions", HOSTILE_NAME)
-        check_shown("a revision named constructor, without requests", browser, "[data-revision=constructor]", "constructor", "–")
+        check_shown(
+            "a revision named constructor, without requests",
+            browser,
+            "[data-revision=constructor]",
+            "constructor",
+            "–",
+        )
         browser.click("[data-order=abort]")
         check_shown("and in a question", browser, "#question-title", HOSTILE_NAME)
         check_no_element(browser)
@@ -379,8 +503,10 @@ def in_a_browser() -> None:
                 part(browser)
             print(f"pictures of the page are in {PICTURES}")
     except NoBrowser as reason:
-        print(f"live_dashboard: no browser can be had, so the page is not looked at: {reason}. "
-              "On Debian: apt-get install chromium chromium-driver")
+        print(
+            f"live_dashboard: no browser can be had, so the page is not looked at: {reason}. "
+            "On Debian: apt-get install chromium chromium-driver"
+        )
 
 
 def over_http() -> None:
@@ -394,24 +520,49 @@ def over_http() -> None:
         def asked(path: str, method: str = "GET") -> tuple[int, str]:
             connection = http.client.HTTPConnection(HOST, port, timeout=10)
             with contextlib.closing(connection):
-                connection.request(method, path, headers={"Origin": f"http://{HOST}:{port}", "X-Token": "x"})
+                connection.request(
+                    method, path, headers={"Origin": f"http://{HOST}:{port}", "X-Token": "x"}
+                )
                 answer = connection.getresponse()
                 return answer.status, answer.read().decode()
+
         expected = 'bg_switch_http_requests_total{revision="web-v1",service="active",status="2xx"}'
         check("metrics of traffic", comes(lambda: expected in asked("/metrics")[1]), True)
-        check("metrics of the report", 'bg_switch_replicas_available{revision="web-v1"} 2.0' in asked("/metrics")[1], True)
+        check(
+            "metrics of the report",
+            'bg_switch_replicas_available{revision="web-v1"} 2.0' in asked("/metrics")[1],
+            True,
+        )
         report = json.loads(asked("/api/state")[1])["report"]
         check("the state", (report["phase"], report["revisions"][0]["available"]), ("steady", 2))
         played.pause()
-        check("an order to one that only reads", (asked("/api/order", "POST")[0], played.phase()), (403, "paused"))
+        check(
+            "an order to one that only reads",
+            (asked("/api/order", "POST")[0], played.phase()),
+            (403, "paused"),
+        )
 
 
 def demonstration() -> None:
-    """A revision that answers some requests with 500 goes live, and is taken back by its analysis."""
-    run = subprocess.run([sys.executable, "-B", str(DEMONSTRATION)], capture_output=True, text=True,
-                         timeout=widened(LONGEST_DEMONSTRATION), check=False)
-    check("the demonstration's status", (run.returncode, run.stderr if run.returncode else ""), (0, ""))
-    for text in ("verdict post failed => ok", "phase: postAnalysis -> aborted", "requests that failed by the switch itself: 0"):
+    """A revision that answers some requests with 500 goes live, and is taken back by its
+    analysis."""
+    run = subprocess.run(
+        [sys.executable, "-B", str(DEMONSTRATION)],
+        capture_output=True,
+        text=True,
+        timeout=widened(LONGEST_DEMONSTRATION),
+        check=False,
+    )
+    check(
+        "the demonstration's status",
+        (run.returncode, run.stderr if run.returncode else ""),
+        (0, ""),
+    )
+    for text in (
+        "verdict post failed => ok",
+        "phase: postAnalysis -> aborted",
+        "requests that failed by the switch itself: 0",
+    ):
         check(f"the demonstration tells {text}", text in run.stdout, True)
 
 

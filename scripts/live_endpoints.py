@@ -1,5 +1,5 @@
-"""The endpoints of a running `serve`: connects that hang, endpoints that are silent for long, revisions whose port is
-one of the switch's own, and revisions one of whose endpoints is sick."""
+"""The endpoints of a running `serve`: connects that hang, endpoints that are silent for long,
+revisions whose port is one of the switch's own, and revisions one of whose endpoints is sick."""
 import concurrent.futures
 import contextlib
 import json
@@ -15,15 +15,26 @@ from typing import NamedTuple
 from support import checks, clients
 from support.checks import check, check_beside, check_soon, check_within, comes
 from support.clients import Timed, at_once, timed
-from support.endpoints import (CUT_HEAD, Answer, Endpoint, EndpointProcess, Request, by_target, full_backlog,
-                               full_listener, in_pieces, reset_at_once)
+from support.endpoints import (
+    CUT_HEAD,
+    Answer,
+    Endpoint,
+    EndpointProcess,
+    Request,
+    by_target,
+    full_backlog,
+    full_listener,
+    in_pieces,
+    reset_at_once,
+)
 from support.messages import BAD_GATEWAY, ROLLOUT, answer, request, response
 from support.pace import slowness
 from support.ports import free_ports
 from support.switch import LISTENING, TIMEOUT_VARIABLE, LaterEnd, Switch, serving
 from support.traffic import prepared_log
 
-# How long, in seconds, a connect takes at most, and how long an endpoint may be silent, unless the timeout is longer.
+# How long, in seconds, a connect takes at most, and how long an endpoint may be silent, unless the
+# timeout is longer.
 CONNECT = 5
 SILENCE = 30
 # Silences of one response, in seconds: each is below the limit, and their sum is above it.
@@ -31,8 +42,8 @@ SILENCES, EACH_SILENCE = 3, 12
 # What a wait may take, in seconds, beyond its limit: the machine may be busy.
 SLACK = 4.0
 SOON = 2.0
-# After how many seconds an endpoint begins to accept. The system tries a connect again after one second and after
-# three.
+# After how many seconds an endpoint begins to accept. The system tries a connect again after one
+# second and after three.
 BEGINS, CONNECTED = 1.5, 3
 
 
@@ -44,7 +55,8 @@ def check_gateway(name: str, got: Timed, least: float, most: float) -> None:
 
 
 def connects_that_hang() -> None:
-    """A connect to an endpoint whose backlog is full takes 5 seconds at most, and its worker is free again."""
+    """A connect to an endpoint whose backlog is full takes 5 seconds at most, and its worker is
+    free again."""
     with full_backlog() as port, serving(port, workers=3) as switch:
         for got in at_once([partial(timed, switch.active)] * 6):
             check_gateway("a connect that hangs", got, CONNECT - 0.5, 2 * CONNECT + SLACK)
@@ -72,7 +84,11 @@ def asked_of_late_endpoint(answer_by: Answer, timeout: int) -> Timed:
 def connects_in_time() -> None:
     """An endpoint whose backlog has room again within 5 seconds is connected to."""
     got = asked_of_late_endpoint(by_target(b"late"), 40)
-    check("a connect that hangs for a while", (got.answer, got.seconds > BEGINS), (answer(b"late"), True))
+    check(
+        "a connect that hangs for a while",
+        (got.answer, got.seconds > BEGINS),
+        (answer(b"late"), True),
+    )
 
 
 def timeout_begins_before_the_connect() -> None:
@@ -80,12 +96,19 @@ def timeout_begins_before_the_connect() -> None:
     endless = in_pieces([response(bytes(1000))[:-1000], *[b"x"] * 1000], 0.3)
     later = LaterEnd(timeout + CONNECTED - 1)
     got = asked_of_late_endpoint(endless, timeout)
-    check_gateway("a response without end behind a connect that hung", got, timeout - 0.5, timeout + 2.5)
-    check("it has ended before one whose timeout began with the connection", later.is_after(got.seconds), True)
+    check_gateway(
+        "a response without end behind a connect that hung", got, timeout - 0.5, timeout + 2.5
+    )
+    check(
+        "it has ended before one whose timeout began with the connection",
+        later.is_after(got.seconds),
+        True,
+    )
 
 
 def own_ports() -> None:
-    """A request whose endpoint is a port of the switch itself is answered 502 at once, and isn't sent there."""
+    """A request whose endpoint is a port of the switch itself is answered 502 at once, and isn't
+    sent there."""
     for name in ("active", "preview", "control"):
         switch = Switch(ROLLOUT, workers=3, timeout=40)
         check("listening", switch.first, LISTENING)
@@ -97,13 +120,17 @@ def own_ports() -> None:
             got = timed(client_port, [request(b"/", b"POST", lines)])
             check_gateway(f"the {name} port as an endpoint", got, 0, SOON)
         with contextlib.closing(switch.operator()) as operator:
-            check(f"no line of a client is carried out: the {name} port as an endpoint",
-                  (list(operator.state().revisions), operator.open_requests()), ([1], [0]))
+            check(
+                f"no line of a client is carried out: the {name} port as an endpoint",
+                (list(operator.state().revisions), operator.open_requests()),
+                ([1], [0]),
+            )
         switch.stop()
 
 
 def silent_for(seconds: float) -> Answer:
     """Answers after so many seconds."""
+
     def answer_late(_: Request, connection: socket.socket) -> None:
         time.sleep(seconds)
         connection.sendall(response(b"late"))
@@ -114,25 +141,36 @@ def silent_for(seconds: float) -> Answer:
 def silence() -> None:
     """Without a timeout an endpoint may be silent for 30 seconds."""
     with serving(Endpoint(silent_for(SILENCE + 20)).port) as switch:
-        check_gateway("an endpoint that is silent for more than 30 seconds", timed(switch.active), SILENCE - 1,
-                      SILENCE + SLACK)
+        check_gateway(
+            "an endpoint that is silent for more than 30 seconds",
+            timed(switch.active),
+            SILENCE - 1,
+            SILENCE + SLACK,
+        )
 
 
 def silences() -> None:
-    """An endpoint may be silent for 30 seconds each time, and not in all: its response comes in pieces."""
+    """An endpoint may be silent for 30 seconds each time, and not in all: its response comes in
+    pieces."""
     whole = response(b"late")
     pieces = [b"", whole[:20], whole[20:-2], whole[-2:]]
     with serving(Endpoint(in_pieces(pieces, EACH_SILENCE)).port) as switch:
         got = timed(switch.active)
-    check("an endpoint that is silent for 12 seconds three times",
-          (got.answer, got.seconds >= SILENCES * EACH_SILENCE), (answer(b"late"), True))
+    check(
+        "an endpoint that is silent for 12 seconds three times",
+        (got.answer, got.seconds >= SILENCES * EACH_SILENCE),
+        (answer(b"late"), True),
+    )
 
 
 def answered_after(seconds: int, timeout: int) -> None:
     with serving(Endpoint(silent_for(seconds)).port, timeout=timeout) as switch:
         got = timed(switch.active)
-    check(f"a silence of {seconds} seconds within a timeout of {timeout}", (got.answer, got.seconds >= seconds),
-          (answer(b"late"), True))
+    check(
+        f"a silence of {seconds} seconds within a timeout of {timeout}",
+        (got.answer, got.seconds >= seconds),
+        (answer(b"late"), True),
+    )
 
 
 def silence_within_the_timeout() -> None:
@@ -147,8 +185,12 @@ def long_silence() -> None:
 
 def silence_past_the_timeout() -> None:
     with serving(Endpoint(silent_for(60)).port, timeout=33) as switch:
-        check_gateway("an endpoint that is silent for more than a timeout of 33 seconds", timed(switch.active), 32,
-                      33 + SLACK)
+        check_gateway(
+            "an endpoint that is silent for more than a timeout of 33 seconds",
+            timed(switch.active),
+            32,
+            33 + SLACK,
+        )
 
 
 def timeouts() -> None:
@@ -159,7 +201,9 @@ def timeouts() -> None:
             if is_good:
                 check(f"a timeout of {timeout} is good", switch.told, [])
             else:
-                check(f"a timeout of {timeout} is told", switch.tells(TIMEOUT_VARIABLE, "3600"), True)
+                check(
+                    f"a timeout of {timeout} is told", switch.tells(TIMEOUT_VARIABLE, "3600"), True
+                )
 
 
 # A revision of two endpoints, and the words by which the switch asks another one than the slot's.
@@ -168,14 +212,17 @@ REDISPATCH = ("--redispatch",)
 CONCURRENCY = 64
 # Requests a second, for how many seconds, and after how many of them the endpoint becomes sick.
 RATE, LASTS, SICK_AFTER = 100, 8.0, 1.0
-# The timeout of a response here, in seconds, and what a request takes at most that isn't at a sick endpoint.
+# The timeout of a response here, in seconds, and what a request takes at most that isn't at a sick
+# endpoint.
 SHORT_TIMEOUT = 4
 PROMPT = 1.5
 ONE, OTHER = answer(b"one"), answer(b"two")
 
 
 class Sent(NamedTuple):
-    """A request: after how many seconds of the traffic it began, what it was answered, and how long that took."""
+    """A request: after how many seconds of the traffic it began, what it was answered, and how long
+    that took."""
+
     begun: float
     answer: bytes
     seconds: float
@@ -188,7 +235,8 @@ def sent(port: int, start: float) -> Sent:
 
 
 def traffic(port: int, become_sick: Callable[[], object], lasts: float = LASTS) -> list[Sent]:
-    """So many requests a second, whatever becomes of those before. An endpoint becomes sick after a while."""
+    """So many requests a second, whatever becomes of those before. An endpoint becomes sick after a
+    while."""
     start = time.monotonic()
     with concurrent.futures.ThreadPoolExecutor(4 * CONCURRENCY) as pool:
         timer = threading.Timer(SICK_AFTER, become_sick)
@@ -202,11 +250,20 @@ def traffic(port: int, become_sick: Callable[[], object], lasts: float = LASTS) 
 
 
 @contextlib.contextmanager
-def serving_two(ports: Sequence[int], options: Sequence[str] = REDISPATCH, variables: Mapping[str, str] | None = None,
-                timeout: int | None = SHORT_TIMEOUT, available: int = 2) -> Iterator[Switch]:
+def serving_two(
+    ports: Sequence[int],
+    options: Sequence[str] = REDISPATCH,
+    variables: Mapping[str, str] | None = None,
+    timeout: int | None = SHORT_TIMEOUT,
+    available: int = 2,
+) -> Iterator[Switch]:
     """A switch whose first revision has two endpoints, of which so many are available."""
-    switch = Switch(TWO, instead_of_workers=("--concurrency", str(CONCURRENCY), *options), timeout=timeout,
-                    variables=variables)
+    switch = Switch(
+        TWO,
+        instead_of_workers=("--concurrency", str(CONCURRENCY), *options),
+        timeout=timeout,
+        variables=variables,
+    )
     check("listening", switch.first, LISTENING)
     for line in (f"open one {ports[0]} {ports[1]}", f"available 1 {available}"):
         check(line, switch.answer_to(line), "ok 0")
@@ -226,13 +283,15 @@ def failed(all_sent: Sequence[Sent]) -> list[Sent]:
 
 
 def check_prompt(name: str, some: Sequence[Sent], all_sent: Sequence[Sent]) -> None:
-    """Checks that these requests are prompt, beside those of the same run that ended before the endpoint became sick."""
+    """Checks that these requests are prompt, beside those of the same run that ended before the
+    endpoint became sick."""
     before = [one.seconds for one in all_sent if one.begun + one.seconds < SICK_AFTER]
     check_beside(name, [one.seconds for one in some], before, PROMPT)
 
 
 def killed_one(place: int) -> None:
-    """One of two endpoints is killed under traffic: no request fails that begins afterwards, and each is prompt."""
+    """One of two endpoints is killed under traffic: no request fails that begins afterwards, and
+    each is prompt."""
     both = two_processes()
     name = f"{('the first', 'the second')[place]} of two endpoints is killed"
     with serving_two([one.port for one in both]) as switch:
@@ -241,7 +300,11 @@ def killed_one(place: int) -> None:
     check(f"{name}: no later request fails", late, [])
     check(f"{name}: few fail that were there", len(failed(all_sent)) <= RATE // 5, True)
     check_prompt(f"{name}: each is prompt", all_sent, all_sent)
-    check_within(f"{name}: none waits for the timeout", max(one.seconds for one in all_sent), SHORT_TIMEOUT - 0.5)
+    check_within(
+        f"{name}: none waits for the timeout",
+        max(one.seconds for one in all_sent),
+        SHORT_TIMEOUT - 0.5,
+    )
     both[1 - place].kill()
 
 
@@ -254,7 +317,8 @@ def killed_second() -> None:
 
 
 def killed_both() -> None:
-    """With both endpoints killed each answer is 502, at once; an endpoint that comes back is asked at once."""
+    """With both endpoints killed each answer is 502, at once; an endpoint that comes back is asked
+    at once."""
     both = two_processes()
     with serving_two([one.port for one in both]) as switch:
         for one in both:
@@ -269,28 +333,46 @@ def killed_both() -> None:
 
 def most_at_once(asked: Sequence[Sent]) -> int:
     """How many of these requests were open at a time at most."""
-    return max((sum(other.begun <= one.begun < other.begun + other.seconds for other in asked) for one in asked),
-               default=0)
+    return max(
+        (
+            sum(other.begun <= one.begun < other.begun + other.seconds for other in asked)
+            for one in asked
+        ),
+        default=0,
+    )
 
 
 def check_sick(name: str, all_sent: Sequence[Sent]) -> None:
-    """Checks that only requests failed that were at an endpoint that is silent, and that the others were prompt. Its
-    share is half of the workers. While a busy machine lets the other one be at its own share too, it may get more, and
-    requests wait for workers, so they are not counted there."""
+    """Checks that only requests failed that were at an endpoint that is silent, and that the others
+    were prompt. Its share is half of the workers. While a busy machine lets the other one be at its
+    own share too, it may get more, and requests wait for workers, so they are not counted there."""
     bad = failed(all_sent)
     check(f"{name}: some requests were at it", bool(bad), True)
-    check(f"{name}: only requests that were at it fail", [one for one in bad if one.seconds < SHORT_TIMEOUT - 0.5], [])
+    check(
+        f"{name}: only requests that were at it fail",
+        [one for one in bad if one.seconds < SHORT_TIMEOUT - 0.5],
+        [],
+    )
     if slowness() < 1.5:
-        check_within(f"{name}: workers that wait for it, which leaves some to the other one", most_at_once(bad), CONCURRENCY * 3 // 4)
+        check_within(
+            f"{name}: workers that wait for it, which leaves some to the other one",
+            most_at_once(bad),
+            CONCURRENCY * 3 // 4,
+        )
     others = [one for one in all_sent if one not in bad]
     check_prompt(f"{name}: the others are prompt", others, all_sent)
     if slowness() < 1.5:
         shortest = min((one.seconds for one in bad), default=0.0)
-        check_within(f"{name}: the others end before those at it", max(one.seconds for one in others), shortest)
+        check_within(
+            f"{name}: the others end before those at it",
+            max(one.seconds for one in others),
+            shortest,
+        )
 
 
 def stopped() -> None:
-    """An endpoint that is stopped accepts connections by its backlog. It takes half of the workers at most."""
+    """An endpoint that is stopped accepts connections by its backlog. It takes half of the workers
+    at most."""
     both = two_processes()
     with serving_two([one.port for one in both]) as switch:
         all_sent = traffic(switch.active, both[0].stop)
@@ -331,17 +413,30 @@ def silent_after_the_head() -> None:
 
 
 def resets() -> None:
-    """A request of which the endpoint has got a byte is sent to no other one: it fails, and is counted once."""
+    """A request of which the endpoint has got a byte is sent to no other one: it fails, and is
+    counted once."""
     all_sent, first, second = sick_by(reset_at_once, 4.0)
     answered = [one for one in all_sent if one.answer in (ONE, OTHER)]
-    check("an endpoint that resets: each request is sent once", first.served + second.served, len(all_sent))
-    check("an endpoint that resets: those of the other one are answered",
-          sum(one.answer == OTHER for one in answered), second.served)
-    check("an endpoint that resets: its requests fail", {one.answer for one in failed(all_sent)}, {BAD_GATEWAY})
+    check(
+        "an endpoint that resets: each request is sent once",
+        first.served + second.served,
+        len(all_sent),
+    )
+    check(
+        "an endpoint that resets: those of the other one are answered",
+        sum(one.answer == OTHER for one in answered),
+        second.served,
+    )
+    check(
+        "an endpoint that resets: its requests fail",
+        {one.answer for one in failed(all_sent)},
+        {BAD_GATEWAY},
+    )
 
 
 def slow() -> None:
     """An endpoint that is slow fails no request."""
+
     def answer_slowly(_: Request, connection: socket.socket) -> None:
         time.sleep(1.0)
         connection.sendall(response(b"one"))
@@ -351,7 +446,8 @@ def slow() -> None:
 
 
 def slots_stay() -> None:
-    """While both endpoints are well, each request is sent to its slot, with redispatch and without it."""
+    """While both endpoints are well, each request is sent to its slot, with redispatch and without
+    it."""
     first, second = Endpoint(by_target(b"one")), Endpoint(by_target(b"two"))
     for options in ((), REDISPATCH):
         with serving_two([first.port, second.port], options) as switch:
@@ -369,7 +465,8 @@ def without_redispatch() -> None:
 
 
 def port_of_two_revisions() -> None:
-    """A port that two revisions have is asked for its own slot alone, and there is no redispatch for it."""
+    """A port that two revisions have is asked for its own slot alone, and there is no redispatch
+    for it."""
     first, second, third = (Endpoint(by_target(name)) for name in (b"one", b"two", b"three"))
     first.stop()
     with serving_two([first.port, second.port]) as switch:
@@ -380,7 +477,8 @@ def port_of_two_revisions() -> None:
 
 
 def logged() -> None:
-    """The log has the port that was dialled last, the slot's where it differs, and the number of tries."""
+    """The log has the port that was dialled last, the slot's where it differs, and the number of
+    tries."""
     first, second = Endpoint(by_target(b"one")), Endpoint(by_target(b"two"))
     first.stop()
     with tempfile.TemporaryDirectory() as folder:
@@ -390,9 +488,11 @@ def logged() -> None:
                 timed(switch.active)
             comes(lambda: path.read_bytes().count(b"\n") >= 2)
             lines = [json.loads(line) for line in path.read_text(encoding="utf-8").splitlines()]
-    check("the port, the slot's port and the tries of a log",
-          [(line["port"], line.get("slot_port"), line.get("tries")) for line in lines],
-          [(second.port, None, 1), (second.port, first.port, 2)])
+    check(
+        "the port, the slot's port and the tries of a log",
+        [(line["port"], line.get("slot_port"), line.get("tries")) for line in lines],
+        [(second.port, None, 1), (second.port, first.port, 2)],
+    )
 
 
 def marked_is_asked_last() -> None:
@@ -403,19 +503,32 @@ def marked_is_asked_last() -> None:
         got = [timed(switch.active).answer for _ in range(2)]
         check("a connect that fails is repeated elsewhere", got, [OTHER] * 2)
         first.start()
-        check("a marked endpoint is not asked", [timed(switch.active).answer for _ in range(4)], [OTHER] * 4)
+        check(
+            "a marked endpoint is not asked",
+            [timed(switch.active).answer for _ in range(4)],
+            [OTHER] * 4,
+        )
         time.sleep(1.2)
-        check("an endpoint whose mark has ended is asked", ONE in {timed(switch.active).answer for _ in range(2)}, True)
+        check(
+            "an endpoint whose mark has ended is asked",
+            ONE in {timed(switch.active).answer for _ in range(2)},
+            True,
+        )
 
 
 def down() -> None:
-    """An endpoint that is down by a line of the operator gets no request while another one takes them."""
+    """An endpoint that is down by a line of the operator gets no request while another one takes
+    them."""
     first, second = Endpoint(by_target(b"one")), Endpoint(by_target(b"two"))
     with serving_two([first.port, second.port]) as switch:
         check("down", switch.answer_to(f"down {first.port}").split()[0], "ok")
         check("an endpoint that is down", {timed(switch.active).answer for _ in range(6)}, {OTHER})
         check("the other is down", switch.answer_to(f"down {second.port}").split()[0], "ok")
-        check("the other one is down in its place", {timed(switch.active).answer for _ in range(6)}, {ONE})
+        check(
+            "the other one is down in its place",
+            {timed(switch.active).answer for _ in range(6)},
+            {ONE},
+        )
 
 
 class Held:
@@ -439,13 +552,14 @@ def answers_of(switch: Switch, count: int = 6) -> set[bytes]:
     return {timed(switch.active).answer for _ in range(count)}
 
 
-# How many requests an endpoint gets at a time while another one is free, and how many come in a row.
+# How many requests an endpoint gets at a time while another one is free, and how many come in a
+# row.
 LIMIT, IN_A_ROW = 4, 16
 
 
 def check_share(name: str, switch: Switch, holds: Endpoint, other: Endpoint) -> None:
-    """Checks the share of an endpoint that holds its requests: each other request is its slot's, and comes after the one before
-    is answered or held."""
+    """Checks the share of an endpoint that holds its requests: each other request is its slot's,
+    and comes after the one before is answered or held."""
     before = holds.served, other.served
     with concurrent.futures.ThreadPoolExecutor(IN_A_ROW) as pool:
         asked: list[concurrent.futures.Future[Timed]] = []
@@ -453,32 +567,52 @@ def check_share(name: str, switch: Switch, holds: Endpoint, other: Endpoint) -> 
             asked.append(pool.submit(timed, switch.active))
             comes(lambda: sum(one.done() for one in asked) + holds.served - before[0] == len(asked))
         got = holds.served - before[0], other.served - before[1]
-        check(f"{name}: an endpoint that holds its requests has its share of them", got, (LIMIT, IN_A_ROW - LIMIT))
+        check(
+            f"{name}: an endpoint that holds its requests has its share of them",
+            got,
+            (LIMIT, IN_A_ROW - LIMIT),
+        )
         assert isinstance(holds.answer, Held)
         holds.answer.may_answer.set()
 
 
 def ports_again() -> None:
-    """A revision that has the ports of one that is scaled down has redispatch, `down` and share, as the first one had."""
+    """A revision that has the ports of one that is scaled down has redispatch, `down` and share, as
+    the first one had."""
     about = "the ports of a revision that is scaled down"
     first = Endpoint(Held(b"one"))
     second, third, fourth = (Endpoint(by_target(name)) for name in (b"two", b"three", b"four"))
-    with serving_two([first.port, second.port], (*REDISPATCH, "--endpoint-limit", str(LIMIT)), timeout=None) as switch:
+    with serving_two(
+        [first.port, second.port], (*REDISPATCH, "--endpoint-limit", str(LIMIT)), timeout=None
+    ) as switch:
         carry_out(switch, f"deploy two {third.port} {fourth.port}", "available 2 2", "tick 1000")
         with contextlib.closing(switch.operator()) as operator:
-            check(f"{about}: it is scaled down", operator.revisions()[0], "revision 1 one desired 0 available 0 open 0 deadline none")
-        carry_out(switch, f"deploy three {first.port} {second.port}", "available 3 2", f"down {first.port}")
+            check(
+                f"{about}: it is scaled down",
+                operator.revisions()[0],
+                "revision 1 one desired 0 available 0 open 0 deadline none",
+            )
+        carry_out(
+            switch,
+            f"deploy three {first.port} {second.port}",
+            "available 3 2",
+            f"down {first.port}",
+        )
         check(f"{about}: one that is down gets no request", answers_of(switch), {OTHER})
         carry_out(switch, "down")
         check_share(about, switch, first, second)
         check(f"{about}: both get requests", answers_of(switch), {ONE, OTHER})
         first.stop()
-        check(f"{about}: a request whose endpoint refuses it is dialled at the other one", answers_of(switch), {OTHER})
+        check(
+            f"{about}: a request whose endpoint refuses it is dialled at the other one",
+            answers_of(switch),
+            {OTHER},
+        )
 
 
 def not_available() -> None:
-    """An endpoint that is not available gets no request, however many the other one has, until a line `down` tells that it
-    stands in for the other one."""
+    """An endpoint that is not available gets no request, however many the other one has, until a
+    line `down` tells that it stands in for the other one."""
     name = "an endpoint that is not available"
     held = Held(b"one")
     first, second = Endpoint(held), Endpoint(by_target(b"two"))
@@ -486,22 +620,58 @@ def not_available() -> None:
         with concurrent.futures.ThreadPoolExecutor(CONCURRENCY) as pool:
             asked = [pool.submit(timed, switch.active) for _ in range(CONCURRENCY)]
             comes(lambda: first.served + second.served == CONCURRENCY)
-            check(f"{name} gets no request by the share", (first.served, second.served), (CONCURRENCY, 0))
+            check(
+                f"{name} gets no request by the share",
+                (first.served, second.served),
+                (CONCURRENCY, 0),
+            )
             held.may_answer.set()
         check(f"{name}: the requests are answered", {one.result().answer for one in asked}, {ONE})
         carry_out(switch, f"down {second.port}")
         first.stop()
-        check(f"{name} gets no request of one that refuses it", (answers_of(switch), second.served), ({BAD_GATEWAY}, 0))
+        check(
+            f"{name} gets no request of one that refuses it",
+            (answers_of(switch), second.served),
+            ({BAD_GATEWAY}, 0),
+        )
         carry_out(switch, f"down {first.port}")
         check(f"{name} stands in for one that is down", answers_of(switch), {OTHER})
 
 
-SICK = (killed_first, killed_second, killed_both, stopped, silent_after_the_head, resets, slow, slots_stay,
-        without_redispatch, port_of_two_revisions, logged, marked_is_asked_last, down, ports_again, not_available)
+SICK = (
+    killed_first,
+    killed_second,
+    killed_both,
+    stopped,
+    silent_after_the_head,
+    resets,
+    slow,
+    slots_stay,
+    without_redispatch,
+    port_of_two_revisions,
+    logged,
+    marked_is_asked_last,
+    down,
+    ports_again,
+    not_available,
+)
 
 if __name__ == "__main__":
-    checks.run("live_endpoints", (
-        silence, silences, silence_within_the_timeout, silence_past_the_timeout, connects_that_hang,
-        connects_within_the_timeout, connects_in_time, timeout_begins_before_the_connect, own_ports, timeouts,
-        *SICK), 10,
-        by_hand=(long_silence,))
+    checks.run(
+        "live_endpoints",
+        (
+            silence,
+            silences,
+            silence_within_the_timeout,
+            silence_past_the_timeout,
+            connects_that_hang,
+            connects_within_the_timeout,
+            connects_in_time,
+            timeout_begins_before_the_connect,
+            own_ports,
+            timeouts,
+            *SICK,
+        ),
+        10,
+        by_hand=(long_silence,),
+    )

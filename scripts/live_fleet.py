@@ -1,5 +1,5 @@
-"""A fleet of three machines with etcd, nginx and HAProxy, in a session with each kind of fault once: what becomes of each attempt, and
-the six rules of a fleet on what was recorded."""
+"""A fleet of three machines with etcd, nginx and HAProxy, in a session with each kind of fault
+once: what becomes of each attempt, and the six rules of a fleet on what was recorded."""
 import os
 import pathlib
 import shutil
@@ -16,12 +16,15 @@ from support.fleet.rules import broken_rules, figures
 from support.fleet.session import Session
 from support.pace import at_the_limit
 
-LONGEST = 400      # seconds for all of it on a machine that has no other work, where it takes about two minutes
-AWAY = 20.0        # seconds until a lease of 10 seconds has ended, also where etcd has begun it anew
-NO_ANSWER = 4      # the exit status of bin/fleet where etcd gives no answer
+LONGEST = 400  # seconds for all of it on a machine that has no other work, where it takes about two minutes
+AWAY = 20.0  # seconds until a lease of 10 seconds has ended, also where etcd has begun it anew
+NO_ANSWER = 4  # the exit status of bin/fleet where etcd gives no answer
 PACKAGES = "apt-get install etcd-server haproxy nginx"
-LAST_LINES = 150   # of a log that is shown where a check has failed
-LEAST_REQUESTS, LEAST_LOOKS = 1000, 300  # of a whole session: fewer are a recording that shows nothing
+LAST_LINES = 150  # of a log that is shown where a check has failed
+LEAST_REQUESTS, LEAST_LOOKS = (
+    1000,
+    300,
+)  # of a whole session: fewer are a recording that shows nothing
 
 
 def check_end(session: Session, name: str, number: int, stage: str) -> None:
@@ -37,6 +40,7 @@ def reason(session: Session) -> str:
 
 # ---- good and bad revisions ----
 
+
 def good_revision(session: Session) -> None:
     session.deploy(2)
     check("a person waits for it", session.try_once("wait", "web-2=successful").status, 0)
@@ -47,7 +51,11 @@ def analysis_before(session: Session) -> None:
     session.lab.fail_analysis("b", "pre", 3)
     session.deploy(3)
     check_end(session, "an analysis before the switch fails on b alone", 3, "aborted")
-    check("the reason is told", reason(session).startswith("b: analysis pre: failed") or reason(session), True)
+    check(
+        "the reason is told",
+        reason(session).startswith("b: analysis pre: failed") or reason(session),
+        True,
+    )
 
 
 def analysis_after(session: Session) -> None:
@@ -55,20 +63,28 @@ def analysis_after(session: Session) -> None:
     session.deploy(4)
     check("c selects it before its analysis fails", session.selects("c", 4, 20), True)
     check_end(session, "an analysis after the switch fails on c alone", 4, "aborted")
-    check("the reason is told", reason(session).startswith("c: analysis post: failed") or reason(session), True)
+    check(
+        "the reason is told",
+        reason(session).startswith("c: analysis post: failed") or reason(session),
+        True,
+    )
 
 
 # ---- agents ----
 
+
 def kill_leader(session: Session, number: int, step: str) -> None:
-    """Kills the agent that leads, in the middle of an attempt: an analysis of another machine goes on meanwhile."""
+    """Kills the agent that leads, in the middle of an attempt: an analysis of another machine goes
+    on meanwhile."""
     held, stage = session.follower(), {"pre": "deploying", "post": "promoting"}[step]
     with session.lab.held_analysis(held, step, number):
         session.deploy(number)
         check(f"the attempt is {stage}", session.is_at(number, stage), True)
         leader = session.leader()
         session.lab.kill("agent", leader)
-    check("another one leads", session.until(lambda seen: seen.leader not in ("", leader), AWAY), True)
+    check(
+        "another one leads", session.until(lambda seen: seen.leader not in ("", leader), AWAY), True
+    )
     check("the attempt is where it was", session.lab.seen().stage, stage)
     session.lab.restart("agent", leader)
     check_end(session, f"the leader is killed in {stage}", number, "successful")
@@ -87,39 +103,70 @@ def agent_stopped(session: Session) -> None:
     session.deploy(7)
     stopped = session.leader()
     session.lab.stop("agent", stopped)
-    check("its leases have ended", session.until(lambda seen: seen.leader not in ("", stopped) and seen.is_away(stopped), AWAY), True)
-    check("nothing is promoted without it", (session.lab.seen().stage, session.still_select(session.live, 1)), ("deploying", True))
+    check(
+        "its leases have ended",
+        session.until(
+            lambda seen: seen.leader not in ("", stopped) and seen.is_away(stopped), AWAY
+        ),
+        True,
+    )
+    check(
+        "nothing is promoted without it",
+        (session.lab.seen().stage, session.still_select(session.live, 1)),
+        ("deploying", True),
+    )
     session.lab.wake("agent", stopped)
     check_end(session, "an agent is stopped past its lease and woken", 7, "successful")
 
 
 # ---- a machine without etcd ----
 
+
 def cut_before_promoting(session: Session) -> None:
     cut = session.follower()
     session.lab.cut(cut)
     session.deploy(8)
     others = [host for host in session.lab.hosts if host != cut]
-    check("the others are ready", session.until(lambda seen: all(seen.state(host) == "ready" for host in others)), True)
-    check("nothing is promoted without it", (session.still_select(session.live, 2), session.lab.seen().stage), (True, "deploying"))
+    check(
+        "the others are ready",
+        session.until(lambda seen: all(seen.state(host) == "ready" for host in others)),
+        True,
+    )
+    check(
+        "nothing is promoted without it",
+        (session.still_select(session.live, 2), session.lab.seen().stage),
+        (True, "deploying"),
+    )
     session.lab.mend(cut)
     check_end(session, "a machine is cut off from etcd before promoting", 8, "successful")
 
 
 def cut_after_promoting(session: Session) -> None:
-    """A person aborts meanwhile: the others go back at once, the machine that is cut off when it is back."""
+    """A person aborts meanwhile: the others go back at once, the machine that is cut off when it is
+    back."""
     cut = session.follower()
     with session.lab.held_analysis(cut, "post", 9):
         session.deploy(9)
         check("it selects the revision", session.selects(cut, 9, 20), True)
         session.lab.cut(cut)
-        check("it goes on as it is", comes(lambda: session.lab.looks()[cut].active != name_of(9), 2), False)
+        check(
+            "it goes on as it is",
+            comes(lambda: session.lab.looks()[cut].active != name_of(9), 2),
+            False,
+        )
         check("a person aborts", session.give("abort"), True)
         others = [host for host in session.lab.hosts if host != cut]
-        check("the others are back", all(session.selects(host, session.live) for host in others), True)
+        check(
+            "the others are back", all(session.selects(host, session.live) for host in others), True
+        )
         check("it goes on as it is", session.lab.looks()[cut].active, name_of(9))
         session.lab.mend(cut)
-        check_end(session, "a machine is cut off from etcd after promoting, and a person aborts", 9, "aborted")
+        check_end(
+            session,
+            "a machine is cut off from etcd after promoting, and a person aborts",
+            9,
+            "aborted",
+        )
 
 
 def failed_while_cut(session: Session) -> None:
@@ -132,7 +179,11 @@ def failed_while_cut(session: Session) -> None:
         session.lab.fail_analysis(cut, "post", 20)
     check("it is back at once", session.selects(cut, session.live, 3), True)
     others = [host for host in session.lab.hosts if host != cut]
-    check("the others do not know yet", {session.lab.looks()[host].active for host in others}, {name_of(20)})
+    check(
+        "the others do not know yet",
+        {session.lab.looks()[host].active for host in others},
+        {name_of(20)},
+    )
     session.lab.mend(cut)
     check_end(session, "an analysis after the switch fails while etcd is away", 20, "aborted")
 
@@ -155,6 +206,7 @@ def member_that_missed_two(session: Session) -> None:
 
 # ---- etcd ----
 
+
 def etcd_member_killed(session: Session) -> None:
     session.lab.kill("etcd", "a")
     session.deploy(13)
@@ -167,8 +219,14 @@ def etcd_majority_killed(session: Session) -> None:
         session.deploy(14)
         for host in "bc":
             session.lab.kill("etcd", host)
-    check("nothing is switched without a majority of etcd", session.still_select(session.live, 4), True)
-    check("a person is told that etcd gives no answer", session.try_once("status").status, NO_ANSWER)
+    check(
+        "nothing is switched without a majority of etcd",
+        session.still_select(session.live, 4),
+        True,
+    )
+    check(
+        "a person is told that etcd gives no answer", session.try_once("status").status, NO_ANSWER
+    )
     for host in "bc":
         session.lab.restart("etcd", host)
     check_end(session, "two of three members of etcd are killed", 14, "successful")
@@ -176,8 +234,10 @@ def etcd_majority_killed(session: Session) -> None:
 
 # ---- switches and persons ----
 
+
 def switch_killed(session: Session) -> None:
-    """The switch comes back with the stable revision, and its machine joins the attempt that is `promoting`."""
+    """The switch comes back with the stable revision, and its machine joins the attempt that is
+    `promoting`."""
     with session.lab.held_analysis("b", "post", 15):
         session.deploy(15)
         check("b selects the revision", session.selects("b", 15, 20), True)
@@ -191,7 +251,11 @@ def switch_killed(session: Session) -> None:
 def person_promotes(session: Session) -> None:
     session.deploy(16, by_hand=True)
     check("all are ready", session.until(lambda seen: seen.are_all("ready")), True)
-    check("it waits for a person", (session.still_select(session.live, 1), session.lab.seen().stage), (True, "deploying"))
+    check(
+        "it waits for a person",
+        (session.still_select(session.live, 1), session.lab.seen().stage),
+        (True, "deploying"),
+    )
     check("a person promotes", session.give("promote"), True)
     check_end(session, "a person promotes", 16, "successful")
 
@@ -217,9 +281,24 @@ def undo(session: Session) -> None:
 
 
 DRILLS: tuple[Callable[[Session], None], ...] = (
-    good_revision, analysis_before, analysis_after, leader_killed_in_deploying, leader_killed_in_promoting, agent_stopped,
-    cut_before_promoting, cut_after_promoting, failed_while_cut, member_that_missed_two, etcd_member_killed, etcd_majority_killed,
-    switch_killed, person_promotes, person_aborts, another_plan, undo)
+    good_revision,
+    analysis_before,
+    analysis_after,
+    leader_killed_in_deploying,
+    leader_killed_in_promoting,
+    agent_stopped,
+    cut_before_promoting,
+    cut_after_promoting,
+    failed_while_cut,
+    member_that_missed_two,
+    etcd_member_killed,
+    etcd_majority_killed,
+    switch_killed,
+    person_promotes,
+    person_aborts,
+    another_plan,
+    undo,
+)
 
 
 def check_recording(recording: Recording) -> None:
@@ -227,15 +306,32 @@ def check_recording(recording: Recording) -> None:
     broken = broken_rules(recording)
     for rule in range(1, 7):
         check(f"rule {rule}", [text for number, text in broken if number == rule], [])
-    check("requests were made", len(recording.requests) > LEAST_REQUESTS or len(recording.requests), True)
-    check("each switch was looked at", [host for host, looks in recording.looks.items() if len(looks) < LEAST_LOOKS], [])
-    check("each machine has promoted", {promote.host for promote in recording.promotes}, set(recording.looks))
-    check("the faults were recorded", {outage.what for outage in recording.outages}, {"agent", "link", "etcd", "switch"})
+    check(
+        "requests were made",
+        len(recording.requests) > LEAST_REQUESTS or len(recording.requests),
+        True,
+    )
+    check(
+        "each switch was looked at",
+        [host for host, looks in recording.looks.items() if len(looks) < LEAST_LOOKS],
+        [],
+    )
+    check(
+        "each machine has promoted",
+        {promote.host for promote in recording.promotes},
+        set(recording.looks),
+    )
+    check(
+        "the faults were recorded",
+        {outage.what for outage in recording.outages},
+        {"agent", "link", "etcd", "switch"},
+    )
 
 
 def run_drill(drill: Callable[[Session], None], session: Session) -> None:
     def part() -> None:
         drill(session)
+
     part.__name__ = drill.__name__
     session.lab.say(f"---- {drill.__name__}")
     run_part(part)
@@ -269,12 +365,14 @@ def run_all(folder: pathlib.Path) -> None:
         check_recording(recording)
         for what, figure in figures(recording).items():
             print(f"live_fleet: {what}: {figure}")
+
     at_the_limit(LONGEST, give_up)
     run_part(whole_session)
 
 
 def show(folder: pathlib.Path) -> None:
-    """Prints what the session and its agents have logged, for whoever has to find out why a check has failed."""
+    """Prints what the session and its agents have logged, for whoever has to find out why a check
+    has failed."""
     for path in sorted(folder.glob("*.log")):
         if path.name.startswith(("drill", "agent")):
             lines = path.read_text(encoding="utf-8").splitlines()[-LAST_LINES:]
@@ -284,7 +382,10 @@ def show(folder: pathlib.Path) -> None:
 
 def main() -> int:
     if missing := missing_programs():
-        print(f"live_fleet: skipped, since {' and '.join(missing)} can't be found here: {PACKAGES}", flush=True)
+        print(
+            f"live_fleet: skipped, since {' and '.join(missing)} can't be found here: {PACKAGES}",
+            flush=True,
+        )
         return 0
     folder = pathlib.Path(tempfile.mkdtemp(prefix="bg_fleet_"))
     try:

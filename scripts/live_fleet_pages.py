@@ -1,5 +1,6 @@
-"""The session of docs/FLEET.md, run from its own text with a real etcd, and the demonstration of examples/fleet: what it prints, and
-that it leaves nothing behind, also after ctrl-C. A part is skipped where a program that it needs is not installed."""
+"""The session of docs/FLEET.md, run from its own text with a real etcd, and the demonstration of
+examples/fleet: what it prints, and that it leaves nothing behind, also after ctrl-C. A part is
+skipped where a program that it needs is not installed."""
 import contextlib
 import os
 import pathlib
@@ -17,8 +18,25 @@ from support.pages import Limits, run_session
 
 PAGE = TOP / "docs" / "FLEET.md"
 TITLE = "From the start to the end"
-PORTS = ("2379", "2380", "8180", "8181", "8182", "8280", "8281", "8282", "8380", "8381", "8382", "9101", "9102", "9201", "9202", "9301",
-         "9302")
+PORTS = (
+    "2379",
+    "2380",
+    "8180",
+    "8181",
+    "8182",
+    "8280",
+    "8281",
+    "8282",
+    "8380",
+    "8381",
+    "8382",
+    "9101",
+    "9102",
+    "9201",
+    "9202",
+    "9301",
+    "9302",
+)
 LEAST_BLOCKS = 16
 # By the variable, etcd does not wait for the disk, which others may use much.
 LIMITS = Limits(300.0, {"ETCD_UNSAFE_NO_FSYNC": "true"})
@@ -27,15 +45,28 @@ DEMONSTRATION = TOP / "examples" / "fleet" / "fleet_demo.py"
 LONGEST_RUN = 360  # seconds for the script
 LONGEST_END = 20.0  # seconds for the demonstration to end after ctrl-C
 # What the demonstration prints, in this order.
-STEPS = ("# Three machines are members", "of web-v1: successful", "# A good revision", "of web-v2: successful", "# web-v3 is promoted by hand",
-         "reason: web-2: analysis post: failed", "# web-3 crashes", "waits for web-3: ", "# web-3 is started again", "of web-v3: successful")
+STEPS = (
+    "# Three machines are members",
+    "of web-v1: successful",
+    "# A good revision",
+    "of web-v2: successful",
+    "# web-v3 is promoted by hand",
+    "reason: web-2: analysis post: failed",
+    "# web-3 crashes",
+    "waits for web-3: ",
+    "# web-3 is started again",
+    "of web-v3: successful",
+)
 
 
 def has_all(part: str, programs: tuple[str, ...]) -> bool:
     """Whether these programs are installed. If not, a line says that the part is skipped."""
     missing = [program for program in programs if place_of(program) is None]
     if missing:
-        print(f"live_fleet_pages: {part} is skipped, since {' and '.join(missing)} can't be found here", flush=True)
+        print(
+            f"live_fleet_pages: {part} is skipped, since {' and '.join(missing)} can't be found here",
+            flush=True,
+        )
     return not missing
 
 
@@ -47,14 +78,22 @@ def session() -> None:
 
 @contextlib.contextmanager
 def demonstration() -> Iterator[tuple[subprocess.Popen[str], Callable[[], list[str]]]]:
-    """The running demonstration, and what finds what it has left: the processes and files that are its own."""
+    """The running demonstration, and what finds what it has left: the processes and files that are
+    its own."""
     with tempfile.TemporaryDirectory() as folder:
-        process = subprocess.Popen([str(DEMONSTRATION)], stdout=subprocess.PIPE, stderr=subprocess.STDOUT, text=True, process_group=0,
-                                   env={**os.environ, "TMPDIR": folder})
+        process = subprocess.Popen(
+            [str(DEMONSTRATION)],
+            stdout=subprocess.PIPE,
+            stderr=subprocess.STDOUT,
+            text=True,
+            process_group=0,
+            env={**os.environ, "TMPDIR": folder},
+        )
         processes.limit(process)
 
         def left() -> list[str]:
             return processes_with(f"TMPDIR={folder}") + sorted(os.listdir(folder))
+
         try:
             yield process, left
         finally:
@@ -68,7 +107,9 @@ def processes_with(variable: str) -> list[str]:
     for path in pathlib.Path("/proc").glob("[0-9]*"):
         with contextlib.suppress(OSError):
             if variable.encode() in (path / "environ").read_bytes().split(b"\0"):
-                found.append((path / "cmdline").read_bytes().replace(b"\0", b" ").decode(errors="replace"))
+                found.append(
+                    (path / "cmdline").read_bytes().replace(b"\0", b" ").decode(errors="replace")
+                )
     return found
 
 
@@ -88,11 +129,23 @@ def whole_demonstration() -> None:
     begun = time.monotonic()
     with demonstration() as (process, left):
         printed, _ = process.communicate(timeout=processes.LONGEST)
-        check("the status of the demonstration", (process.returncode, printed if process.returncode else ""), (0, ""))
+        check(
+            "the status of the demonstration",
+            (process.returncode, printed if process.returncode else ""),
+            (0, ""),
+        )
         check_order(printed)
         last = re.search(r"^requests: (\d+), failed: (\d+)$", printed, re.M)
-        check("its last line", (last is not None and int(last[1]) > 500, last and last[2]), (True, "0"))
-        check("each machine has answered", [host for host in HOSTS if not re.search(rf"{host} \d+ by web-v3", printed)], [])
+        check(
+            "its last line",
+            (last is not None and int(last[1]) > 500, last and last[2]),
+            (True, "0"),
+        )
+        check(
+            "each machine has answered",
+            [host for host in HOSTS if not re.search(rf"{host} \d+ by web-v3", printed)],
+            [],
+        )
         check("what the demonstration leaves", left(), [])
         checks.check_soon("the demonstration", time.monotonic() - begun, 90)
 
@@ -111,10 +164,17 @@ def interrupted_demonstration() -> None:
         time.sleep(0.3)
         os.killpg(process.pid, signal.SIGINT)
         process.stdout.read()
-        check("the demonstration ends", comes(lambda: process.poll() is not None, LONGEST_END), True)
+        check(
+            "the demonstration ends", comes(lambda: process.poll() is not None, LONGEST_END), True
+        )
         check("its status", process.returncode, 128 + signal.SIGINT)
         check("what the interrupted demonstration leaves", left(), [])
 
 
 if __name__ == "__main__":
-    checks.run("live_fleet_pages", [session, whole_demonstration, interrupted_demonstration], at_once=2, longest=LONGEST_RUN)
+    checks.run(
+        "live_fleet_pages",
+        [session, whole_demonstration, interrupted_demonstration],
+        at_once=2,
+        longest=LONGEST_RUN,
+    )

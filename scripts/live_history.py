@@ -1,5 +1,5 @@
-"""`bg_switch serve` as its history gets full: what is told on standard error, what lines and requests are answered, and
-that they are carried out again once there is room."""
+"""`bg_switch serve` as its history gets full: what is told on standard error, what lines and
+requests are answered, and that they are carried out again once there is room."""
 import contextlib
 import math
 import socket
@@ -38,7 +38,8 @@ QUIET = 2.5
 
 
 class Filled:
-    """A switch, and how many entries its history has but for those of requests. Each line has a connection of its own."""
+    """A switch, and how many entries its history has but for those of requests. Each line has a
+    connection of its own."""
 
     def __init__(self, stack: contextlib.ExitStack) -> None:
         self.stack = stack
@@ -57,7 +58,8 @@ class Filled:
         return int(reply[3:])
 
     def fill(self, entries: int) -> None:
-        """Orders lines that take a place each, on one connection, until there are so many entries."""
+        """Orders lines that take a place each, on one connection, until there are so many
+        entries."""
         count = entries - self.entries
         with clients.connect(self.switch.control) as connection:
             sender = threading.Thread(target=send_lines, args=(connection, count))
@@ -70,7 +72,9 @@ class Filled:
     def hold(self, count: int) -> list[socket.socket]:
         """So many clients whose requests wait at the endpoint."""
         before = self.held.pending
-        pending = [self.stack.enter_context(clients.connect(self.switch.active)) for _ in range(count)]
+        pending = [
+            self.stack.enter_context(clients.connect(self.switch.active)) for _ in range(count)
+        ]
         for client in pending:
             client.sendall(request(b"/held"))
         check("requests that wait at the endpoint", self.held.holds(before + count), True)
@@ -84,7 +88,11 @@ class Filled:
         self.held.is_free.clear()
 
     def check_answered(self, count: int) -> None:
-        check("requests are answered", {timed(self.switch.active).answer for _ in range(count)}, {answer(b"one")})
+        check(
+            "requests are answered",
+            {timed(self.switch.active).answer for _ in range(count)},
+            {answer(b"one")},
+        )
 
     def check_refused_line(self) -> None:
         check("a line that finds no place", self.switch.answer_to(LINE), FULL)
@@ -117,7 +125,11 @@ def check_nearly_full(filled: Filled) -> None:
     filled.carry_out(LINE)
     filled.carry_out(LINE)
     check_told_once("a history that is nearly full is told", filled.switch, nearly_full())
-    check("at how many entries", told(filled.switch, nearly_full())[0].groups(), (str(NEARLY), str(MOST)))
+    check(
+        "at how many entries",
+        told(filled.switch, nearly_full())[0].groups(),
+        (str(NEARLY), str(MOST)),
+    )
 
 
 def check_lines(filled: Filled) -> None:
@@ -128,16 +140,25 @@ def check_lines(filled: Filled) -> None:
     check("nothing was refused", filled.refused(), (0, 0))
     pending = filled.hold(waits)
     filled.check_refused_line()
-    check("a refused line is told", comes(lambda: filled.refused() == (1, 0)) or filled.switch.told, True)
+    check(
+        "a refused line is told",
+        comes(lambda: filled.refused() == (1, 0)) or filled.switch.told,
+        True,
+    )
     check("a report", filled.switch.open_requests(), [0] * (REVISIONS - 2) + [waits])
-    check("a compaction, where nothing can be dropped", filled.switch.answer_to("compact"), "compacted 0")
+    check(
+        "a compaction, where nothing can be dropped",
+        filled.switch.answer_to("compact"),
+        "compacted 0",
+    )
     filled.let_go(pending)
     filled.check_answered(ANSWERED)
     filled.carry_out(LINE)
 
 
 def check_requests(filled: Filled) -> None:
-    """A request finds no place beside open ones, and one again once they have left. What is told of many is bounded."""
+    """A request finds no place beside open ones, and one again once they have left. What is told of
+    many is bounded."""
     filled.fill(MOST - OF_EVENT)
     outcomes = filled.carry_out(f"tick {DELAY}")
     check("the old revisions are scaled down and removed", outcomes, 2 * (REVISIONS - 2))
@@ -146,9 +167,17 @@ def check_requests(filled: Filled) -> None:
     told_before, start = len(told(filled.switch, full())), time.monotonic()
     for _ in range(FLOOD):
         check("a request that finds no place", timed(filled.switch.active).answer, UNAVAILABLE)
-    check("refused requests are told", comes(lambda: filled.refused() == (2, FLOOD)) or filled.switch.told, True)
+    check(
+        "refused requests are told",
+        comes(lambda: filled.refused() == (2, FLOOD)) or filled.switch.told,
+        True,
+    )
     most = math.ceil(time.monotonic() - start) + 1
-    check("at most once a second", len(told(filled.switch, full())) - told_before <= most or filled.switch.told, True)
+    check(
+        "at most once a second",
+        len(told(filled.switch, full())) - told_before <= most or filled.switch.told,
+        True,
+    )
     filled.let_go(pending)
     filled.check_answered(ANSWERED)
 

@@ -1,6 +1,7 @@
-"""The memory of `bg_switch serve`: of uploads that come at once, and of messages of mixed sizes. It stays within its bounds only if
-the C library gives freed memory back, by the variables that bin/bg_switch sets: without them these parts fail.
-By hand: the table of docs/OPERATING.md, and the most that the switch of examples/production can take."""
+"""The memory of `bg_switch serve`: of uploads that come at once, and of messages of mixed sizes. It
+stays within its bounds only if the C library gives freed memory back, by the variables that
+bin/bg_switch sets: without them these parts fail. By hand: the table of docs/OPERATING.md, and the
+most that the switch of examples/production can take."""
 import concurrent.futures
 import contextlib
 import random
@@ -24,11 +25,12 @@ UNIT = TOP / "examples" / "production" / "bg-switch.service"
 DESCRIPTORS = (8192, 8192)
 # The timeouts of the switch would only end what the machine is too busy for.
 TIMEOUT = 3600
-# In MiB: the most that the requests at a client port count, by docs/LIMITS.md; the most memory while they come; and what is kept
-# so many seconds after the last one.
+# In MiB: the most that the requests at a client port count, by docs/LIMITS.md; the most memory
+# while they come; and what is kept so many seconds after the last one.
 BOUND = 128
 MOST_OF_UPLOADS, MOST_KEPT, SOON = BOUND * 3 // 2, 64, 10
-# Of so many uploads at least so many are answered: the switch may drop a client that is too slow on a busy machine.
+# Of so many uploads at least so many are answered: the switch may drop a client that is too slow on
+# a busy machine.
 UPLOADS, ANSWERED = 1000, 900
 # The workers of the unit, and clients that send and get messages of mixed sizes, so many each.
 WORKERS, CLIENTS, EXCHANGES = 255, 40, 25
@@ -42,7 +44,12 @@ BY_CONCURRENCY = (10, 32, 200, 1000)
 @contextlib.contextmanager
 def serving(endpoint: int, concurrency: int) -> Iterator[Switch]:
     """A switch that serves the endpoint, with so many workers at the active port."""
-    switch = Switch(BY_HAND, instead_of_workers=("--concurrency", str(concurrency)), descriptors=DESCRIPTORS, timeout=TIMEOUT)
+    switch = Switch(
+        BY_HAND,
+        instead_of_workers=("--concurrency", str(concurrency)),
+        descriptors=DESCRIPTORS,
+        timeout=TIMEOUT,
+    )
     try:
         check("listening", switch.first, LISTENING)
         check("opened", switch.answer_to(f"open one {endpoint}"), "ok 0")
@@ -71,6 +78,7 @@ def kept(switch: Switch) -> float:
 
 class Upload:
     """A client that sends the largest request, as its socket takes it."""
+
     WHOLE = request(method=b"POST", body=bytes(LARGEST_BODY))
 
     def __init__(self, port: int) -> None:
@@ -80,9 +88,10 @@ class Upload:
         self.send_on()
 
     def send_on(self) -> bool:
-        """Sends what the socket takes now. Gives whether more is left to send to a switch that has not dropped the client."""
+        """Sends what the socket takes now. Gives whether more is left to send to a switch that has
+        not dropped the client."""
         try:
-            self.left = self.left[self.connection.send(self.left):]
+            self.left = self.left[self.connection.send(self.left) :]
         except BlockingIOError:
             pass
         except OSError:
@@ -114,23 +123,29 @@ def answer_ok(_: Request, connection: socket.socket) -> None:
 
 
 def uploads_at_once() -> None:
-    """1,000 clients upload a mebibyte each at once. The memory of the switch stays near the bound of the port, and is given back.
-    A body was freed before: the C library would then put the next ones among the small blocks."""
+    """1,000 clients upload a mebibyte each at once. The memory of the switch stays near the bound
+    of the port, and is given back. A body was freed before: the C library would then put the next
+    ones among the small blocks."""
     limit_descriptors(16000)
     with serving(Endpoint(answer_ok).port, 64) as switch:
         check("the first upload", upload_at_once(switch.active, 1), [answer(b"ok")])
         answers = upload_at_once(switch.active, UPLOADS)
         # where the clients are not run for a while, the switch drops some that stand still
-        check("uploads that were answered", answers.count(answer(b"ok")) >= ANSWERED or slowness() >= 1.5, True)
+        check(
+            "uploads that were answered",
+            answers.count(answer(b"ok")) >= ANSWERED or slowness() >= 1.5,
+            True,
+        )
         check_within(f"MiB of {UPLOADS} uploads of 1 MiB at once", peak(switch), MOST_OF_UPLOADS)
         check_within(f"MiB that are kept after {UPLOADS} uploads", kept(switch), MOST_KEPT)
 
 
 def status_of_one(port: int, rng: random.Random) -> int:
-    """The status of a request of any kind, which has a small or a large message; 0 where there is no whole answer."""
+    """The status of a request of any kind, which has a small or a large message; 0 where there is
+    no whole answer."""
     # as likely from 1 KiB to 2 KiB as from 512 KiB to 1 MiB
     body = bytes(int(LARGEST_BODY ** rng.random()))
-    pieces = (body[start:start + 10000] for start in range(0, len(body), 10000))
+    pieces = (body[start : start + 10000] for start in range(0, len(body), 10000))
     target, given = rng.choice((("/big", None), ("/chunks", None), ("/", body), ("/", pieces)))
     got = clients.get(port, target, "GET" if given is None else "POST", given)
     return got[0] if got else 0
@@ -142,17 +157,27 @@ def exchanges(port: int, seed: int, count: int) -> list[int]:
 
 
 def soak(port: int, at_once: int, each: int) -> None:
-    """So many clients send so many requests each, one after the other, with messages of mixed sizes."""
+    """So many clients send so many requests each, one after the other, with messages of mixed
+    sizes."""
     with concurrent.futures.ThreadPoolExecutor(at_once) as pool:
         done = [pool.submit(exchanges, port, SEED + number, each) for number in range(at_once)]
-        check("the answers to messages of mixed sizes", {status for one in done for status in one.result()}, {200})
+        check(
+            "the answers to messages of mixed sizes",
+            {status for one in done for status in one.result()},
+            {200},
+        )
 
 
 def mixed_sizes() -> None:
-    """After messages of all sizes, by many workers, the memory is given back; and the unit's limit is far above what was taken."""
+    """After messages of all sizes, by many workers, the memory is given back; and the unit's limit
+    is far above what was taken."""
     with serving(EndpointProcess("one", free_port()).port, WORKERS) as switch:
         soak(switch.active, CLIENTS, EXCHANGES)
-        check_within("MiB of messages of mixed sizes, beside a quarter of the limit of the unit", peak(switch), memory_of_unit() / 4)
+        check_within(
+            "MiB of messages of mixed sizes, beside a quarter of the limit of the unit",
+            peak(switch),
+            memory_of_unit() / 4,
+        )
         check_within("MiB that are kept after messages of mixed sizes", kept(switch), MOST_KEPT)
 
 
@@ -166,10 +191,14 @@ def memory_of_unit() -> int:
 def table() -> None:
     """The memory of docs/OPERATING.md, by the number of workers."""
     limit_descriptors(16000)
-    print("workers, and MiB: idle, all busy with small messages, at most in a soak of mixed sizes, kept after it")
+    print(
+        "workers, and MiB: idle, all busy with small messages, at most in a soak of mixed sizes, kept after it"
+    )
     for concurrency in BY_CONCURRENCY:
         held = Held(b"held")
-        with serving(Endpoint(held_at(b"/held", held, by_target(b"one"))).port, concurrency) as switch:
+        with serving(
+            Endpoint(held_at(b"/held", held, by_target(b"one"))).port, concurrency
+        ) as switch:
             check("its threads", comes(lambda: threads(switch.process.pid) > concurrency), True)
             idle = resident(switch)
             with contextlib.ExitStack() as stack:
@@ -180,11 +209,16 @@ def table() -> None:
                 held.is_free.set()
             soak(switch.active, min(2 * concurrency, 100), 20)
             after = kept(switch)
-            print(f"{concurrency}: {idle:.1f}, {busy:.1f}, {peak(switch):.1f}, {after:.1f}", flush=True)
+            print(
+                f"{concurrency}: {idle:.1f}, {busy:.1f}, {peak(switch):.1f}, {after:.1f}",
+                flush=True,
+            )
 
 
 class Stalling:
-    """Reads each request whole, sends all but the last byte of the largest response, and sends that one only once it is let go."""
+    """Reads each request whole, sends all but the last byte of the largest response, and sends that
+    one only once it is let go."""
+
     WHOLE = memoryview(response(bytes(LARGEST_RESPONSE)))
 
     def __init__(self) -> None:
@@ -201,8 +235,10 @@ class Stalling:
 
 
 def most_of_the_unit() -> None:
-    """With the concurrency of the unit, each worker has the largest request and response, as many uploads come as there is room for,
-    and then the responses go to clients that read nothing: the memory stays below the limit of the unit."""
+    """With the concurrency of the unit, each worker has the largest request and response, as many
+    uploads come as there is room for, and then the responses go to clients that read nothing: the
+    memory stays below the limit of the unit.
+    """
     limit_descriptors(16000)
     stalling = Stalling()
     with serving(Endpoint(stalling).port, WORKERS) as switch, contextlib.ExitStack() as stack:
@@ -210,14 +246,24 @@ def most_of_the_unit() -> None:
         for port, workers in ((switch.active, WORKERS), (switch.preview, WORKERS // 8)):
             for _ in range(1000):
                 client = stack.enter_context(clients.connect(port, clients.SMALL_BUFFER))
-                uploads.append(threading.Thread(target=clients.send_in_pieces, args=(client, [Upload.WHOLE], 0), daemon=True))
+                uploads.append(
+                    threading.Thread(
+                        target=clients.send_in_pieces, args=(client, [Upload.WHOLE], 0), daemon=True
+                    )
+                )
         for upload in uploads:
             upload.start()
-        check("all workers are busy", comes(lambda: stalling.pending >= WORKERS + WORKERS // 8), True)
-        print(f"MiB while all workers have the largest messages: {resident(switch):.0f}", flush=True)
+        check(
+            "all workers are busy", comes(lambda: stalling.pending >= WORKERS + WORKERS // 8), True
+        )
+        print(
+            f"MiB while all workers have the largest messages: {resident(switch):.0f}", flush=True
+        )
         stalling.is_free.set()
         time.sleep(DRAINED)
-        print(f"MiB at the end, and at most: {resident(switch):.0f}, {peak(switch):.0f}", flush=True)
+        print(
+            f"MiB at the end, and at most: {resident(switch):.0f}, {peak(switch):.0f}", flush=True
+        )
         check_within("MiB at most, beside the limit of the unit", peak(switch), memory_of_unit())
 
 

@@ -1,5 +1,5 @@
-"""bin/operator before a running `serve`: its exit statuses, several of them at once, an order that was given up, a
-prompt at a terminal, and the watcher."""
+"""bin/operator before a running `serve`: its exit statuses, several of them at once, an order that
+was given up, a prompt at a terminal, and the watcher."""
 import contextlib
 import fcntl
 import os
@@ -46,8 +46,12 @@ def moment(switch: Switch) -> str:
 
 def started(switch: Switch, *words: str) -> subprocess.Popen[str]:
     """A run of bin/operator that goes on meanwhile."""
-    return subprocess.Popen([OPERATOR, str(switch.control), *words], stdin=subprocess.PIPE, stdout=subprocess.PIPE,
-                            text=True)
+    return subprocess.Popen(
+        [OPERATOR, str(switch.control), *words],
+        stdin=subprocess.PIPE,
+        stdout=subprocess.PIPE,
+        text=True,
+    )
 
 
 @contextlib.contextmanager
@@ -63,28 +67,48 @@ def closed_book() -> Iterator[Switch]:
 def without_a_switch() -> None:
     """Status 2 where there is no answer, or the words are wrong."""
     nobody = run_operator(free_port(), "--wait", "0.3", "report")
-    check("no switch", (nobody.printed, nobody.status, "can't be reached" in nobody.told), ("", 2, True))
+    check(
+        "no switch",
+        (nobody.printed, nobody.status, "can't be reached" in nobody.told),
+        ("", 2, True),
+    )
     no_port = run_operator(0)
     check("no port", (no_port.printed, no_port.status), ("", 2))
 
 
 def statuses() -> None:
-    """0 where every line was carried out, 1 where one was refused or faulty, 2 where there is no answer."""
+    """0 where every line was carried out, 1 where one was refused or faulty, 2 where there is no
+    answer."""
     with closed_book() as switch:
         check("before a book", outcome(switch, "tick", "1"), ("refused NotOpen\n", 1))
         check("open", outcome(switch, "open", "one", "9"), ("ok 0\n", 0))
-        check("a refusal", run_operator(switch.control, "promote"),
-              ("refused NotPaused\n", f"operator: refused NotPaused: {MEANING}\n", 1))
-        check("a line of a replay", outcome(switch, "enter", "0", "active"), ("refused NotHere\n", 1))
-        check("good lines", outcome(switch, lines="tick 1\n  available 1 1\ntick 2"), ("ok 0\nok 0\nok 0\n", 0))
+        check(
+            "a refusal",
+            run_operator(switch.control, "promote"),
+            ("refused NotPaused\n", f"operator: refused NotPaused: {MEANING}\n", 1),
+        )
+        check(
+            "a line of a replay", outcome(switch, "enter", "0", "active"), ("refused NotHere\n", 1)
+        )
+        check(
+            "good lines",
+            outcome(switch, lines="tick 1\n  available 1 1\ntick 2"),
+            ("ok 0\nok 0\nok 0\n", 0),
+        )
         report, _ = outcome(switch, "report")
         check("a report", (moment(switch), report.endswith("\nend\n")), ("moment 2", True))
-        check("it stops at a refusal", outcome(switch, lines="tick 3\npromote\ntick 4\n"),
-              ("ok 0\nrefused NotPaused\n", 1))
+        check(
+            "it stops at a refusal",
+            outcome(switch, lines="tick 3\npromote\ntick 4\n"),
+            ("ok 0\nrefused NotPaused\n", 1),
+        )
         check("what followed wasn't sent", moment(switch), "moment 3")
         check("it stops at a fault", outcome(switch, lines="\ntick 4\n"), ("fault Empty\n", 1))
-        check("it keeps going", outcome(switch, "--keep-going", lines="promote\njump\ntick 5\n"),
-              ("refused NotPaused\nfault UnknownWord\nok 0\n", 1))
+        check(
+            "it keeps going",
+            outcome(switch, "--keep-going", lines="promote\njump\ntick 5\n"),
+            ("refused NotPaused\nfault UnknownWord\nok 0\n", 1),
+        )
         check("quit", outcome(switch, lines="tick 6\nquit\ntick 7\n"), ("ok 0\n", 0))
         check("after quit", outcome(switch, "--wait", "0.5", "report"), ("", 2))
 
@@ -96,12 +120,20 @@ def given_up() -> None:
             operator.check("open one 9", "ok 0")
         processes.pause(switch.process.pid)
         check("no answer", outcome(switch, "--wait", "1", "tick", "50"), ("", 2))
-        check("no answer to lines", outcome(switch, "--wait", "0.5", lines="tick 51\ntick 52\n"), ("", 2))
+        check(
+            "no answer to lines",
+            outcome(switch, "--wait", "0.5", lines="tick 51\ntick 52\n"),
+            ("", 2),
+        )
         check("no answer to a watcher", outcome(switch, "--wait", "0.5", "watch"), ("", 2))
         pending = started(switch, "tick", "7")
         time.sleep(0.5)
         switch.process.send_signal(signal.SIGCONT)
-        check("an order that waited", (pending.communicate(timeout=WAIT)[0], pending.returncode), ("ok 0\n", 0))
+        check(
+            "an order that waited",
+            (pending.communicate(timeout=WAIT)[0], pending.returncode),
+            ("ok 0\n", 0),
+        )
         check("no order that was given up", moment(switch), "moment 7")
 
 
@@ -111,8 +143,14 @@ class Terminal:
     def __init__(self, switch: Switch, *words: str) -> None:
         self.end, other = pty.openpty()
         self.process = subprocess.Popen(
-            [OPERATOR, str(switch.control), *words], stdin=other, stdout=other, stderr=other, start_new_session=True,
-            env={**os.environ, "TERM": "xterm"}, preexec_fn=lambda: fcntl.ioctl(0, termios.TIOCSCTTY, 0))
+            [OPERATOR, str(switch.control), *words],
+            stdin=other,
+            stdout=other,
+            stderr=other,
+            start_new_session=True,
+            env={**os.environ, "TERM": "xterm"},
+            preexec_fn=lambda: fcntl.ioctl(0, termios.TIOCSCTTY, 0),
+        )
         os.close(other)
         self.shown = ""
 
@@ -144,8 +182,10 @@ class Terminal:
         return status
 
     def interrupted(self) -> int:
-        """Types ctrl-C up to the end of the process, and gives its status. `input` of Python misses a signal that comes
-        after it has written the prompt and before it waits for a key, so the first ctrl-C may need a second."""
+        """Types ctrl-C up to the end of the process, and gives its status. `input` of Python misses
+        a signal that comes after it has written the prompt and before it waits for a key, so the
+        first ctrl-C may need a second.
+        """
         latest = time.monotonic() + WAIT
         while self.process.poll() is None and time.monotonic() < latest:
             with contextlib.suppress(OSError):  # it ended meanwhile
@@ -165,7 +205,11 @@ def at_a_prompt() -> None:
         terminal.type("open one 9\n")
         check("a reply", terminal.await_text("ok 0"), True)
         terminal.type("promote\n")
-        check("a refusal and what it means", terminal.await_text(f"refused NotPaused: {MEANING}"), True)
+        check(
+            "a refusal and what it means",
+            terminal.await_text(f"refused NotPaused: {MEANING}"),
+            True,
+        )
         # the line before, by the arrow up
         terminal.type("\x1b[A\n")
         check("history", terminal.await_text(f"refused NotPaused: {MEANING}"), True)
@@ -212,7 +256,8 @@ class Watcher:
 
 
 def side_by_side() -> None:
-    """Two operators and a watcher at once: each order is carried out, and the watcher sees what moves."""
+    """Two operators and a watcher at once: each order is carried out, and the watcher sees what
+    moves."""
     with closed_book() as switch:
         check("open", outcome(switch, "open", "one", "9"), ("ok 0\n", 0))
         watcher = Watcher(switch)
@@ -225,7 +270,9 @@ def side_by_side() -> None:
         check("an order beside ticks", outcome(switch, "deploy", "two", "10"), ("ok 0\n", 0))
         check("a deploy that is seen", watcher.sees("revision 2 two: deployed, desired 1\n"), True)
         check("another", outcome(switch, "available", "2", "1"), ("ok 1\n", 0))
-        check("ticks", (ticking.communicate(timeout=WAIT)[0], ticking.returncode), ("ok 0\n" * 10, 0))
+        check(
+            "ticks", (ticking.communicate(timeout=WAIT)[0], ticking.returncode), ("ok 0\n" * 10, 0)
+        )
         check("a phase that is seen", watcher.sees("-> paused\n"), True)
         check("a promotion", outcome(switch, "promote"), ("ok 3\n", 0))
         check("its end is seen", watcher.sees("in 30 s\n"), True)
@@ -237,27 +284,63 @@ def check_watched(text: str) -> None:
     """What a watcher has drawn beside a deploy, ticks and a promotion."""
     check("plain text", "\x1b" in text, False)
     check("the first block", text.startswith("phase steady (no attempt runs)   moment 0\n"), True)
-    check("a deploy that was seen", bool(re.search(r"moment \d+: revision 2 two: deployed, desired 1\n", text)), True)
-    check("a switch that was seen", "moment 10: active: revision 1 one -> revision 2 two\n" in text, True)
+    check(
+        "a deploy that was seen",
+        bool(re.search(r"moment \d+: revision 2 two: deployed, desired 1\n", text)),
+        True,
+    )
+    check(
+        "a switch that was seen",
+        "moment 10: active: revision 1 one -> revision 2 two\n" in text,
+        True,
+    )
     check("a phase that was seen", "moment 10: phase: paused -> steady\n" in text, True)
-    check("the seconds to the deadline", bool(re.search(r"└─ 1 one +0 of 1 +0 +in 30 s\n", text)), True)
+    check(
+        "the seconds to the deadline",
+        bool(re.search(r"└─ 1 one +0 of 1 +0 +in 30 s\n", text)),
+        True,
+    )
 
 
 def meanings() -> None:
     """Each refusal and fault of docs/LINES.md has its meaning."""
     text = pathlib.Path("docs/LINES.md").read_text(encoding="utf-8")
     told = text.split("What the refusals mean:")[1].split("\n## ")[0]
-    names = {name for cells in re.findall(r"^\| (.*?) \|", told, re.M) for name in re.findall(r"`(\w+)`", cells)}
-    check("refusals without a meaning", (sorted(names - set(REFUSALS)), len(names) > 20), ([], True))
+    names = {
+        name
+        for cells in re.findall(r"^\| (.*?) \|", told, re.M)
+        for name in re.findall(r"`(\w+)`", cells)
+    }
+    check(
+        "refusals without a meaning", (sorted(names - set(REFUSALS)), len(names) > 20), ([], True)
+    )
     faults = text.split("## How a line is read")[1].split("`BadWord` and `BadNumber` are judged")[0]
     names = set(re.findall(r"^\| `(\w+)` \|", faults, re.M))
     check("faults without a meaning", sorted(names ^ set(FAULTS)), [])
-    lines = set(re.findall(r"^\| `(\w+)", text.split("\n## The lines\n")[1].split("What the refusals mean:")[0], re.M))
-    check("lines of the help", sorted({line.syntax.split()[0] for line in LINES} ^ (lines - {"enter", "leave"})), [])
+    lines = set(
+        re.findall(
+            r"^\| `(\w+)",
+            text.split("\n## The lines\n")[1].split("What the refusals mean:")[0],
+            re.M,
+        )
+    )
+    check(
+        "lines of the help",
+        sorted({line.syntax.split()[0] for line in LINES} ^ (lines - {"enter", "leave"})),
+        [],
+    )
 
 
 if __name__ == "__main__":
     # a shell's background job ignores interrupts, and so would all that it starts
     signal.signal(signal.SIGINT, signal.default_int_handler)
-    PARTS = [without_a_switch, statuses, given_up, at_a_prompt, watcher_at_a_terminal, side_by_side, meanings]
+    PARTS = [
+        without_a_switch,
+        statuses,
+        given_up,
+        at_a_prompt,
+        watcher_at_a_terminal,
+        side_by_side,
+        meanings,
+    ]
     checks.run("live_operator", PARTS, at_once=3)

@@ -1,5 +1,6 @@
-"""BG_SWITCH_OPERATORS: the users whose orders a running `serve` takes, what others are told, and whose orders were carried
-out. Skipped where the script isn't run by root, which alone can make connections of several users."""
+"""BG_SWITCH_OPERATORS: the users whose orders a running `serve` takes, what others are told, and
+whose orders were carried out. Skipped where the script isn't run by root, which alone can make
+connections of several users."""
 import contextlib
 import os
 import pwd
@@ -25,18 +26,21 @@ from support.users import NOBODY, connect_as, is_root
 
 VARIABLE = "BG_SWITCH_OPERATORS"
 ROOT = 0
-# The column of the user in the system's table of sockets, and the state of one that waits for the end of the other side.
+# The column of the user in the system's table of sockets, and the state of one that waits for the
+# end of the other side.
 USER, ENDED = 7, "05"
 NOT_ALLOWED = b"refused NotAllowed\n"
 # How long an order waits at most beside connections of others; and one of a new connection.
 AT_ONCE, PROMPT = 0.3, 1.0
-# How many connections others make at least, how many of them side by side, and how many orders wait beside them.
+# How many connections others make at least, how many of them side by side, and how many orders wait
+# beside them.
 STRANGERS, CALLERS, ORDERS = 1500, 40, 10
 
 
 @contextlib.contextmanager
 def switch_of(users: str, *, is_open: bool = True) -> Iterator[Switch]:
-    """A switch that serves these users, whose book is open, or isn't. This script's own user is one of them."""
+    """A switch that serves these users, whose book is open, or isn't. This script's own user is one
+    of them."""
     with book(is_open=is_open, variables={VARIABLE: users}) as switch:
         yield switch
 
@@ -61,12 +65,26 @@ def turned_away(switch: Switch) -> int:
 
 
 def others_are_turned_away() -> None:
-    """No line of another user is carried out, whatever it sends; each connection is told so, and all are counted."""
+    """No line of another user is carried out, whatever it sends; each connection is told so, and
+    all are counted."""
     with switch_of("root") as switch:
         before = report_of(switch)
-        lines = (b"tick 1\n", b"quit\n", b"abort\nquit\n", b"report\n", b"down 1\n", b"GET / HTTP/1.1\r\n\r\n", b"x" * 9000, b"")
+        lines = (
+            b"tick 1\n",
+            b"quit\n",
+            b"abort\nquit\n",
+            b"report\n",
+            b"down 1\n",
+            b"GET / HTTP/1.1\r\n\r\n",
+            b"x" * 9000,
+            b"",
+        )
         for text in lines:
-            check(f"another user that sends {text[:20]!r}", asked_as(NOBODY, switch, text), NOT_ALLOWED)
+            check(
+                f"another user that sends {text[:20]!r}",
+                asked_as(NOBODY, switch, text),
+                NOT_ALLOWED,
+            )
         check("the report after the lines of another user", report_of(switch), before)
         check("an order of a listed user", switch.answer_to("tick 1"), "ok 0")
         counted = comes(lambda: turned_away(switch) == len(lines))
@@ -88,12 +106,23 @@ def without_the_variable() -> None:
 
 
 def names_and_numbers() -> None:
-    """A list has names and numbers, with spaces or without. A user that isn't in it is turned away."""
+    """A list has names and numbers, with spaces or without. A user that isn't in it is turned
+    away."""
     nobody = pwd.getpwuid(NOBODY).pw_name
-    for users in (f"root,{nobody}", f"0,{NOBODY}", f" root , {nobody} ", f"{nobody},,0,", f"0,{nobody},{nobody}"):
+    for users in (
+        f"root,{nobody}",
+        f"0,{NOBODY}",
+        f" root , {nobody} ",
+        f"{nobody},,0,",
+        f"0,{nobody},{nobody}",
+    ):
         with switch_of(users) as switch:
             check(f"{users}: a listed user", asked_as(NOBODY, switch, b"tick 1\n"), b"ok 0\n")
-            check(f"{users}: a user that isn't listed", asked_as(NOBODY - 1, switch, b"tick 2\n"), NOT_ALLOWED)
+            check(
+                f"{users}: a user that isn't listed",
+                asked_as(NOBODY - 1, switch, b"tick 2\n"),
+                NOT_ALLOWED,
+            )
     with switch_of("0,00065534") as switch:
         check("a number with zeros before it", asked_as(NOBODY, switch, b"tick 1\n"), b"ok 0\n")
 
@@ -106,23 +135,42 @@ def run_with(users: str) -> Run:
 
 
 def lists_that_cannot_be_used() -> None:
-    """The program ends before it listens, with status 1, and says why. A list that it can't use never stands for all users."""
-    for users, why in {"": "it names no user", " , ,": "it names no user", "root,nosuchuser": "there is no user nosuchuser",
-                       "-1": "there is no user -1", "+0": "there is no user +0", "4294967295": "there is no user 4294967295",
-                       "4294967296": "there is no user 4294967296", "root nobody": "there is no user root nobody",
-                       "roo": "there is no user roo", "x": "there is no user x", "/root": "there is no user /root"}.items():
+    """The program ends before it listens, with status 1, and says why. A list that it can't use
+    never stands for all users."""
+    for users, why in {
+        "": "it names no user",
+        " , ,": "it names no user",
+        "root,nosuchuser": "there is no user nosuchuser",
+        "-1": "there is no user -1",
+        "+0": "there is no user +0",
+        "4294967295": "there is no user 4294967295",
+        "4294967296": "there is no user 4294967296",
+        "root nobody": "there is no user root nobody",
+        "roo": "there is no user roo",
+        "x": "there is no user x",
+        "/root": "there is no user /root",
+    }.items():
         check(f"the list {users!r}", run_with(users), Run("", f"bg_switch: {VARIABLE}: {why}\n", 1))
 
 
 def is_listed_as_root(port: int) -> bool:
     """Whether the system lists a socket at this port that has ended its output, as one of root."""
-    sockets = [line.split() for line in TABLE.read_text(encoding="ascii").splitlines() if f":{port:04X} " in line]
-    return any(fields[LOCAL].endswith(f":{port:04X}") and fields[STATE] == ENDED and fields[USER] == str(ROOT) for fields in sockets)
+    sockets = [
+        line.split()
+        for line in TABLE.read_text(encoding="ascii").splitlines()
+        if f":{port:04X} " in line
+    ]
+    return any(
+        fields[LOCAL].endswith(f":{port:04X}")
+        and fields[STATE] == ENDED
+        and fields[USER] == str(ROOT)
+        for fields in sockets
+    )
 
 
 def gone_before_it_is_looked_at() -> None:
-    """A socket that its process has closed belongs to nobody, though the system's table lists it as one of root: lines that it
-    has sent before aren't carried out."""
+    """A socket that its process has closed belongs to nobody, though the system's table lists it as
+    one of root: lines that it has sent before aren't carried out."""
     with switch_of("root") as switch:
         before = report_of(switch)
         processes.pause(switch.process.pid)
@@ -131,7 +179,11 @@ def gone_before_it_is_looked_at() -> None:
             port = connection.getsockname()[1]
             connection.sendall(text)
             connection.close()
-            check("the system lists its socket as one of root", comes(partial(is_listed_as_root, port)), True)
+            check(
+                "the system lists its socket as one of root",
+                comes(partial(is_listed_as_root, port)),
+                True,
+            )
         os.kill(switch.process.pid, signal.SIGCONT)
         check("the lines of a user that has gone", report_of(switch), before)
         gone = comes(lambda: turned_away(switch) == 2)
@@ -149,8 +201,8 @@ def switch_with(sockets: SocketList) -> Iterator[Switch]:
 
 
 def listed_as_root(switch: Switch, sockets: SocketList, *, closes: bool) -> bytes:
-    """What another user is sent who sends a line, and maybe closes then, if the read of the list that comes next has it as one
-    of root, with an inode."""
+    """What another user is sent who sends a line, and maybe closes then, if the read of the list
+    that comes next has it as one of root, with an inode."""
     processes.pause(switch.process.pid)
     with connect_as(NOBODY, switch.control) as connection:
         port = connection.getsockname()[1]
@@ -158,24 +210,37 @@ def listed_as_root(switch: Switch, sockets: SocketList, *, closes: bool) -> byte
         connection.shutdown(socket.SHUT_WR)
         if closes:
             connection.close()
-            check("the system lists its socket as one of root", comes(partial(is_listed_as_root, port)), True)
+            check(
+                "the system lists its socket as one of root",
+                comes(partial(is_listed_as_root, port)),
+                True,
+            )
         sockets.changes.append(with_fields(port, {USER: str(ROOT), INODE: "4242"}))
         os.kill(switch.process.pid, signal.SIGCONT)
         return b"" if closes else received(connection)
 
 
 def gone_while_it_is_looked_at() -> None:
-    """Linux before about 6.17 lists a socket as one of root, with an inode, if its process closes it while the row is read. The
-    next read tells otherwise, so lines that were sent before aren't carried out."""
+    """Linux before about 6.17 lists a socket as one of root, with an inode, if its process closes
+    it while the row is read. The next read tells otherwise, so lines that were sent before aren't
+    carried out."""
     with socket_list() as sockets:
         if not sockets.is_allowed():
-            print("live_operators: gone_while_it_is_looked_at is skipped: no list of sockets can be mounted here")
+            print(
+                "live_operators: gone_while_it_is_looked_at is skipped: no list of sockets can be mounted here"
+            )
             return
         with switch_with(sockets) as switch:
             before = report_of(switch)
-            check("a user whom one read lists as root", listed_as_root(switch, sockets, closes=False), NOT_ALLOWED)
+            check(
+                "a user whom one read lists as root",
+                listed_as_root(switch, sockets, closes=False),
+                NOT_ALLOWED,
+            )
             listed_as_root(switch, sockets, closes=True)
-            check("both are turned away", comes(lambda: turned_away(switch) == 2) or switch.told, True)
+            check(
+                "both are turned away", comes(lambda: turned_away(switch) == 2) or switch.told, True
+            )
             check("the lines of users whom one read lists as root", report_of(switch), before)
 
 
@@ -191,37 +256,56 @@ def half_closed() -> None:
 
 
 def lines_are_told() -> None:
-    """Each order that is carried out is told with its user; a moment, a report and a refused line aren't."""
+    """Each order that is carried out is told with its user; a moment, a report and a refused line
+    aren't."""
     nobody = pwd.getpwuid(NOBODY).pw_name
     switch = Switch(BY_HAND, workers=2, variables={VARIABLE: f"root,{nobody}"})
     check("listening", switch.first, LISTENING)
     one, two = (Endpoint(by_target(name)).port for name in (b"one", b"two"))
     check("open", switch.answer_to(f"open one {one}"), "ok 0")
-    for line, reply in ((f"deploy two {two}", b"ok 0\n"), ("available 2 1", b"ok 1\n"), ("tick 1", b"ok 0\n"),
-                        ("retry", b"refused NotAborted\n"), ("jump", b"fault UnknownWord\n"), ("abort", b"ok 0\n")):
+    for line, reply in (
+        (f"deploy two {two}", b"ok 0\n"),
+        ("available 2 1", b"ok 1\n"),
+        ("tick 1", b"ok 0\n"),
+        ("retry", b"refused NotAborted\n"),
+        ("jump", b"fault UnknownWord\n"),
+        ("abort", b"ok 0\n"),
+    ):
         check(f"the reply to {line}", asked_as(NOBODY, switch, f"{line}\n".encode("ascii")), reply)
     with contextlib.closing(switch.operator()) as operator:
         operator.check("promote", "refused Aborted")
         operator.send_quit()
         check("the status after quit", switch.wait().status, 0)
     lines = [(int(match[1]), match[2]) for match in told(switch, line_of_user())]
-    expected = [(ROOT, f"open one {one}"), (NOBODY, f"deploy two {two}"), (NOBODY, "abort"), (ROOT, "quit")]
+    expected = [
+        (ROOT, f"open one {one}"),
+        (NOBODY, f"deploy two {two}"),
+        (NOBODY, "abort"),
+        (ROOT, "quit"),
+    ]
     check("the orders", lines, expected)
 
 
 def strangers_hold_up_nobody() -> None:
-    """Connections of others, more than the port has room for and without end, close no operator's, and hold up no order."""
+    """Connections of others, more than the port has room for and without end, close no operator's,
+    and hold up no order."""
     with switch_of("root") as switch, switch_of("root") as calm, contextlib.ExitStack() as stack:
         both = (switch, calm)
         operators = [stack.enter_context(contextlib.closing(each.operator())) for each in both]
         for operator in operators:
             operator.check("tick 1", "ok 0")
         ends = threading.Event()
-        callers = [threading.Thread(target=call_again, args=(switch, ends), daemon=True) for _ in range(CALLERS)]
+        callers = [
+            threading.Thread(target=call_again, args=(switch, ends), daemon=True)
+            for _ in range(CALLERS)
+        ]
         for caller in callers:
             caller.start()
         check("others call", comes(lambda: turned_away(switch) > STRANGERS), True)
-        orders, of_new = ([], []), ([], [])  # type: tuple[list[float], list[float]], tuple[list[float], list[float]]
+        orders, of_new = ([], []), (
+            [],
+            [],
+        )  # type: tuple[list[float], list[float]], tuple[list[float], list[float]]
         for moment in range(2, 2 + ORDERS):
             for each, operator, waits, waits_of_new in zip(both, operators, orders, of_new):
                 start = time.monotonic()
@@ -249,6 +333,18 @@ if __name__ == "__main__":
     if not is_root():
         print("live_operators: skipped: only root can make connections of several users")
         sys.exit(0)
-    checks.run("live_operators", (
-        others_are_turned_away, without_the_variable, names_and_numbers, lists_that_cannot_be_used,
-        gone_before_it_is_looked_at, gone_while_it_is_looked_at, half_closed, lines_are_told, strangers_hold_up_nobody), 4)
+    checks.run(
+        "live_operators",
+        (
+            others_are_turned_away,
+            without_the_variable,
+            names_and_numbers,
+            lists_that_cannot_be_used,
+            gone_before_it_is_looked_at,
+            gone_while_it_is_looked_at,
+            half_closed,
+            lines_are_told,
+            strangers_hold_up_nobody,
+        ),
+        4,
+    )

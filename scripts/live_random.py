@@ -1,5 +1,5 @@
-"""`bg_switch serve` on loopback: ten thousand exchanges at random while revisions come and go. What entered is what is
-told at the end, and neither a descriptor nor memory is lost."""
+"""`bg_switch serve` on loopback: ten thousand exchanges at random while revisions come and go. What
+entered is what is told at the end, and neither a descriptor nor memory is lost."""
 import concurrent.futures
 import random
 import time
@@ -9,8 +9,19 @@ from typing import NamedTuple
 from support import checks, clients
 from support.checks import check, comes
 from support.endpoints import BROKEN, Endpoint, by_target
-from support.messages import (BAD_GATEWAY, BAD_REQUEST, BY_HAND, HEAD_TOO_LARGE, LARGEST_BODY, NOT_IMPLEMENTED,
-                              TOO_LARGE, UNAVAILABLE, answer, head_of, request)
+from support.messages import (
+    BAD_GATEWAY,
+    BAD_REQUEST,
+    BY_HAND,
+    HEAD_TOO_LARGE,
+    LARGEST_BODY,
+    NOT_IMPLEMENTED,
+    TOO_LARGE,
+    UNAVAILABLE,
+    answer,
+    head_of,
+    request,
+)
 from support.ports import connections_at
 from support.processes import descriptors, resident_memory
 from support.switch import Switch
@@ -19,8 +30,8 @@ SEED = 30
 CLIENTS = 8
 # How many exchanges make the first mark and the second, and how many come in each step.
 FIRST_MARK, EACH_STEP = 104, 1000
-# How much more memory, in KiB, the program may have after ten thousand exchanges than after a hundred, when not each
-# worker has had its largest message, and than after a thousand.
+# How much more memory, in KiB, the program may have after ten thousand exchanges than after a
+# hundred, when not each worker has had its largest message, and than after a thousand.
 MOST_GROWTH_FROM_HUNDRED = 2048
 MOST_GROWTH_FROM_THOUSAND = 512
 # Requests that are refused, and what they are answered.
@@ -47,8 +58,9 @@ end
 
 
 class ClientRequest(NamedTuple):
-    """What a client sends at a port, whether it resets the connection then and hears nothing, what it is answered else,
-    and whether its request enters."""
+    """What a client sends at a port, whether it resets the connection then and hears nothing, what
+    it is answered else, and whether its request enters."""
+
     port: int
     text: bytes
     resets: bool
@@ -65,14 +77,18 @@ class ClientRequest(NamedTuple):
 
 
 class Step(NamedTuple):
-    """Lines with their replies, and which endpoints, by their names, the two services have after them."""
+    """Lines with their replies, and which endpoints, by their names, the two services have after
+    them."""
+
     lines: dict[str, str]
     active: bytes | None
     preview: bytes | None
 
 
 class Footprint(NamedTuple):
-    """How many descriptors the program has when no client is there any more, and its memory in KiB."""
+    """How many descriptors the program has when no client is there any more, and its memory in
+    KiB."""
+
     descriptors: int
     memory: int
 
@@ -80,12 +96,15 @@ class Footprint(NamedTuple):
 def random_request(rng: random.Random, name: bytes) -> tuple[bytes, bytes]:
     """A request, and what it is answered by the endpoint of this name."""
     body = rng.randbytes(rng.choice((1, 100, 3000)))
-    return rng.choice((
-        (request(), answer(name)),
-        (request(method=b"HEAD"), answer(name)[:-len(name)]),
-        (request(method=b"POST", body=body), answer(name + body)),
-        (request(method=b"POST", body=body, chunked=True), answer(name + body)),
-        (request(rng.choice(list(BROKEN))), BAD_GATEWAY)))
+    return rng.choice(
+        (
+            (request(), answer(name)),
+            (request(method=b"HEAD"), answer(name)[: -len(name)]),
+            (request(method=b"POST", body=body), answer(name + body)),
+            (request(method=b"POST", body=body, chunked=True), answer(name + body)),
+            (request(rng.choice(list(BROKEN))), BAD_GATEWAY),
+        )
+    )
 
 
 def random_client_request(rng: random.Random, port: int, name: bytes | None) -> ClientRequest:
@@ -96,14 +115,15 @@ def random_client_request(rng: random.Random, port: int, name: bytes | None) -> 
         text, expected = rng.choice(REFUSED)
         return ClientRequest(port, text, False, expected, False)
     if kind <= 2:
-        return ClientRequest(port, text[:rng.randrange(len(text))], kind == 1, b"", False)
+        return ClientRequest(port, text[: rng.randrange(len(text))], kind == 1, b"", False)
     if name is None:
         return ClientRequest(port, text, False, UNAVAILABLE, False)
     return ClientRequest(port, text, kind == 3, expected, True)
 
 
 class RandomRun:
-    """A switch with eight workers, its operator and three endpoints, and how many requests have entered."""
+    """A switch with eight workers, its operator and three endpoints, and how many requests have
+    entered."""
 
     def __init__(self, count: int) -> None:
         self.rng = random.Random(SEED)
@@ -118,7 +138,8 @@ class RandomRun:
         return served == self.entered and not any(self.operator.open_requests())
 
     def settled_report(self) -> str:
-        """The report once it has settled; requests whose clients are gone may still be under way."""
+        """The report once it has settled; requests whose clients are gone may still be under
+        way."""
         check("all that entered have reached an endpoint and left", comes(self.has_settled), True)
         return self.operator.report()
 
@@ -127,8 +148,8 @@ class RandomRun:
             self.operator.check(line, expected)
 
     def send_requests(self, count: int, step: Step) -> int:
-        """So many requests at once with the active and the preview port; each eighth is one with the preview port.
-        Gives how many entered."""
+        """So many requests at once with the active and the preview port; each eighth is one with
+        the preview port. Gives how many entered."""
         switch = self.switch
         active, preview = (switch.active, step.active), (switch.preview, step.preview)
         ports = [preview if place % 8 == 0 else active for place in range(count)]
@@ -138,7 +159,11 @@ class RandomRun:
             switch.take(port)
         with concurrent.futures.ThreadPoolExecutor(CLIENTS) as pool:
             results = pool.map(ClientRequest.is_as_expected, requests)
-            check("requests at random", [one for one, as_expected in zip(requests, results) if not as_expected][:3], [])
+            check(
+                "requests at random",
+                [one for one, as_expected in zip(requests, results) if not as_expected][:3],
+                [],
+            )
         entered = sum(one.enters for one in requests)
         self.entered += entered
         self.settled_report()
@@ -178,7 +203,8 @@ def steps_of(one: int, two: int, three: int) -> Sequence[Step]:
 
 
 def first_marks(run: RandomRun, step: Step) -> tuple[Footprint, Footprint]:
-    """The first step; gives what the program has after the first hundred exchanges, and after the first thousand."""
+    """The first step; gives what the program has after the first hundred exchanges, and after the
+    first thousand."""
     run.send(step)
     entered = run.send_requests(FIRST_MARK, step)
     hundred = run.footprint()
@@ -190,10 +216,14 @@ def first_marks(run: RandomRun, step: Step) -> tuple[Footprint, Footprint]:
 
 def check_footprint(end: Footprint, hundred: Footprint, thousand: Footprint) -> None:
     check("descriptors at the end", end.descriptors, hundred.descriptors)
-    for since, before, most in (("hundred", hundred, MOST_GROWTH_FROM_HUNDRED),
-                                ("thousand", thousand, MOST_GROWTH_FROM_THOUSAND)):
+    for since, before, most in (
+        ("hundred", hundred, MOST_GROWTH_FROM_HUNDRED),
+        ("thousand", thousand, MOST_GROWTH_FROM_THOUSAND),
+    ):
         grown = end.memory - before.memory
-        check(f"KiB of memory since the first {since} above what is allowed", max(grown - most, 0), 0)
+        check(
+            f"KiB of memory since the first {since} above what is allowed", max(grown - most, 0), 0
+        )
 
 
 def ten_thousand_requests() -> None:
@@ -207,7 +237,11 @@ def ten_thousand_requests() -> None:
     check_footprint(run.footprint(), hundred, thousand)
     told = run.settled_report()
     run.operator.send_quit()
-    check("the end of ten thousand exchanges", run.switch.end(), (f"{told}calls {2 * run.entered}\n", 0))
+    check(
+        "the end of ten thousand exchanges",
+        run.switch.end(),
+        (f"{told}calls {2 * run.entered}\n", 0),
+    )
     check("their last report", told, LAST_REPORT)
     run.operator.close()
 

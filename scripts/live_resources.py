@@ -1,4 +1,5 @@
-"""`bg_switch serve` on loopback where something runs out: the connections of a port, the descriptors, the threads."""
+"""`bg_switch serve` on loopback where something runs out: the connections of a port, the
+descriptors, the threads."""
 import concurrent.futures
 import contextlib
 import pathlib
@@ -16,15 +17,16 @@ from support.switch import Switch, opened, serving
 # The C library gives each thread a stack of the limit, and of this size there is none.
 NO_STACK = 1 << 48
 REQUEST, RESPONSE, ANSWER = request(), response(b"ok"), answer(b"ok")
-# For how many seconds it is seen what a program doesn't do, or it can't accept: less than the second in which it tries
-# again before an accept that fails counts.
+# For how many seconds it is seen what a program doesn't do, or it can't accept: less than the
+# second in which it tries again before an accept that fails counts.
 SEEN = 0.3
 # For how many seconds an idle switch is looked at.
 IDLE = 5
 
 
 def connections_used_up() -> None:
-    """A port of clients is closed once its connections are taken; the others, and the operators' side, go on."""
+    """A port of clients is closed once its connections are taken; the others, and the operators'
+    side, go on."""
     switch, operator = opened(Endpoint(in_pieces([RESPONSE])).port, workers=2, count=2)
     for _ in range(3):
         check("an answer", switch.timed(REQUEST).answer, ANSWER)
@@ -59,20 +61,22 @@ def a_client_too_many() -> None:
 
 
 def check_no_dial(name: str, switch: Switch, limit: DescriptorLimit, before: int) -> None:
-    """A check of a client that is connected when descriptors run out: its endpoint isn't reached. The program has so many
-    descriptors without clients."""
+    """A check of a client that is connected when descriptors run out: its endpoint isn't reached.
+    The program has so many descriptors without clients."""
     check("no client is connected", comes(lambda: switch.count_descriptors() == before), True)
     with switch.connect(switch.active) as client:
         client.sendall(REQUEST[:9])
-        check("a client is connected", comes(lambda: switch.count_descriptors() == before + 1), True)
+        check(
+            "a client is connected", comes(lambda: switch.count_descriptors() == before + 1), True
+        )
         limit.refuse()
         client.sendall(REQUEST[9:])
         check(name, clients.received(client), BAD_GATEWAY)
 
 
 def without_descriptors() -> None:
-    """No file descriptor is free: no endpoint is reached; an accept that fails is tried again for nearly a second, and
-    counts as one of the connections after that."""
+    """No file descriptor is free: no endpoint is reached; an accept that fails is tried again for
+    nearly a second, and counts as one of the connections after that."""
     switch, operator = opened(Endpoint(by_target(b"one")).port, NO_PREVIEW, count=8, preview=False)
     before = switch.count_descriptors()
     check("descriptors for all", switch.get(switch.active), (200, b"one"))
@@ -93,25 +97,39 @@ def without_descriptors() -> None:
 
 
 def descriptors_of_operators() -> None:
-    """As many idle operators and clients as may wait leave descriptors for the connections to endpoints."""
+    """As many idle operators and clients as may wait leave descriptors for the connections to
+    endpoints."""
     most = 256
-    with serving(Endpoint(by_target(b"one")).port, workers=2, descriptors=most) as switch, contextlib.ExitStack() as stack:
-        for port, count in ((switch.control, most // 4), (switch.active, most // 2), (switch.preview, most // 2)):
+    with serving(
+        Endpoint(by_target(b"one")).port, workers=2, descriptors=most
+    ) as switch, contextlib.ExitStack() as stack:
+        for port, count in (
+            (switch.control, most // 4),
+            (switch.active, most // 2),
+            (switch.preview, most // 2),
+        ):
             for _ in range(count):
                 stack.enter_context(clients.connect(port))
         time.sleep(3)
-        check("a request beside idle operators and clients", clients.timed(switch.active).answer, answer(b"one"))
+        check(
+            "a request beside idle operators and clients",
+            clients.timed(switch.active).answer,
+            answer(b"one"),
+        )
 
 
 def count_waits(process: int) -> int:
     """How often the threads of a process have waited."""
     tasks = pathlib.Path(f"/proc/{process}/task").glob("*/status")
     lines = [line for task in tasks for line in task.read_text(encoding="ascii").splitlines()]
-    return sum(int(line.split()[1]) for line in lines if line.startswith("voluntary_ctxt_switches:"))
+    return sum(
+        int(line.split()[1]) for line in lines if line.startswith("voluntary_ctxt_switches:")
+    )
 
 
 def idle_workers() -> None:
-    """Idle workers don't look for work: all threads of an idle switch together wait at most ten times a second."""
+    """Idle workers don't look for work: all threads of an idle switch together wait at most ten
+    times a second."""
     with serving(Endpoint(by_target(b"one")).port, workers=7) as switch:
         check("an answer before", clients.timed(switch.active).answer, answer(b"one"))
         time.sleep(2)
@@ -123,17 +141,28 @@ def idle_workers() -> None:
 
 
 def without_threads() -> None:
-    """No thread can be had: the operator is answered up to `quit`, and then the seats are worked in turn."""
+    """No thread can be had: the operator is answered up to `quit`, and then the seats are worked in
+    turn."""
     hard = resource.getrlimit(resource.RLIMIT_STACK)[1]
     if hard != resource.RLIM_INFINITY and hard < NO_STACK:
-        print("live_resources: the limit on stacks is fixed here, so a run without threads is passed over")
+        print(
+            "live_resources: the limit on stacks is fixed here, so a run without threads is passed over"
+        )
         return
     limits = (NO_STACK, hard)
-    switch = Switch(BY_HAND, workers=2, count=2, prepare=lambda: resource.setrlimit(resource.RLIMIT_STACK, limits))
+    switch = Switch(
+        BY_HAND,
+        workers=2,
+        count=2,
+        prepare=lambda: resource.setrlimit(resource.RLIMIT_STACK, limits),
+    )
     operator = switch.operator()
     operator.check(f"open one {Endpoint(by_target(b'one')).port}", "ok 0")
     with concurrent.futures.ThreadPoolExecutor(6) as pool:
-        gets = [pool.submit(switch.get, port) for port in (switch.active, switch.active, switch.preview) * 2]
+        gets = [
+            pool.submit(switch.get, port)
+            for port in (switch.active, switch.active, switch.preview) * 2
+        ]
         time.sleep(SEEN)
         check("none is answered beside the operator", [get.done() for get in gets], [False] * 6)
         operator.check("available 1 1", "ok 0")
@@ -144,5 +173,12 @@ def without_threads() -> None:
 
 
 if __name__ == "__main__":
-    PARTS = [connections_used_up, a_client_too_many, without_descriptors, descriptors_of_operators, idle_workers, without_threads]
+    PARTS = [
+        connections_used_up,
+        a_client_too_many,
+        without_descriptors,
+        descriptors_of_operators,
+        idle_workers,
+        without_threads,
+    ]
     checks.run("live_resources", PARTS, at_once=4)

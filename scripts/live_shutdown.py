@@ -1,6 +1,6 @@
-"""The end of a running `serve`: `quit` with `--forever` is a graceful shutdown, and with `--count` it ends the
-operators' side alone. And what a switch tells on standard error: too few threads, accepts that fail, ports whose
-connections are used up."""
+"""The end of a running `serve`: `quit` with `--forever` is a graceful shutdown, and with `--count`
+it ends the operators' side alone. And what a switch tells on standard error: too few threads,
+accepts that fail, ports whose connections are used up."""
 import contextlib
 import pathlib
 import resource
@@ -19,15 +19,24 @@ from support.endpoints import Endpoint, Held, by_target, held_at
 from support.messages import ROLLOUT, answer, request
 from support.operators import Operator
 from support.ports import connections_at, is_open, is_refused
-from support.stderr_lines import accepts_fail, check_told_once, fewer_workers, no_event_loop, told, used_up
+from support.stderr_lines import (
+    accepts_fail,
+    check_told_once,
+    fewer_workers,
+    no_event_loop,
+    told,
+    used_up,
+)
 from support.switch import LISTENING, EndedSwitch, Switch, opened
 
-# How long, in seconds, it takes at most until the ports are closed, and until the program has ended once nothing is
-# open. Where a shutdown waited for what it needn't, that would be for the timeout or the sixty seconds of a shutdown.
+# How long, in seconds, it takes at most until the ports are closed, and until the program has ended
+# once nothing is open. Where a shutdown waited for what it needn't, that would be for the timeout
+# or the sixty seconds of a shutdown.
 SOON = 5.0
 TIMEOUT = 40
 BIG = b"x" * 4000000
-# The stack of each thread where few are to be had: what the system lends beside so many stacks is less than one.
+# The stack of each thread where few are to be had: what the system lends beside so many stacks is
+# less than one.
 STACK = 512 << 20
 SPARE = 200 << 20
 REPORT = """moment 0
@@ -42,8 +51,11 @@ end
 
 
 def check_ended(name: str, ended: EndedSwitch, calls: int) -> None:
-    check(f"{name}: the report, the calls and the status", (ended.printed, ended.status),
-          (f"{REPORT}calls {calls}\n", 0))
+    check(
+        f"{name}: the report, the calls and the status",
+        (ended.printed, ended.status),
+        (f"{REPORT}calls {calls}\n", 0),
+    )
 
 
 def check_ports_closed(name: str, switch: Switch) -> None:
@@ -84,15 +96,21 @@ class EndlessSwitch:
 
 
 def graceful() -> None:
-    """Requests that are served, that arrive, and that wait for a worker are answered; pending answers are written."""
+    """Requests that are served, that arrive, and that wait for a worker are answered; pending
+    answers are written."""
     with contextlib.ExitStack() as stack:
         endless = EndlessSwitch(stack, 3)
         switch = endless.switch
         silent = [endless.client(port, b"") for port in (switch.active, switch.preview)]
-        arriving = [endless.client(port, request()[:-1]) for port in (switch.active, switch.preview)]
+        arriving = [
+            endless.client(port, request()[:-1]) for port in (switch.active, switch.preview)
+        ]
         reader = endless.client(switch.active, request(b"/big"))
-        check("an answer is pending",
-              comes(lambda: endless.endpoint.served == 1 and endless.operator.open_requests() == [0]), True)
+        check(
+            "an answer is pending",
+            comes(lambda: endless.endpoint.served == 1 and endless.operator.open_requests() == [0]),
+            True,
+        )
         served = [*endless.hold(switch.active, 2), *endless.hold(switch.preview, 1)]
         endless.operator.send_quit()
         check_ports_closed("a graceful shutdown", switch)
@@ -104,13 +122,26 @@ def graceful() -> None:
         check_soon("a client that has sent nothing is let go soon", time.monotonic() - start, SOON)
         for client in arriving:
             client.sendall(b"\n")
-        check("a request that is arriving at quit is answered", received(arriving[0]), answer(b"one"))
+        check(
+            "a request that is arriving at quit is answered", received(arriving[0]), answer(b"one")
+        )
         check("the program waits for what is open", switch.process.poll(), None)
-        check("the pending answer of a slow reader at quit is written", received(reader) == answer(BIG), True)
+        check(
+            "the pending answer of a slow reader at quit is written",
+            received(reader) == answer(BIG),
+            True,
+        )
         endless.held.is_free.set()
-        check("requests that are served at quit are answered", [received(client) for client in served],
-              [answer(b"held")] * 3)
-        check("a request that waits for a worker at quit is answered", received(arriving[1]), answer(b"one"))
+        check(
+            "requests that are served at quit are answered",
+            [received(client) for client in served],
+            [answer(b"held")] * 3,
+        )
+        check(
+            "a request that waits for a worker at quit is answered",
+            received(arriving[1]),
+            answer(b"one"),
+        )
         check_ends_soon("a graceful shutdown", switch, 12)
 
 
@@ -128,14 +159,18 @@ def pending_for_workers() -> None:
         check_ports_closed("a shutdown while all workers are busy", switch)
         time.sleep(1.5)
         endless.held.is_free.set()
-        check("requests that wait for a worker at quit are answered", [received(client) for client in arriving],
-              [answer(b"one")] * 5)
+        check(
+            "requests that wait for a worker at quit are answered",
+            [received(client) for client in arriving],
+            [answer(b"one")] * 5,
+        )
         check("the request of the busy worker", received(served[0]), answer(b"held"))
         check_ends_soon("a shutdown while all workers are busy", switch, 12)
 
 
 def backlog_at_quit() -> None:
-    """Requests that came whole while all workers were busy, and wait in the system for an accept, are answered."""
+    """Requests that came whole while all workers were busy, and wait in the system for an accept,
+    are answered."""
     held = Held(b"held")
     switch, operator = opened(Endpoint(held).port, workers=2)
     clients = [connect(switch.active) for _ in range(22)]
@@ -146,14 +181,20 @@ def backlog_at_quit() -> None:
     operator.send_quit()
     check_ports_closed("a shutdown with clients in the backlog", switch)
     held.is_free.set()
-    check("requests in the backlog at quit", [received(client) for client in clients], [answer(b"held")] * 22)
+    check(
+        "requests in the backlog at quit",
+        [received(client) for client in clients],
+        [answer(b"held")] * 22,
+    )
     check_ends_soon("a shutdown with clients in the backlog", switch, 44)
 
 
 def silent_clients(switch: Switch, count: int) -> list[socket.socket]:
     """So many clients that are connected, and have sent nothing."""
     silent = [connect(switch.active) for _ in range(count)]
-    check("silent clients are connected", comes(lambda: connections_at(switch.active) == count), True)
+    check(
+        "silent clients are connected", comes(lambda: connections_at(switch.active) == count), True
+    )
     return silent
 
 
@@ -164,11 +205,16 @@ def send_and_check(name: str, clients: list[socket.socket]) -> None:
 
 
 def check_answered(name: str, clients: list[socket.socket]) -> None:
-    check(name, Counter(received(client) for client in clients), Counter({answer(b"one"): len(clients)}))
+    check(
+        name,
+        Counter(received(client) for client in clients),
+        Counter({answer(b"one"): len(clients)}),
+    )
 
 
 def sent_before_quit() -> None:
-    """Silent clients that have sent whole requests before quit are all answered, though none was read by then."""
+    """Silent clients that have sent whole requests before quit are all answered, though none was
+    read by then."""
     for is_stopped in (False, True):
         switch, operator = opened(Endpoint(by_target(b"one")).port, workers=4)
         clients = silent_clients(switch, 100)
@@ -184,7 +230,9 @@ def sent_before_quit() -> None:
 
 def sent_within_the_grace() -> None:
     """A client that is silent at quit, and sends its request within the grace, is answered."""
-    switch, operator = opened(Endpoint(by_target(b"one")).port, workers=4, flags=("--shutdown-grace", "60"))
+    switch, operator = opened(
+        Endpoint(by_target(b"one")).port, workers=4, flags=("--shutdown-grace", "60")
+    )
     clients = silent_clients(switch, 50)
     operator.send_quit()
     check_ports_closed("a shutdown with silent clients", switch)
@@ -195,7 +243,9 @@ def sent_within_the_grace() -> None:
 def silent_for_the_grace() -> None:
     """A client that stays silent is let go after the grace, and not before."""
     grace = 4
-    switch, operator = opened(Endpoint(by_target(b"one")).port, workers=4, flags=("--shutdown-grace", str(grace)))
+    switch, operator = opened(
+        Endpoint(by_target(b"one")).port, workers=4, flags=("--shutdown-grace", str(grace))
+    )
     clients = silent_clients(switch, 50)
     start = time.monotonic()
     operator.send_quit()
@@ -207,9 +257,12 @@ def silent_for_the_grace() -> None:
 
 
 def unread_after_the_grace() -> None:
-    """Before a silent connection is closed after the grace, it is read once: more requests than are read in a turn have come."""
+    """Before a silent connection is closed after the grace, it is read once: more requests than are
+    read in a turn have come."""
     grace = 6
-    switch, operator = opened(Endpoint(by_target(b"one")).port, workers=4, flags=("--shutdown-grace", str(grace)))
+    switch, operator = opened(
+        Endpoint(by_target(b"one")).port, workers=4, flags=("--shutdown-grace", str(grace))
+    )
     clients = silent_clients(switch, 200)
     start = time.monotonic()
     operator.send_quit()
@@ -224,7 +277,8 @@ def unread_after_the_grace() -> None:
 
 
 def watches_refused() -> None:
-    """Where the system refuses to watch connections of the backlog at quit, they are ended, and the shutdown with them."""
+    """Where the system refuses to watch connections of the backlog at quit, they are ended, and the
+    shutdown with them."""
     held = Held(b"held")
     probe, operator = opened(Endpoint(held).port)
     last = processes.descriptors(probe.process.pid)[-1]
@@ -244,18 +298,27 @@ def watches_refused() -> None:
         check("the request of the busy worker", received(served), answer(b"held"))
         ends = Counter(received(client) for client in clients)
     # a few get descriptors that were closed at the quit, and are watched
-    check("clients whose watches are refused", (ends[b""] > 10, ends[b""] + ends[answer(b"held")]), (True, 20))
+    check(
+        "clients whose watches are refused",
+        (ends[b""] > 10, ends[b""] + ends[answer(b"held")]),
+        (True, 20),
+    )
     check_ends_soon("a shutdown where watches are refused", switch, 2 + 2 * ends[answer(b"held")])
 
 
 def quit_of_the_opener() -> None:
-    """The connection on which the book was opened ends at its quit, though the shutdown waits for a request."""
+    """The connection on which the book was opened ends at its quit, though the shutdown waits for a
+    request."""
     held = Held(b"held")
     endpoint, switch = Endpoint(held), Switch()
     with connect(switch.control) as opener, connect(switch.active) as client:
         opener.sendall(f"open one {endpoint.port}\navailable 1 1\n".encode())
         with opener.makefile("rb") as replies:
-            check("the replies to the opener", [replies.readline() for _ in range(2)], [b"ok 0\n", b"ok 0\n"])
+            check(
+                "the replies to the opener",
+                [replies.readline() for _ in range(2)],
+                [b"ok 0\n", b"ok 0\n"],
+            )
         client.sendall(request())
         held.holds(1)
         opener.sendall(b"quit\n")
@@ -268,7 +331,8 @@ def quit_of_the_opener() -> None:
 
 
 def pending_at_the_end() -> None:
-    """Sixty seconds after quit, requests that wait for a worker are dropped: one response's timeout later all is over."""
+    """Sixty seconds after quit, requests that wait for a worker are dropped: one response's timeout
+    later all is over."""
     timeout = 15
     switch, operator = opened(Endpoint(lambda *_: time.sleep(150)).port, timeout=timeout)
     clients = [connect(switch.active) for _ in range(9)]
@@ -281,7 +345,11 @@ def pending_at_the_end() -> None:
     operator.send_quit()
     start = time.monotonic()
     switch.wait()
-    check_soon("a shutdown with requests that wait for a worker", time.monotonic() - start, 60 + timeout + SOON)
+    check_soon(
+        "a shutdown with requests that wait for a worker",
+        time.monotonic() - start,
+        60 + timeout + SOON,
+    )
 
 
 def at_rest() -> None:
@@ -290,8 +358,13 @@ def at_rest() -> None:
     operator.close()
     check("answers before the shutdown", set(polite(switch.active, 3).answers), {answer(b"one")})
     with connect(switch.active), connect(switch.preview):
-        run = subprocess.run([TOP / "bin" / "operator", str(switch.control), "shutdown", "--yes"], capture_output=True,
-                             text=True, timeout=SOON * 2, check=False)
+        run = subprocess.run(
+            [TOP / "bin" / "operator", str(switch.control), "shutdown", "--yes"],
+            capture_output=True,
+            text=True,
+            timeout=SOON * 2,
+            check=False,
+        )
         check("the operator's tool", (run.stdout, run.stderr, run.returncode), ("", "", 0))
         check_ends_soon("a shutdown at rest", switch, 6)
 
@@ -306,8 +379,8 @@ def before_open() -> None:
 
 
 def late_at_quit() -> None:
-    """A request that isn't whole in time, and an endpoint that is silent, keep a shutdown for no longer than their
-    time."""
+    """A request that isn't whole in time, and an endpoint that is silent, keep a shutdown for no
+    longer than their time."""
     timeout, held = 4, Held(b"held")
     switch, operator = opened(Endpoint(held).port, workers=2, timeout=timeout)
     with connect(switch.active) as late, connect(switch.active) as pending:
@@ -328,18 +401,27 @@ def sixty_seconds() -> None:
         operator.send_quit()
         start = time.monotonic()
         check_ends_soon("a shutdown beside requests that drip", switch, 0, 60 + SOON)
-        check("requests that drip keep a shutdown for up to 60 seconds", time.monotonic() - start > 50, True)
+        check(
+            "requests that drip keep a shutdown for up to 60 seconds",
+            time.monotonic() - start > 50,
+            True,
+        )
 
 
 def counted() -> None:
-    """With `--count`, `quit` ends the operators' side alone: clients are served until the connections are used up."""
+    """With `--count`, `quit` ends the operators' side alone: clients are served until the
+    connections are used up."""
     switch, operator = opened(Endpoint(by_target(b"one")).port, workers=2, count=10)
     check("answers before quit", set(polite(switch.active, 5).answers), {answer(b"one")})
     operator.send_quit()
     check("the control port is refused after quit", is_refused(switch.control), True)
     with connect(switch.active) as client:
         check("answers after quit", set(polite(switch.active, 14).answers), {answer(b"one")})
-        check("answers at the preview port after quit", set(polite(switch.preview, 10).answers), {answer(b"one")})
+        check(
+            "answers at the preview port after quit",
+            set(polite(switch.preview, 10).answers),
+            {answer(b"one")},
+        )
         check("the port is closed with its last connection", is_refused(switch.active), True)
         check("the program waits for the last connection", switch.process.poll(), None)
         client.sendall(request())
@@ -348,7 +430,8 @@ def counted() -> None:
 
 
 def connections_used_up() -> None:
-    """A port that is closed since its connections are used up is told once. The operators' side goes on."""
+    """A port that is closed since its connections are used up is told once. The operators' side
+    goes on."""
     switch, operator = opened(Endpoint(by_target(b"one")).port, workers=1, count=3)
     for name, port in (("active", switch.active), ("preview", switch.preview)):
         check(f"nothing is told of the {name} port before", told(switch, used_up(name)), [])
@@ -364,12 +447,17 @@ def connections_used_up() -> None:
 @contextlib.contextmanager
 def few_threads(count: int) -> Iterator[tuple[Switch, Operator]]:
     """A switch with four workers and one, which gets so many threads beside the first."""
+
     def large_stacks() -> None:
-        resource.setrlimit(resource.RLIMIT_STACK, (STACK, resource.getrlimit(resource.RLIMIT_STACK)[1]))
+        resource.setrlimit(
+            resource.RLIMIT_STACK, (STACK, resource.getrlimit(resource.RLIMIT_STACK)[1])
+        )
 
     switch = Switch(ROLLOUT, workers=4, prepare=large_stacks, timeout=TIMEOUT)
     check("listening", switch.first, LISTENING)
-    lines = pathlib.Path(f"/proc/{switch.process.pid}/status").read_text(encoding="ascii").splitlines()
+    lines = (
+        pathlib.Path(f"/proc/{switch.process.pid}/status").read_text(encoding="ascii").splitlines()
+    )
     size = next(int(line.split()[1]) for line in lines if line.startswith("VmSize:")) << 10
     most = size + count * STACK + SPARE
     resource.prlimit(switch.process.pid, resource.RLIMIT_AS, (most, resource.RLIM_INFINITY))
@@ -395,25 +483,33 @@ def no_threads() -> None:
     with few_threads(0) as (switch, operator):
         for port in ("active", "preview"):
             check_told_once(f"no worker at the {port} port is told", switch, fewer_workers(port))
-            check_told_once(f"no event loop at the {port} port is told", switch, no_event_loop(port))
+            check_told_once(
+                f"no event loop at the {port} port is told", switch, no_event_loop(port)
+            )
         operator.check("tick 0", "ok 0")
 
 
 def accepts_that_fail() -> None:
-    """Accepts that fail for want of descriptors are told once for each port, and tried again until they succeed."""
+    """Accepts that fail for want of descriptors are told once for each port, and tried again until
+    they succeed."""
     switch, operator = opened(Endpoint(by_target(b"one")).port, workers=2, timeout=TIMEOUT)
     limit = processes.DescriptorLimit(switch.process.pid)
     limit.leave(0)
     clients = [connect(port) for port in (switch.active, switch.preview)]
     for name, client in zip(("active", "preview"), clients):
         client.sendall(request())
-        check_told_once(f"accepts that fail at the {name} port are told", switch, accepts_fail(name))
+        check_told_once(
+            f"accepts that fail at the {name} port are told", switch, accepts_fail(name)
+        )
     time.sleep(2)
     operator.check("tick 0", "ok 0")
     check("each is told once", len(switch.told), 2)
     limit.lift()
-    check("clients are answered once there are descriptors", [received(client) for client in clients],
-          [answer(b"one")] * 2)
+    check(
+        "clients are answered once there are descriptors",
+        [received(client) for client in clients],
+        [answer(b"one")] * 2,
+    )
     check("clients that come later", timed(switch.active).answer, answer(b"one"))
     operator.send_quit()
     check_ends_soon("a run whose accepts have failed", switch, 6)
@@ -431,7 +527,28 @@ def nothing_to_tell() -> None:
 
 
 if __name__ == "__main__":
-    checks.run("live_shutdown", (
-        graceful, pending_for_workers, backlog_at_quit, sent_before_quit, sent_within_the_grace, silent_for_the_grace,
-        unread_after_the_grace, watches_refused, quit_of_the_opener, at_rest, before_open, late_at_quit, counted, connections_used_up,
-        too_few_threads, no_threads, accepts_that_fail, nothing_to_tell), 6, by_hand=(sixty_seconds, pending_at_the_end))
+    checks.run(
+        "live_shutdown",
+        (
+            graceful,
+            pending_for_workers,
+            backlog_at_quit,
+            sent_before_quit,
+            sent_within_the_grace,
+            silent_for_the_grace,
+            unread_after_the_grace,
+            watches_refused,
+            quit_of_the_opener,
+            at_rest,
+            before_open,
+            late_at_quit,
+            counted,
+            connections_used_up,
+            too_few_threads,
+            no_threads,
+            accepts_that_fail,
+            nothing_to_tell,
+        ),
+        6,
+        by_hand=(sixty_seconds, pending_at_the_end),
+    )

@@ -1,5 +1,5 @@
-"""How `bg_switch serve` starts, and what it tells where it can't: faults of the strategy, ports that are taken, and
-`quit` before a book is open."""
+"""How `bg_switch serve` starts, and what it tells where it can't: faults of the strategy, ports
+that are taken, and `quit` before a book is open."""
 import contextlib
 import socket
 from collections.abc import Iterator
@@ -32,11 +32,18 @@ def quit_before_open() -> None:
 
 
 def faults_of_the_strategy() -> None:
-    for rollout, fault in (("[]", "fault WrongType document\n"), (" " * TOO_LARGE, "fault TooLarge\n")):
+    for rollout, fault in (
+        ("[]", "fault WrongType document\n"),
+        (" " * TOO_LARGE, "fault TooLarge\n"),
+    ):
         switch = Switch(rollout, count=1, preview=False)
         switch.left.clear()
         check(fault, (switch.first, switch.end()), (fault, ("", 1)))
-    check("a strategy that is no JSON", run_to_end('{"spec":\n}', *free_ports(3)), ("fault NotJson\n", NO_JSON, 1))
+    check(
+        "a strategy that is no JSON",
+        run_to_end('{"spec":\n}', *free_ports(3)),
+        ("fault NotJson\n", NO_JSON, 1),
+    )
 
 
 def ports_that_are_taken() -> None:
@@ -48,7 +55,11 @@ def ports_that_are_taken() -> None:
             ports = free_ports(3)
             ports[place] = taken
             reason = f"bg_switch: port {taken} of {HOST} (--{word}) can't be bound: {IN_USE}\n"
-            check(f"the port of --{word} is taken", run_to_end(ROLLOUT, *ports), ("fault Bind\n", reason, 1))
+            check(
+                f"the port of --{word} is taken",
+                run_to_end(ROLLOUT, *ports),
+                ("fault Bind\n", reason, 1),
+            )
 
 
 def misspelt_key() -> None:
@@ -56,7 +67,11 @@ def misspelt_key() -> None:
     slip = ROLLOUT.replace('{"activeService"', '{"autoPromotionEnable": false, "activeService"')
     with taken_port() as taken:
         run = run_to_end(slip, taken, *free_ports(2))
-    check("a key that is misspelt", (run.printed, run.told.splitlines()[0], run.status), ("fault Bind\n", MISSPELT, 1))
+    check(
+        "a key that is misspelt",
+        (run.printed, run.told.splitlines()[0], run.status),
+        ("fault Bind\n", MISSPELT, 1),
+    )
 
 
 if __name__ == "__main__":

@@ -1,5 +1,6 @@
 #!/usr/bin/env python3
-"""Lists the packages and modules of the Python tools, each with the first sentence of its documentation.
+"""Lists the packages and modules of the Python tools, each with the first sentence of its
+documentation.
 
 usage: scripts/module_map.py             prints the table
        scripts/module_map.py --write     writes it into docs/TOOLS.md, between the two marks
@@ -43,8 +44,8 @@ def sentence_of(path: pathlib.Path) -> str:
 
 
 def imported(path: pathlib.Path) -> Iterator[tuple[str, str]]:
-    """The package and the module of each import of the tools' own, at any place of a module. The module is empty where an import
-    names the package alone."""
+    """The package and the module of each import of the tools' own, at any place of a module. The
+    module is empty where an import names the package alone."""
     for node in ast.walk(ast.parse(path.read_text(encoding="utf-8"))):
         names: list[str] = []
         if isinstance(node, ast.Import):
@@ -58,7 +59,8 @@ def imported(path: pathlib.Path) -> Iterator[tuple[str, str]]:
 
 
 def wrong_imports(library: pathlib.Path = LIBRARY) -> list[str]:
-    """The imports that go up: `FILE: PACKAGE` for each package that a module imports and may not."""
+    """The imports that go up: `FILE: PACKAGE` for each package that a module imports and may
+    not."""
     found = []
     for package, below in BELOW.items():
         for path in sorted((library / package).glob("*.py")):
@@ -71,9 +73,17 @@ def table() -> str:
     """The table, with a row for each module."""
     lines = ["| Package | Module | What it has |", "|---|---|---|"]
     for package, below in BELOW.items():
-        imports = f"imports {', '.join(f'`{name}`' for name in below)}" if below else "imports no other package"
-        lines.append(f"| **`{package}`** | {imports} | {sentence_of(LIBRARY / package / '__init__.py')} |")
-        lines += [f"| `{package}` | `{path.stem}` | {sentence_of(path)} |" for path in modules(package)]
+        imports = (
+            f"imports {', '.join(f'`{name}`' for name in below)}"
+            if below
+            else "imports no other package"
+        )
+        lines.append(
+            f"| **`{package}`** | {imports} | {sentence_of(LIBRARY / package / '__init__.py')} |"
+        )
+        lines += [
+            f"| `{package}` | `{path.stem}` | {sentence_of(path)} |" for path in modules(package)
+        ]
     return "".join(f"{row}\n" for row in lines)
 
 

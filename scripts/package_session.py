@@ -1,7 +1,9 @@
-"""The session of scripts/package.sh: it uses the installed package in a Debian of its own, whose ports are all free.
+"""The session of scripts/package.sh: it uses the installed package in a Debian of its own, whose
+ports are all free.
 
-systemd does not run there. So the units' commands are run as systemd runs them: with the user, the groups, the folders, the
-variables and the standard input of the unit. What the operator's lines answer is what README.md says of the same lines."""
+systemd does not run there. So the units' commands are run as systemd runs them: with the user, the
+groups, the folders, the variables and the standard input of the unit. What the operator's lines
+answer is what README.md says of the same lines."""
 import contextlib
 import grp
 import http.client
@@ -45,7 +47,9 @@ class Unit:
         self.user = pwd.getpwnam(self.value("User"))
         group = self.value("Group")
         self.group = grp.getgrnam(group).gr_gid if group else self.user.pw_gid
-        self.groups = [grp.getgrnam(other).gr_gid for other in self.value("SupplementaryGroups").split()]
+        self.groups = [
+            grp.getgrnam(other).gr_gid for other in self.value("SupplementaryGroups").split()
+        ]
 
     def values(self, key: str) -> list[str]:
         return [line.partition("=")[2] for line in self.lines if line.startswith(f"{key}=")]
@@ -70,9 +74,16 @@ class Unit:
         variables = dict(pair.split("=", 1) for pair in self.values("Environment"))
         with open(given, "rb") as told:
             return subprocess.Popen(
-                command.split(), stdin=told, stdout=subprocess.DEVNULL, user=self.user.pw_uid, group=self.group,
-                extra_groups=self.groups, umask=int(self.value("UMask") or "022", 8), cwd=self.value("WorkingDirectory") or "/",
-                env={"PATH": "/usr/sbin:/usr/bin:/sbin:/bin", "LANG": "C.UTF-8", **variables})
+                command.split(),
+                stdin=told,
+                stdout=subprocess.DEVNULL,
+                user=self.user.pw_uid,
+                group=self.group,
+                extra_groups=self.groups,
+                umask=int(self.value("UMask") or "022", 8),
+                cwd=self.value("WorkingDirectory") or "/",
+                env={"PATH": "/usr/sbin:/usr/bin:/sbin:/bin", "LANG": "C.UTF-8", **variables},
+            )
 
     @contextlib.contextmanager
     def running(self) -> Iterator["subprocess.Popen[bytes]"]:
@@ -85,7 +96,9 @@ class Unit:
 
     def stop(self, process: "subprocess.Popen[bytes]") -> list[int]:
         """Runs its commands of a stop, in turn. Gives their statuses."""
-        commands = [command.replace("${MAINPID}", str(process.pid)) for command in self.values("ExecStop")]
+        commands = [
+            command.replace("${MAINPID}", str(process.pid)) for command in self.values("ExecStop")
+        ]
         reaper = threading.Thread(target=process.wait)
         reaper.start()
         statuses = [self.start(command).wait(SOON) for command in commands]
@@ -95,8 +108,17 @@ class Unit:
 
 def told(words: Sequence[str], user: str = "nobody") -> tuple[str, int]:
     """What a command prints for a user without rights, and its status."""
-    done = subprocess.run(words, capture_output=True, text=True, timeout=SOON, check=False, user=user, group="nogroup",
-                          extra_groups=[], cwd="/")
+    done = subprocess.run(
+        words,
+        capture_output=True,
+        text=True,
+        timeout=SOON,
+        check=False,
+        user=user,
+        group="nogroup",
+        extra_groups=[],
+        cwd="/",
+    )
     return done.stdout.strip(), done.returncode
 
 
@@ -133,8 +155,15 @@ def endpoints() -> Iterator[None]:
             folder.mkdir()
             (folder / "index.html").write_text(f"hello from {name}\n", encoding="ascii")
             words = ["python3", "-m", "http.server", "--bind", HOST, "--directory", str(folder)]
-            started += [subprocess.Popen([*words, str(port)], stderr=subprocess.DEVNULL, stdout=subprocess.DEVNULL, user="nobody")
-                        for port in ports]
+            started += [
+                subprocess.Popen(
+                    [*words, str(port)],
+                    stderr=subprocess.DEVNULL,
+                    stdout=subprocess.DEVNULL,
+                    user="nobody",
+                )
+                for port in ports
+            ]
         try:
             for port in (*ENDPOINTS["v1"], *ENDPOINTS["v2"]):
                 check(f"the endpoint at {port} answers", comes(partial(answers, port)), True)
@@ -179,7 +208,8 @@ def lines_of(*files: pathlib.Path) -> int:
 
 
 def open_and_roll_back() -> None:
-    """The session of README.md up to the verdict that moves live traffic back, and the second attempt."""
+    """The session of README.md up to the verdict that moves live traffic back, and the second
+    attempt."""
     send("open media-v1 9101 9102", "ok 0")
     send("available 1 2", "ok 0")
     check("clients of v1", asked(ACTIVE), (200, "hello from v1"))
@@ -199,11 +229,18 @@ def open_and_roll_back() -> None:
 
 
 def rotate() -> None:
-    """The switch writes to the new file soon after logrotate has renamed the old one, and no line is lost."""
+    """The switch writes to the new file soon after logrotate has renamed the old one, and no line
+    is lost."""
     old = LOG.with_name(f"{LOG.name}.1")
     check("lines of the log before", comes(lambda: lines_of(LOG) > 0), True)
     before = lines_of(LOG)
-    check("logrotate", subprocess.run(["logrotate", "--force", "/etc/logrotate.d/bg-switch"], check=False).returncode, 0)
+    check(
+        "logrotate",
+        subprocess.run(
+            ["logrotate", "--force", "/etc/logrotate.d/bg-switch"], check=False
+        ).returncode,
+        0,
+    )
     check("the old log is there", old.exists(), True)
     requests = 0
     while not LOG.exists() and requests < 1000:
@@ -215,12 +252,17 @@ def rotate() -> None:
 def judge_log() -> None:
     """The unit's group may read the log, and nobody else."""
     at = LOG.stat()
-    check("mode and group of the log", (stat.filemode(at.st_mode), grp.getgrgid(at.st_gid).gr_name), ("-rw-r-----", "bg-log"))
+    check(
+        "mode and group of the log",
+        (stat.filemode(at.st_mode), grp.getgrgid(at.st_gid).gr_name),
+        ("-rw-r-----", "bg-log"),
+    )
     check("others may not read the log", told(["cat", str(LOG)]), ("", 1))
 
 
 def show_dashboard() -> None:
-    """The dashboard reads the switch and its log. No controller is missed where there is no plan."""
+    """The dashboard reads the switch and its log. No controller is missed where there is no
+    plan."""
     with Unit("bg-dashboard").running():
         check("the page", comes(lambda: answers(PAGE)), True)
         check("the controller on the page", "bg_controller_up" in asked(PAGE, "/metrics")[1], False)
@@ -228,7 +270,11 @@ def show_dashboard() -> None:
 
         def counts() -> bool:
             text = asked(PAGE, "/metrics")[1]
-            return "bg_switch_up 1" in text and 'bg_switch_response_bytes_total{revision="media-v2"' in text
+            return (
+                "bg_switch_up 1" in text
+                and 'bg_switch_response_bytes_total{revision="media-v2"' in text
+            )
+
         check("the metrics have the requests of the log", comes(counts), True)
 
 
@@ -266,15 +312,32 @@ def by_controller() -> None:
     PLAN.write_text(json.dumps(plan), encoding="ascii")
     switch = Unit("bg-switch")
     with switch.running() as serving, Unit("bg-controller").running() as controller:
-        words = ["bg-operator", str(CONTROL), "wait", "stable=media-v1", "--wait", "10", "--timeout", "20"]
+        words = [
+            "bg-operator",
+            str(CONTROL),
+            "wait",
+            "stable=media-v1",
+            "--wait",
+            "10",
+            "--timeout",
+            "20",
+        ]
         check("the book is opened", told(words, OPERATOR)[1], 0)
         check("clients are answered", comes(partial(answers, ACTIVE)), True)
         check("clients", asked(ACTIVE), (200, "hello from v1"))
         check("the state file", comes(PLAN.with_name("plan.json.state").exists), True)
         check("the history, for everybody", told(["bgctl", "history", "--plan", str(PLAN)])[1], 0)
-        check("the plan and the Rollout", told(["bgctl", "check", str(PLAN), "--rollout", "/etc/bg/rollout.json"]), (f"{PLAN} is a plan", 0))
+        check(
+            "the plan and the Rollout",
+            told(["bgctl", "check", str(PLAN), "--rollout", "/etc/bg/rollout.json"]),
+            (f"{PLAN} is a plan", 0),
+        )
         with Unit("bg-dashboard").running():
-            check("the controller on the page", comes(lambda: answers(PAGE) and "bg_controller_up 1" in asked(PAGE, "/metrics")[1]), True)
+            check(
+                "the controller on the page",
+                comes(lambda: answers(PAGE) and "bg_controller_up 1" in asked(PAGE, "/metrics")[1]),
+                True,
+            )
         controller.send_signal(signal.SIGTERM)
         check("the controller ends", controller.wait(SOON), 0)
         check("the commands of the stop", switch.stop(serving), [0, 0])
@@ -282,14 +345,26 @@ def by_controller() -> None:
 
 def variables_of(process: int) -> set[str]:
     """The names of the variables that a process was started with."""
-    return {pair.partition(b"=")[0].decode() for pair in pathlib.Path(f"/proc/{process}/environ").read_bytes().split(b"\0")}
+    return {
+        pair.partition(b"=")[0].decode()
+        for pair in pathlib.Path(f"/proc/{process}/environ").read_bytes().split(b"\0")
+    }
 
 
 def variables_of_the_c_library() -> None:
     """The command `bg_switch` becomes the program, and sets the variables for it."""
-    with subprocess.Popen(["bg_switch", "check"], stdin=subprocess.PIPE, stdout=subprocess.DEVNULL, stderr=subprocess.DEVNULL,
-                          env={"PATH": "/usr/bin:/bin"}) as process:
-        check("the program runs", comes(lambda: pathlib.Path(f"/proc/{process.pid}/exe").resolve() == PROGRAM), True)
+    with subprocess.Popen(
+        ["bg_switch", "check"],
+        stdin=subprocess.PIPE,
+        stdout=subprocess.DEVNULL,
+        stderr=subprocess.DEVNULL,
+        env={"PATH": "/usr/bin:/bin"},
+    ) as process:
+        check(
+            "the program runs",
+            comes(lambda: pathlib.Path(f"/proc/{process.pid}/exe").resolve() == PROGRAM),
+            True,
+        )
         check("its variables", variables_of(process.pid) >= VARIABLES, True)
 
 
@@ -297,8 +372,17 @@ def commands() -> None:
     """Each command of the package runs for everybody; the program has the package's version."""
     version, _ = told(["dpkg-query", "--show", "--showformat=${Version}", "bg-switch"])
     check("the version", told(["bg_switch", "--version"]), (f"bg_switch {version}", 0))
-    names = [path.name for path in pathlib.Path("/usr/bin").glob("bg*") if path.name not in ("bg_switch", "bg")]
-    check("the commands", set(names) >= {"bgctl", "bg-operator", "bg-controller", "bg-analysis", "bg-dashboard", "bg-fleet"}, True)
+    names = [
+        path.name
+        for path in pathlib.Path("/usr/bin").glob("bg*")
+        if path.name not in ("bg_switch", "bg")
+    ]
+    check(
+        "the commands",
+        set(names)
+        >= {"bgctl", "bg-operator", "bg-controller", "bg-analysis", "bg-dashboard", "bg-fleet"},
+        True,
+    )
     for name in names:
         printed, status = told([name, "--help"])
         check(f"{name} --help", (status, "usage" in printed.lower()), (0, True))
@@ -310,18 +394,28 @@ def examples() -> None:
     before = sorted(folder.rglob("*"))
     for rollout in ("direct", "tested_before_and_after"):
         with open(folder / f"{rollout}.json", "rb") as given:
-            settings = subprocess.run(["bg_switch", "check"], stdin=given, capture_output=True, check=False, timeout=SOON).stdout
+            settings = subprocess.run(
+                ["bg_switch", "check"], stdin=given, capture_output=True, check=False, timeout=SOON
+            ).stdout
         check(f"{rollout}.settings", settings, (folder / f"{rollout}.settings").read_bytes())
     printed, status = told([str(folder / "demo.sh")])
     check("demo.sh", (status, printed.count("examples/")), (0, len(list(folder.glob("*.txt")))))
-    running = subprocess.Popen([str(folder / "controller" / "run.sh")], stdout=subprocess.PIPE, text=True, user="nobody", cwd="/")
+    running = subprocess.Popen(
+        [str(folder / "controller" / "run.sh")],
+        stdout=subprocess.PIPE,
+        text=True,
+        user="nobody",
+        cwd="/",
+    )
     try:
         assert running.stdout is not None
         plan = next(line for line in running.stdout if line.startswith("the plan is ")).split()[-1]
         # with the plan, the wait knows that media-v2 is still to be deployed
         stable = ["bgctl", "wait", "stable=media-v2", "--plan", plan, "--timeout", "60"]
         check("controller/run.sh", told(stable)[1], 0)
-        released, status = told([str(folder / "ci" / "release.sh"), "18082", plan, "media-v2", "19201", "19202"])
+        released, status = told(
+            [str(folder / "ci" / "release.sh"), "18082", plan, "media-v2", "19201", "19202"]
+        )
         check("ci/release.sh", (status, "steady: active media-v2" in released), (0, True))
     finally:
         running.terminate()

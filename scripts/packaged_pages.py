@@ -1,28 +1,39 @@
 #!/usr/bin/python3 -B
-"""Makes the links of the packaged pages lead somewhere: scripts/packaged_pages.py FOLDER, where FOLDER has the pages of the package.
+"""Makes the links of the packaged pages lead somewhere: scripts/packaged_pages.py FOLDER, where
+FOLDER has the pages of the package.
 
-A link to a file that the package has elsewhere leads there. One to a file that only the repository has becomes its text alone.
+A link to a file that the package has elsewhere leads there. One to a file that only the repository
+has becomes its text alone.
 """
 import pathlib
 import re
 import sys
 
 LINK = re.compile(r"(?<!!)\[([^\]\[]*)\]\(([^)\s#]*)(#[^)\s]*)?\)")
-ELSEWHERE = {"share/plan.schema.json": "/usr/share/bg-switch/plan.schema.json",
-             "share/fleet.schema.json": "/usr/share/bg-switch/fleet.schema.json"}
+ELSEWHERE = {
+    "share/plan.schema.json": "/usr/share/bg-switch/plan.schema.json",
+    "share/fleet.schema.json": "/usr/share/bg-switch/fleet.schema.json",
+}
 
 
 def packaged(folder: pathlib.Path, page: pathlib.Path, text: str) -> str:
     """The text of a page with the links that it has in the package."""
+
     def linked(link: "re.Match[str]") -> str:
         shown, target, place = link[1], link[2], link[3] or ""
-        if not target or "://" in target or target.startswith("mailto:") or (page.parent / target).exists():
+        if (
+            not target
+            or "://" in target
+            or target.startswith("mailto:")
+            or (page.parent / target).exists()
+        ):
             return link[0]
         leads_to = (page.parent / target).resolve()
         whole = str(leads_to.relative_to(folder)) if leads_to.is_relative_to(folder) else target
         if whole in ELSEWHERE:
             return f"[{shown}]({ELSEWHERE[whole]}{place})"
         return shown
+
     return LINK.sub(linked, text)
 
 

@@ -1,12 +1,12 @@
 #!/usr/bin/env python3
-"""Makes the JSON schema of a controller's plan, which editors use, from the limits and defaults of its reader; and the table of the keys
-in docs/PLAN.md from the schema.
+"""Makes the JSON schema of a controller's plan, which editors use, from the limits and defaults of
+its reader; and the table of the keys in docs/PLAN.md from the schema.
 
 usage: scripts/plan_schema.py             prints the schema
        scripts/plan_schema.py --write     writes it into share/plan.schema.json, and the table into the page
 
-The schema says what one value can be. That names and ports stand once, that revisions have equally many ports, and that the limits
-of an analysis fit together, only `bin/controller check` judges.
+The schema says what one value can be. That names and ports stand once, that revisions have equally
+many ports, and that the limits of an analysis fit together, only `bin/controller check` judges.
 """
 import json
 import pathlib
@@ -18,8 +18,18 @@ from typing import Any
 TOP = pathlib.Path(__file__).resolve().parents[1]
 sys.path.insert(0, str(TOP / "lib"))
 
-from bg_switch_tools.controller.plan import Analyses, Commands, Health, Progress  # noqa: E402  (the path stands above)
-from bg_switch_tools.controller.plan_reader import LEAST_SECONDS, LONGEST, MOST_FAILURES, MOST_REVISIONS  # noqa: E402
+from bg_switch_tools.controller.plan import (  # noqa: E402  (the path stands above)
+    Analyses,
+    Commands,
+    Health,
+    Progress,
+)
+from bg_switch_tools.controller.plan_reader import (  # noqa: E402
+    LEAST_SECONDS,
+    LONGEST,
+    MOST_FAILURES,
+    MOST_REVISIONS,
+)
 from bg_switch_tools.switch.json_values import GREATEST_PORT, MOST_PORTS, NAME, PATH  # noqa: E402
 
 FILE = TOP / "share" / "plan.schema.json"
@@ -54,47 +64,123 @@ def command() -> Schema:
 
 
 def text_of(pattern: str) -> Schema:
-    """A whole text of this pattern. In some languages `$` also matches before a line end, which is no part of it."""
+    """A whole text of this pattern. In some languages `$` also matches before a line end, which is
+    no part of it."""
     return {"type": "string", "pattern": rf"^{pattern}(?!\n)$"}
 
 
 def schema() -> Schema:
     health, progress, commands = Health(), Progress(), Commands()
-    places = "{revision}, {port} and {number}, the place of the port from 1, are replaced in its words"
-    revision = an_object({
-        "name": told("Lower-case letters, digits and hyphens, with no hyphen at either end.", text_of(NAME.pattern)),
-        "ports": told("The port of each endpoint on 127.0.0.1: one for each replica.",
-                      {"type": "array", "minItems": 1, "maxItems": MOST_PORTS, "uniqueItems": True, "items": port()})},
-        ("name", "ports"))
+    places = (
+        "{revision}, {port} and {number}, the place of the port from 1, are replaced in its words"
+    )
+    revision = an_object(
+        {
+            "name": told(
+                "Lower-case letters, digits and hyphens, with no hyphen at either end.",
+                text_of(NAME.pattern),
+            ),
+            "ports": told(
+                "The port of each endpoint on 127.0.0.1: one for each replica.",
+                {
+                    "type": "array",
+                    "minItems": 1,
+                    "maxItems": MOST_PORTS,
+                    "uniqueItems": True,
+                    "items": port(),
+                },
+            ),
+        },
+        ("name", "ports"),
+    )
     properties: Schema = {
-        "$schema": told("The place of this schema, for editors. The controller does not read it.", {"type": "string"}),
+        "$schema": told(
+            "The place of this schema, for editors. The controller does not read it.",
+            {"type": "string"},
+        ),
         "control": told("The control port of the switch.", port()),
         "active": told("The port of the active service, which no revision may have.", port()),
         "preview": told("The port of the preview service, which no revision may have.", port()),
-        "health": told("How each endpoint is probed.", an_object({
-            "path": told("The path of the GET request. A status from 200 to 399 is a success.", text_of(PATH.pattern), health.path),
-            "interval": told("Seconds between two probes of an endpoint.", seconds(health.interval)),
-            "timeout": told("Seconds within which the whole response has to come.", seconds(health.timeout)),
-            "failures": told("So many failed probes in a row, and the endpoint is down.",
-                             {"type": "integer", "minimum": 1, "maximum": MOST_FAILURES}, health.failures)})),
-        "analyses": told("The commands of the analyses, which run in the folder of the plan: status 0 is successful, 1 is failed, and "
-                         "any other status, or a timeout, is an error.", an_object({
-                             "pre": told("The command of the analysis before the switch.", command()),
-                             "post": told("The command of the analysis after the switch.", command()),
-                             "seconds": told("Seconds within which an analysis has to end.", seconds(Analyses.seconds))})),
-        "progress": told("Limits on an attempt that makes no progress.", an_object({
-            "seconds": told("Seconds within which a further endpoint has to be up.", seconds(progress.seconds)),
-            "abort": told("Whether the attempt is aborted after that.", {"type": "boolean"}, progress.abort),
-            "outage": told("Seconds without an endpoint that is up, after which an attempt that has switched ends.",
-                           seconds(progress.outage))})),
-        "redispatch": told("false for a switch that was started without --redispatch.", {"type": "boolean"}, True),
+        "health": told(
+            "How each endpoint is probed.",
+            an_object(
+                {
+                    "path": told(
+                        "The path of the GET request. A status from 200 to 399 is a success.",
+                        text_of(PATH.pattern),
+                        health.path,
+                    ),
+                    "interval": told(
+                        "Seconds between two probes of an endpoint.", seconds(health.interval)
+                    ),
+                    "timeout": told(
+                        "Seconds within which the whole response has to come.",
+                        seconds(health.timeout),
+                    ),
+                    "failures": told(
+                        "So many failed probes in a row, and the endpoint is down.",
+                        {"type": "integer", "minimum": 1, "maximum": MOST_FAILURES},
+                        health.failures,
+                    ),
+                }
+            ),
+        ),
+        "analyses": told(
+            "The commands of the analyses, which run in the folder of the plan: status 0 is successful, 1 is failed, and "
+            "any other status, or a timeout, is an error.",
+            an_object(
+                {
+                    "pre": told("The command of the analysis before the switch.", command()),
+                    "post": told("The command of the analysis after the switch.", command()),
+                    "seconds": told(
+                        "Seconds within which an analysis has to end.", seconds(Analyses.seconds)
+                    ),
+                }
+            ),
+        ),
+        "progress": told(
+            "Limits on an attempt that makes no progress.",
+            an_object(
+                {
+                    "seconds": told(
+                        "Seconds within which a further endpoint has to be up.",
+                        seconds(progress.seconds),
+                    ),
+                    "abort": told(
+                        "Whether the attempt is aborted after that.",
+                        {"type": "boolean"},
+                        progress.abort,
+                    ),
+                    "outage": told(
+                        "Seconds without an endpoint that is up, after which an attempt that has switched ends.",
+                        seconds(progress.outage),
+                    ),
+                }
+            ),
+        ),
+        "redispatch": told(
+            "false for a switch that was started without --redispatch.", {"type": "boolean"}, True
+        ),
         "start": told(f"The command that starts an endpoint; {places}.", command()),
         "stop": told(f"The command that stops an endpoint; {places}.", command()),
-        "notify": told("The command that gets each line of the log on its standard input, as a JSON object.", command()),
-        "timeout": told("Seconds within which start, stop and notify each have to end.", seconds(commands.timeout)),
-        "revisions": told("The revisions, from the first one to the one that is to be live.",
-                          {"type": "array", "minItems": 1, "maxItems": MOST_REVISIONS, "items": revision})}
-    return {"$schema": DRAFT, "title": "Plan of a controller of bg_switch", **an_object(properties, ("control", "revisions"))}
+        "notify": told(
+            "The command that gets each line of the log on its standard input, as a JSON object.",
+            command(),
+        ),
+        "timeout": told(
+            "Seconds within which start, stop and notify each have to end.",
+            seconds(commands.timeout),
+        ),
+        "revisions": told(
+            "The revisions, from the first one to the one that is to be live.",
+            {"type": "array", "minItems": 1, "maxItems": MOST_REVISIONS, "items": revision},
+        ),
+    }
+    return {
+        "$schema": DRAFT,
+        "title": "Plan of a controller of bg_switch",
+        **an_object(properties, ("control", "revisions")),
+    }
 
 
 def schema_text(made: Schema) -> str:
@@ -103,7 +189,8 @@ def schema_text(made: Schema) -> str:
 
 
 def print_or_write(usage: str | None, file: pathlib.Path, made: str) -> int:
-    """Prints the text of a schema, or writes it into its file, as the words of the command say. Gives the exit status."""
+    """Prints the text of a schema, or writes it into its file, as the words of the command say.
+    Gives the exit status."""
     if sys.argv[1:] == ["--write"]:
         file.write_text(made, encoding="utf-8")
     elif sys.argv[1:]:
@@ -124,7 +211,11 @@ def values_told(schema: Any) -> str:
         return "`true`, `false`"
     if "minimum" in schema:
         whole = "whole number" if schema["type"] == "integer" else "number"
-        return f"{whole}, {schema['minimum']:g} to {schema['maximum']:,}" if schema["maximum"] != GREATEST_PORT else "port, 1 to 65,535"
+        return (
+            f"{whole}, {schema['minimum']:g} to {schema['maximum']:,}"
+            if schema["maximum"] != GREATEST_PORT
+            else "port, 1 to 65,535"
+        )
     if schema["type"] == "array":
         items = schema["items"]
         if isinstance(items, list):
@@ -136,8 +227,18 @@ def values_told(schema: Any) -> str:
 def rows(properties: Any, required: Any, place: str = "") -> Iterator[str]:
     """A row for each key, those of an object after its own."""
     for key, schema in properties.items():
-        below = schema["items"] if schema["type"] == "array" and isinstance(schema["items"], dict) else schema
-        default = "needed" if key in required else f"`{json.dumps(schema['default'])}`" if "default" in schema else "-"
+        below = (
+            schema["items"]
+            if schema["type"] == "array" and isinstance(schema["items"], dict)
+            else schema
+        )
+        default = (
+            "needed"
+            if key in required
+            else f"`{json.dumps(schema['default'])}`"
+            if "default" in schema
+            else "-"
+        )
         yield f"| `{place}{key}` | {schema.get('description', '')} | {values_told(schema)} | {default} |"
         if below["type"] == "object":
             sign = "[]." if schema["type"] == "array" else "."
@@ -147,7 +248,16 @@ def rows(properties: Any, required: Any, place: str = "") -> Iterator[str]:
 def table() -> str:
     """The table of the keys."""
     made: Any = schema()
-    return "\n".join(["| Key | Meaning | Values | Without it |", "|---|---|---|---|", *rows(made["properties"], made["required"])]) + "\n"
+    return (
+        "\n".join(
+            [
+                "| Key | Meaning | Values | Without it |",
+                "|---|---|---|---|",
+                *rows(made["properties"], made["required"]),
+            ]
+        )
+        + "\n"
+    )
 
 
 def page_with(page: str, made: str) -> str:

@@ -1,11 +1,12 @@
 #!/usr/bin/env python3
-"""Prints which functions make most of what the check of a crate proves, by the sizes of the modules that it kept.
+"""Prints which functions make most of what the check of a crate proves, by the sizes of the modules
+that it kept.
 
 usage: scripts/proof_sizes.py [NAME..]        after `rt check` or `rt lib` of these crates; without a name, of all
 
-It proves nothing. A size does not depend on what else the machine does, as a time does. The paths of a function (its module
-`Lts`) have each value that the function owns, with all its fields, at each place where the value may be dropped, unless the
-type has an `impl Drop`.
+It proves nothing. A size does not depend on what else the machine does, as a time does. The paths
+of a function (its module `Lts`) have each value that the function owns, with all its fields, at
+each place where the value may be dropped, unless the type has an `impl Drop`.
 """
 import pathlib
 import re
@@ -42,9 +43,13 @@ def main() -> int:
             print(f"{crate}: nothing is kept: run `rt check` in its folder")
             continue
         total = whole.total()
-        print(f"{crate}: {total / 1e6:.0f} MB, of which the paths of functions are {paths.total() / 1e6:.0f} MB")
+        print(
+            f"{crate}: {total / 1e6:.0f} MB, of which the paths of functions are {paths.total() / 1e6:.0f} MB"
+        )
         for function, size in whole.most_common(MOST):
-            print(f"  {size / 1e6:6.1f} MB {100 * size / total:3.0f}%  paths {paths[function] / 1e6:5.1f}  {function}")
+            print(
+                f"  {size / 1e6:6.1f} MB {100 * size / total:3.0f}%  paths {paths[function] / 1e6:5.1f}  {function}"
+            )
     return 0
 
 

@@ -1,11 +1,13 @@
 #!/usr/bin/env python3
-"""Proves, tests and tries with its edits what differs from a commit, and the crates above it. It is not the gate.
+"""Proves, tests and tries with its edits what differs from a commit, and the crates above it. It is
+not the gate.
 
 usage: scripts/quick.py [COMMIT]        `make quick`; without a commit, from where the branch left main
 
-A crate differs where a file of its folder or its line of crates.txt does. Each such crate, and each that stands on one, is
-proved over what earlier checks kept, lowest first; then their tests run, and their must-fail edits are tried. What is not
-built below them is proved first, so the first run in a clone takes as long as `make build`.
+A crate differs where a file of its folder or its line of crates.txt does. Each such crate, and each
+that stands on one, is proved over what earlier checks kept, lowest first; then their tests run, and
+their must-fail edits are tried. What is not built below them is proved first, so the first run in a
+clone takes as long as `make build`.
 """
 import pathlib
 import re
@@ -28,15 +30,22 @@ class Step:
 
 
 def said_by_git(*words: str) -> str:
-    return subprocess.run(["git", *words], cwd=TOP, capture_output=True, text=True, check=True).stdout
+    return subprocess.run(
+        ["git", *words], cwd=TOP, capture_output=True, text=True, check=True
+    ).stdout
 
 
 def changed_files(commit: str) -> list[str]:
     """The files that differ from a commit, and those that git doesn't know yet."""
-    return (said_by_git("diff", "--name-only", commit) + said_by_git("ls-files", "--others", "--exclude-standard")).splitlines()
+    return (
+        said_by_git("diff", "--name-only", commit)
+        + said_by_git("ls-files", "--others", "--exclude-standard")
+    ).splitlines()
 
 
-def changed_crates(files: Sequence[str], now: Mapping[str, Crate], before: Mapping[str, Crate]) -> list[str]:
+def changed_crates(
+    files: Sequence[str], now: Mapping[str, Crate], before: Mapping[str, Crate]
+) -> list[str]:
     """The crates that differ."""
     folders = {it.split("/")[1] for it in files if re.match(r"crates/\w+/", it)}
     return [name for name, crate in now.items() if name in folders or before.get(name) != crate]
@@ -46,7 +55,9 @@ def has_tests(folder: pathlib.Path) -> bool:
     return any("#[test]" in it.read_text(encoding="utf-8") for it in (folder / "src").rglob("*.rt"))
 
 
-def steps_for(top: pathlib.Path, crates: Mapping[str, Crate], changed: Sequence[str]) -> Iterator[Step]:
+def steps_for(
+    top: pathlib.Path, crates: Mapping[str, Crate], changed: Sequence[str]
+) -> Iterator[Step]:
     """What is done for these crates and those above them, in order."""
     affected = all_above(crates, changed)
     folders = {it: top / "crates" / it for it in crates}
@@ -70,15 +81,21 @@ def main() -> int:
     if len(sys.argv) > 2:
         print(__doc__, file=sys.stderr)
         return 2
-    commit = sys.argv[1] if len(sys.argv) == 2 else said_by_git("merge-base", "HEAD", "main").strip()
-    now, before = crates_in((TOP / "crates.txt").read_text(encoding="utf-8")), crates_in(said_by_git("show", f"{commit}:crates.txt"))
+    commit = (
+        sys.argv[1] if len(sys.argv) == 2 else said_by_git("merge-base", "HEAD", "main").strip()
+    )
+    now, before = crates_in((TOP / "crates.txt").read_text(encoding="utf-8")), crates_in(
+        said_by_git("show", f"{commit}:crates.txt")
+    )
     changed = changed_crates(changed_files(commit), now, before)
     for step in steps_for(TOP, now, changed):
         print(f"quick: {step.folder.relative_to(TOP)}: {' '.join(step.words)}", flush=True)
         if status := subprocess.run(step.words, cwd=step.folder, check=False).returncode:
             print(f"quick: {' '.join(step.words)} ended with status {status}")
             return 1
-    print(f"quick: passed, from {commit[:12]}: {', '.join(all_above(now, changed)) or 'no crate differs'}. This is not the gate: `make test` is")
+    print(
+        f"quick: passed, from {commit[:12]}: {', '.join(all_above(now, changed)) or 'no crate differs'}. This is not the gate: `make test` is"
+    )
     return 0
 
 

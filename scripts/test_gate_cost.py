@@ -20,8 +20,9 @@ bg_middle tests_may=Threads+Wait: bg_low std
 bg_top: bg_middle bg_openlist
 """
 
-# Stands for the gate: it begins three processes that look like a prover's, in the folders in which the gate begins them. The
-# crate is no crate of the repository, since the gate counts the processes of this test too.
+# Stands for the gate: it begins three processes that look like a prover's, in the folders in which
+# the gate begins them. The crate is no crate of the repository, since the gate counts the processes
+# of this test too.
 GATE = """
 import subprocess, sys
 prover, crate, other = sys.argv[1:]
@@ -53,9 +54,13 @@ class GateCost(unittest.TestCase):
     def test_tells_proofs_tests_and_edits_apart(self) -> None:
         words = ["/kit/bin/rattle", "build", "--crate-name", "bg_low", "src/lib.rt"]
         self.assertEqual(gate_cost.work_of(words, "/copy/crates/bg_low"), Work("bg_low", PROOF))
-        self.assertEqual(gate_cost.work_of([*words, "--test"], "/copy/crates/bg_low"), Work("bg_low", TESTS))
+        self.assertEqual(
+            gate_cost.work_of([*words, "--test"], "/copy/crates/bg_low"), Work("bg_low", TESTS)
+        )
         self.assertEqual(gate_cost.work_of(words, "/tmp/rt-edit-1-a"), Work("bg_low", EDITS))
-        self.assertIsNone(gate_cost.work_of(["/usr/bin/clang", "--crate-name", "bg_low"], "/copy/crates/bg_low"))
+        self.assertIsNone(
+            gate_cost.work_of(["/usr/bin/clang", "--crate-name", "bg_low"], "/copy/crates/bg_low")
+        )
         self.assertIsNone(gate_cost.work_of(["rattle", "--crate-name"], "/"))
         self.assertIsNone(gate_cost.work_of([], "/"))
 
@@ -73,7 +78,11 @@ class GateCost(unittest.TestCase):
         costs = costs_of(bg_openlist_proof=10, bg_low_proof=5, bg_low_edits=25)
         self.assertEqual(
             [line.split()[1:] for line in gate_cost.table(crates, costs, 10)],
-            [["crate", *gate_cost.KINDS], ["bg_openlist", "1.00", "0.00", "0.00"], ["bg_low", "0.50", "0.00", "2.50"]],
+            [
+                ["crate", *gate_cost.KINDS],
+                ["bg_openlist", "1.00", "0.00", "0.00"],
+                ["bg_low", "0.50", "0.00", "2.50"],
+            ],
         )
         line = gate_cost.last_line(crates, costs, 50)
         self.assertIn("5.0 units of 10.0 processor seconds", line)
@@ -81,12 +90,19 @@ class GateCost(unittest.TestCase):
         self.assertIn("there is no unit", gate_cost.last_line(crates, costs_of(bg_low_proof=5), 50))
 
     def test_names_the_crates_that_are_miscounted(self) -> None:
-        lines = ["== bg_low\n", "logic=proved functions=3 may-wait=1 sum=0\n", "== bg_low: its tests\n", "logic=proved may-wait=7\n"]
+        lines = [
+            "== bg_low\n",
+            "logic=proved functions=3 may-wait=1 sum=0\n",
+            "== bg_low: its tests\n",
+            "logic=proved may-wait=7\n",
+        ]
         lines += ["== bg_top\n", "logic=proved functions=3 sum=0\n"]
         counts = gate_cost.counted(lines)
         self.assertEqual(counts, {"bg_low": 1, "bg_top": 0})
         found = list(gate_cost.miscounted(crates_in(CRATES), counts))
-        self.assertEqual(found, ["gate_cost: crates.txt has may_wait=2 of bg_low, and its proof counts 1"])
+        self.assertEqual(
+            found, ["gate_cost: crates.txt has may_wait=2 of bg_low, and its proof counts 1"]
+        )
 
     def test_measures_what_a_command_begins(self) -> None:
         with tempfile.TemporaryDirectory() as room:

@@ -32,23 +32,52 @@ class Quick(unittest.TestCase):
 
     def steps(self, *changed: str) -> list[str]:
         steps = quick.steps_for(self.top, self.crates, changed)
-        return [f"{it.folder.name if it.folder != self.top else 'top'}: {' '.join(it.words)}" for it in steps]
+        return [
+            f"{it.folder.name if it.folder != self.top else 'top'}: {' '.join(it.words)}"
+            for it in steps
+        ]
 
     def test_finds_the_crates_that_differ(self) -> None:
         before = crates_in("low:\nother: core\nmiddle: low\n")
-        files = ["crates/middle/src/lib.rt", "docs/LINES.md", "crates.txt", "crates/gone/src/lib.rt"]
-        self.assertEqual(quick.changed_crates(files, self.crates, before), ["other", "middle", "tests"])
+        files = [
+            "crates/middle/src/lib.rt",
+            "docs/LINES.md",
+            "crates.txt",
+            "crates/gone/src/lib.rt",
+        ]
+        self.assertEqual(
+            quick.changed_crates(files, self.crates, before), ["other", "middle", "tests"]
+        )
         self.assertEqual(quick.changed_crates([], self.crates, self.crates), [])
 
     def test_takes_the_crates_above(self) -> None:
         self.assertEqual(
             self.steps("low"),
-            ["low: rt lib", "middle: rt lib", "tests: rt check", "tests: rt test", "top: rt must-fail middle", "top: scripts/try_edits.py low"],
+            [
+                "low: rt lib",
+                "middle: rt lib",
+                "tests: rt check",
+                "tests: rt test",
+                "top: rt must-fail middle",
+                "top: scripts/try_edits.py low",
+            ],
         )
 
     def test_builds_what_stands_below(self) -> None:
-        self.assertEqual(self.steps("middle"), ["low: rt lib", "middle: rt lib", "tests: rt check", "tests: rt test", "top: rt must-fail middle"])
-        self.assertEqual(self.steps("tests"), ["low: rt lib", "middle: rt lib", "tests: rt check", "tests: rt test"])
+        self.assertEqual(
+            self.steps("middle"),
+            [
+                "low: rt lib",
+                "middle: rt lib",
+                "tests: rt check",
+                "tests: rt test",
+                "top: rt must-fail middle",
+            ],
+        )
+        self.assertEqual(
+            self.steps("tests"),
+            ["low: rt lib", "middle: rt lib", "tests: rt check", "tests: rt test"],
+        )
 
     def test_does_nothing_where_nothing_differs(self) -> None:
         self.assertEqual(self.steps(), [])

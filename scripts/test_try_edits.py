@@ -68,7 +68,8 @@ fn alone() {}
 
 
 class Repository:
-    """A repository with one crate, `numbers`, and these edits: the old text and the new one, by the edit's name."""
+    """A repository with one crate, `numbers`, and these edits: the old text and the new one, by the
+    edit's name."""
 
     def __init__(self, top: str, **edits: tuple[str, str]) -> None:
         self.top = pathlib.Path(top)
@@ -109,8 +110,13 @@ class TryEdits(unittest.TestCase):
         self.assertEqual(apart, [])
         status, lines = repository.run()
         self.assertEqual(status, 1)
-        self.assertRegex(lines[0], r"^numbers/adds_two.edit: refused: .*src/lib.rt:7:1: it is not proved that")
-        self.assertRegex(lines[1], r"^numbers/forgets_one.edit: refused: .*src/lib.rt:23:1: it is not proved that")
+        self.assertRegex(
+            lines[0], r"^numbers/adds_two.edit: refused: .*src/lib.rt:7:1: it is not proved that"
+        )
+        self.assertRegex(
+            lines[1],
+            r"^numbers/forgets_one.edit: refused: .*src/lib.rt:23:1: it is not proved that",
+        )
         # (its function is not proved in the round, since that of its callee isn't)
         self.assertEqual(lines[2], "numbers/means_the_same.edit: NOT REFUSED: it is still proved")
         self.assertEqual(lines[3:], ["try_edits: 2 passed, 1 failed"])
@@ -122,15 +128,26 @@ class TryEdits(unittest.TestCase):
         self.assertEqual(lines[2:], ["try_edits: 2 passed, 0 failed"])
 
     def test_an_edit_that_does_not_compile_fails_and_hides_no_other(self) -> None:
-        repository = Repository(self.room, adds_two=("    n + 1", "    n + 2"), misspells=("next(second(n))", "next(secund(n))"))
+        repository = Repository(
+            self.room,
+            adds_two=("    n + 1", "    n + 2"),
+            misspells=("next(second(n))", "next(secund(n))"),
+        )
         status, lines = repository.run()
         self.assertEqual(status, 1)
-        self.assertRegex(lines[0], r"^numbers/adds_two.edit: refused: .*src/lib.rt:7:1: it is not proved that")
-        self.assertRegex(lines[1], r"^numbers/misspells.edit: NOT REFUSED: nothing is known of it: .*unknown-name")
+        self.assertRegex(
+            lines[0], r"^numbers/adds_two.edit: refused: .*src/lib.rt:7:1: it is not proved that"
+        )
+        self.assertRegex(
+            lines[1],
+            r"^numbers/misspells.edit: NOT REFUSED: nothing is known of it: .*unknown-name",
+        )
         self.assertEqual(lines[2:], ["try_edits: 1 passed, 1 failed"])
 
     def test_an_edit_that_cannot_be_applied_fails(self) -> None:
-        repository = Repository(self.room, changes_nothing=("n + 1", "n + 1"), stands_twice=("n ≤ 240", "n ≤ 241"))
+        repository = Repository(
+            self.room, changes_nothing=("n + 1", "n + 1"), stands_twice=("n ≤ 240", "n ≤ 241")
+        )
         self.assertEqual(
             repository.run(),
             (
@@ -157,7 +174,9 @@ class TryEdits(unittest.TestCase):
             outside=("#![tactic(auto)]", "#![tactic(search)]"),
         )
         rounds, apart = rounds_of(repository.folder, repository.edits())
-        self.assertEqual([[it.name for it in each.names] for each in rounds], [["adds_nothing"], ["adds_two"]])
+        self.assertEqual(
+            [[it.name for it in each.names] for each in rounds], [["adds_nothing"], ["adds_two"]]
+        )
         self.assertEqual([it.name for it in apart], ["outside"])
 
     def test_refuses_a_name_that_is_no_crate(self) -> None:
@@ -169,8 +188,13 @@ class TryEdits(unittest.TestCase):
 
 class Functions(unittest.TestCase):
     def test_names_functions_as_the_prover_does(self) -> None:
-        found = [(it.name, it.first_line, it.last_line) for it in functions_in("src/tables/first.rt", METHODS)]
-        self.assertEqual(found, [("Table::first", 6, 8), ("TableDrop::drop", 12, 16), ("first::alone", 19, 19)])
+        found = [
+            (it.name, it.first_line, it.last_line)
+            for it in functions_in("src/tables/first.rt", METHODS)
+        ]
+        self.assertEqual(
+            found, [("Table::first", 6, 8), ("TableDrop::drop", 12, 16), ("first::alone", 19, 19)]
+        )
 
     def test_finds_the_function_of_a_place(self) -> None:
         text = "pub trait Count {\n    fn count(&self) -> u8;\n\n    fn twice(&self) -> u8 {\n        2 * self.count()\n    }\n}\n"
@@ -185,7 +209,9 @@ class Functions(unittest.TestCase):
 
     def test_a_body_begins_after_the_clauses(self) -> None:
         drop = list(functions_in("src/lib.rt", METHODS))[1]
-        self.assertEqual(METHODS[drop.body.start :].split("\n")[1].strip(), "let Table { items: _ } = self;")
+        self.assertEqual(
+            METHODS[drop.body.start :].split("\n")[1].strip(), "let Table { items: _ } = self;"
+        )
 
 
 class Reasons(unittest.TestCase):

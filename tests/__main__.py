@@ -1,7 +1,9 @@
-"""Runs all tests, a process for each class, several at once, since they mostly wait: python3 -m tests
+"""Runs all tests, a process for each class, several at once, since they mostly wait: python3 -m
+tests
 
-The modules are imported once, and the process of a class is a copy of this one. So no class meets variables of the environment,
-handlers of signals or threads of another. What a class has started ends with it."""
+The modules are imported once, and the process of a class is a copy of this one. So no class meets
+variables of the environment, handlers of signals or threads of another. What a class has started
+ends with it."""
 import contextlib
 import dataclasses
 import faulthandler
@@ -60,7 +62,8 @@ def run_class(tests: unittest.TestSuite, told: int, outcome: Connection) -> None
 
 
 def started_by(process: int) -> list[int]:
-    """The processes that a process has started and that still run, and those that these have started."""
+    """The processes that a process has started and that still run, and those that these have
+    started."""
     found = []
     for path in pathlib.Path(f"/proc/{process}/task").glob("*/children"):
         with contextlib.suppress(OSError):
@@ -71,7 +74,9 @@ def started_by(process: int) -> list[int]:
 
 @dataclasses.dataclass
 class ClassRun:
-    """The run of a class. What it tells goes to a file, since a process that it has left behind would keep a pipe open."""
+    """The run of a class. What it tells goes to a file, since a process that it has left behind
+    would keep a pipe open."""
+
     name: str
     process: ForkProcess
     told: IO[bytes]
@@ -80,7 +85,9 @@ class ClassRun:
 
     def has_ended(self) -> bool:
         """Whether it has ended. One that has taken too long is ended."""
-        if time.monotonic() > self.begun + LONGEST and time.monotonic() > self.begun + (longest := widened(LONGEST)):
+        if time.monotonic() > self.begun + LONGEST and time.monotonic() > self.begun + (
+            longest := widened(LONGEST)
+        ):
             os.kill(self.process.pid or 0, signal.SIGUSR1)
             self.process.join(TELLING)
             self.end()
@@ -104,12 +111,17 @@ class ClassRun:
             count, has_passed = self.outcome.recv() if self.outcome.poll() else (0, False)
         except EOFError:
             count, has_passed = 0, False
-        return Result(count, has_passed and self.process.exitcode == 0, self.told.read().decode(errors="replace"))
+        return Result(
+            count,
+            has_passed and self.process.exitcode == 0,
+            self.told.read().decode(errors="replace"),
+        )
 
 
 @dataclasses.dataclass
 class Result:
     """How many tests of a class were run, whether all have passed, and what they have told."""
+
     count: int
     has_passed: bool
     told: str

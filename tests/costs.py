@@ -1,5 +1,5 @@
-"""What a call costs, so that it does not depend on how busy or how fast the machine is: its steps, or its processor time beside
-that of another call."""
+"""What a call costs, so that it does not depend on how busy or how fast the machine is: its steps,
+or its processor time beside that of another call."""
 import sys
 import time
 from collections.abc import Callable
@@ -17,6 +17,7 @@ def steps_of(call: Callable[[], object]) -> int:
         nonlocal count
         count += event == "line"
         return trace
+
     before = sys.gettrace()
     sys.settrace(trace)
     try:
@@ -27,7 +28,8 @@ def steps_of(call: Callable[[], object]) -> int:
 
 
 def processor_seconds_of(call: Callable[[], object]) -> float:
-    """The processor time of a call: the least of several, since other processes share the caches of the processor."""
+    """The processor time of a call: the least of several, since other processes share the caches of
+    the processor."""
     return min(processor_seconds_of_one(call) for _ in range(RUNS))
 
 

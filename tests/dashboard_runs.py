@@ -17,12 +17,15 @@ from tests.tool_runs import WAIT, comes
 PYTHON = "/usr/bin/python3"
 LIBRARIES = "import aiohttp, prometheus_client"
 MISSING = "python3-aiohttp and python3-prometheus-client are not installed: apt-get install them to run this test"
-HAS_LIBRARIES = (shutil.which(PYTHON) is not None
-                 and subprocess.run([PYTHON, "-c", LIBRARIES], capture_output=True, check=False).returncode == 0)
+HAS_LIBRARIES = (
+    shutil.which(PYTHON) is not None
+    and subprocess.run([PYTHON, "-c", LIBRARIES], capture_output=True, check=False).returncode == 0
+)
 
 
 class Answer(NamedTuple):
     """What a request was answered."""
+
     status: int
     headers: dict[str, str]
     body: str
@@ -46,7 +49,9 @@ class WithDashboard(unittest.TestCase):
 
     def begin(self, words: Sequence[str], path: str, text: str) -> None:
         """Starts a program with these words, and waits until this path has this text."""
-        self.process = subprocess.Popen(words, stdout=subprocess.PIPE, stderr=subprocess.PIPE, text=True)
+        self.process = subprocess.Popen(
+            words, stdout=subprocess.PIPE, stderr=subprocess.PIPE, text=True
+        )
         self.addCleanup(self.end)
         self.assertTrue(comes(lambda: self.has(path, text)))
 
@@ -64,29 +69,44 @@ class WithDashboard(unittest.TestCase):
         except OSError:
             return False
 
-    def get(self, path: str, method: str = "GET", body: str | None = None, **headers: str) -> Answer:
+    def get(
+        self, path: str, method: str = "GET", body: str | None = None, **headers: str
+    ) -> Answer:
         connection = http.client.HTTPConnection("127.0.0.1", self.port, timeout=WAIT)
         try:
-            connection.request(method, path, body, {name.replace("_", "-"): value for name, value in headers.items()})
+            connection.request(
+                method,
+                path,
+                body,
+                {name.replace("_", "-"): value for name, value in headers.items()},
+            )
             answer = connection.getresponse()
             return Answer(answer.status, dict(answer.getheaders()), answer.read().decode())
         finally:
             connection.close()
 
     @contextlib.contextmanager
-    def events(self, path: str = "/api/events") -> Iterator[Iterator[tuple[str, dict[str, object]]]]:
+    def events(
+        self, path: str = "/api/events"
+    ) -> Iterator[Iterator[tuple[str, dict[str, object]]]]:
         """The events of a stream, as they come."""
         connection = http.client.HTTPConnection("127.0.0.1", self.port, timeout=WAIT)
         try:
             connection.request("GET", path)
             answer = connection.getresponse()
-            self.assertEqual((answer.status, answer.getheader("Content-Type")), (200, "text/event-stream; charset=utf-8"))
+            self.assertEqual(
+                (answer.status, answer.getheader("Content-Type")),
+                (200, "text/event-stream; charset=utf-8"),
+            )
 
             def each() -> Iterator[tuple[str, dict[str, object]]]:
-                while (line := answer.readline().decode()):
+                while line := answer.readline().decode():
                     data = answer.readline().decode()
                     self.assertEqual(answer.readline(), b"\n")
-                    yield line.removeprefix("event: ").strip(), json.loads(data.removeprefix("data: "))
+                    yield line.removeprefix("event: ").strip(), json.loads(
+                        data.removeprefix("data: ")
+                    )
+
             yield each()
         finally:
             connection.close()

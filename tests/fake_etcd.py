@@ -25,7 +25,13 @@ def in_base64(text: str) -> str:
 
 
 def key(name: str, value: str = "") -> dict[str, str]:
-    return {"key": in_base64(name), "create_revision": "3", "mod_revision": "4", "version": "2", "value": in_base64(value)}
+    return {
+        "key": in_base64(name),
+        "create_revision": "3",
+        "mod_revision": "4",
+        "version": "2",
+        "value": in_base64(value),
+    }
 
 
 def keys(*listed: Json, revision: int = 7, cluster: str = CLUSTER) -> bytes:
@@ -43,9 +49,11 @@ def refused(told: str, code: int, status: bytes) -> bytes:
 
 def sending(*pieces: bytes) -> Answer:
     """Sends these bytes, and ends the connection."""
+
     def send(connection: socket.socket) -> None:
         for piece in pieces:
             connection.sendall(piece)
+
     return send
 
 
@@ -61,15 +69,28 @@ class FakeEtcd(endpoints.Endpoint):
     """Answers a call by its path. `asked` are the paths and the messages of all calls, in turn."""
 
     def __init__(self, **answers: Answer) -> None:
-        """The answers to other calls than these are good: `read`, `write`, `grant`, `refresh`, `revoke`, `wait`."""
+        """The answers to other calls than these are good: `read`, `write`, `grant`, `refresh`,
+        `revoke`, `wait`."""
         self.asked: list[tuple[str, dict[str, object]]] = []
-        good = {RANGE: keys(key("/bg-switch/web/a", "1")),
-                TRANSACTION: of_json({"header": header(8), "succeeded": True, "responses": []}),
-                GRANT: of_json({"header": header(), "ID": "9", "TTL": "3"}),
-                REFRESH: of_json({"result": {"header": header(), "ID": "9", "TTL": "3"}}),
-                REVOKE: of_json({"header": header()}), WATCH: CHUNKED + chunk(CREATED) + chunk(b'{"result":{"header":'
-                + json.dumps(header()).encode() + b',"events":[{}]}}\n') + chunk(b"")}
-        names = {"read": RANGE, "write": TRANSACTION, "grant": GRANT, "refresh": REFRESH, "revoke": REVOKE, "wait": WATCH}
+        good = {
+            RANGE: keys(key("/bg-switch/web/a", "1")),
+            TRANSACTION: of_json({"header": header(8), "succeeded": True, "responses": []}),
+            GRANT: of_json({"header": header(), "ID": "9", "TTL": "3"}),
+            REFRESH: of_json({"result": {"header": header(), "ID": "9", "TTL": "3"}}),
+            REVOKE: of_json({"header": header()}),
+            WATCH: CHUNKED
+            + chunk(CREATED)
+            + chunk(b'{"result":{"header":' + json.dumps(header()).encode() + b',"events":[{}]}}\n')
+            + chunk(b""),
+        }
+        names = {
+            "read": RANGE,
+            "write": TRANSACTION,
+            "grant": GRANT,
+            "refresh": REFRESH,
+            "revoke": REVOKE,
+            "wait": WATCH,
+        }
         self.answers: dict[str, Answer] = {path: sending(each) for path, each in good.items()}
         self.answers.update({names[name]: each for name, each in answers.items()})
         super().__init__(self.give)

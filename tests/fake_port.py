@@ -6,15 +6,23 @@ from types import TracebackType
 
 from support.reserved import reserved
 
-REPORT = ("moment 0", "phase steady", "active 1", "preview 1", "stable 1", "newest 1",
-          "revision 1 web-v1 desired 2 available 2 open 0 deadline none", "end")
+REPORT = (
+    "moment 0",
+    "phase steady",
+    "active 1",
+    "preview 1",
+    "stable 1",
+    "newest 1",
+    "revision 1 web-v1 desired 2 available 2 open 0 deadline none",
+    "end",
+)
 ENDS = None  # given as a reply: the connection is ended without one
 
 Answer = Callable[[str], Sequence[str] | None]
 
 
-# Below the ports that the system gives to connections by itself: such a connection would keep a port from the test that
-# listens at it once more.
+# Below the ports that the system gives to connections by itself: such a connection would keep a
+# port from the test that listens at it once more.
 PORTS = range(10_000, 20_000)
 
 
@@ -24,7 +32,8 @@ def free_port() -> int:
 
 
 class FakePort:
-    """Answers each line by what a function gives for it. `lines` are all that were sent, in turn."""
+    """Answers each line by what a function gives for it. `lines` are all that were sent, in
+    turn."""
 
     def __init__(self, answer: Answer, port: int = 0, lines: list[str] | None = None) -> None:
         self.answer = answer
@@ -38,7 +47,12 @@ class FakePort:
     def __enter__(self) -> "FakePort":
         return self
 
-    def __exit__(self, kind: type[BaseException] | None, error: BaseException | None, trace: TracebackType | None) -> None:
+    def __exit__(
+        self,
+        kind: type[BaseException] | None,
+        error: BaseException | None,
+        trace: TracebackType | None,
+    ) -> None:
         self.close()
 
     def close(self) -> None:

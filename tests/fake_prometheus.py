@@ -1,4 +1,5 @@
-"""Servers for analyses by Prometheus: one that answers queries as a test wants, a page of metrics, and a real Prometheus."""
+"""Servers for analyses by Prometheus: one that answers queries as a test wants, a page of metrics,
+and a real Prometheus."""
 import contextlib
 import http.client
 import http.server
@@ -16,13 +17,20 @@ from tests.fake_port import free_port
 from tests.tool_runs import WAIT, comes
 
 HOST = "127.0.0.1"
-Answer = Callable[[str], tuple[int, bytes]]  # the status and the body for a query, or for a path that is read
+Answer = Callable[
+    [str], tuple[int, bytes]
+]  # the status and the body for a query, or for a path that is read
 
 
 def vector(*values: str) -> bytes:
     """The answer to a query whose result is a vector of these values."""
-    result = [{"metric": {"place": str(place)}, "value": [1795629792.042, value]} for place, value in enumerate(values)]
-    return json.dumps({"status": "success", "data": {"resultType": "vector", "result": result}}).encode()
+    result = [
+        {"metric": {"place": str(place)}, "value": [1795629792.042, value]}
+        for place, value in enumerate(values)
+    ]
+    return json.dumps(
+        {"status": "success", "data": {"resultType": "vector", "result": result}}
+    ).encode()
 
 
 def refused(reason: str) -> bytes:
@@ -30,8 +38,8 @@ def refused(reason: str) -> bytes:
 
 
 class FakePrometheus:
-    """Answers each POST by what a function gives for its query, and each GET by what it gives for its path. `asked` are the paths
-    and queries, in turn."""
+    """Answers each POST by what a function gives for its query, and each GET by what it gives for
+    its path. `asked` are the paths and queries, in turn."""
 
     def __init__(self, answer: Answer, pause: float = 0.0) -> None:
         """With a pause it sends one byte of a body after the other, and pauses between them."""
@@ -41,7 +49,9 @@ class FakePrometheus:
             """Answers a request."""
 
             def do_POST(self) -> None:
-                fields = urllib.parse.parse_qs(self.rfile.read(int(self.headers["Content-Length"])).decode())
+                fields = urllib.parse.parse_qs(
+                    self.rfile.read(int(self.headers["Content-Length"])).decode()
+                )
                 fake.asked.append((self.path, fields["query"][0]))
                 self.give(*answer(fields["query"][0]))
 
@@ -54,7 +64,11 @@ class FakePrometheus:
                 self.send_header("Content-Length", str(len(body)))
                 self.end_headers()
                 with contextlib.suppress(OSError):
-                    for piece in ([body] if not pause else [body[place:place + 1] for place in range(len(body))]):
+                    for piece in (
+                        [body]
+                        if not pause
+                        else [body[place : place + 1] for place in range(len(body))]
+                    ):
                         self.wfile.write(piece)
                         time.sleep(pause)
 
@@ -71,7 +85,12 @@ class FakePrometheus:
     def __enter__(self) -> "FakePrometheus":
         return self
 
-    def __exit__(self, kind: type[BaseException] | None, error: BaseException | None, trace: TracebackType | None) -> None:
+    def __exit__(
+        self,
+        kind: type[BaseException] | None,
+        error: BaseException | None,
+        trace: TracebackType | None,
+    ) -> None:
         self.server.shutdown()
         self.server.server_close()
 
@@ -91,11 +110,24 @@ def _is_ready(port: int) -> bool:
 def real_prometheus(program: str, folder: pathlib.Path, targets: Sequence[int]) -> Iterator[str]:
     """A real Prometheus that scrapes these ports each second. Gives its URL."""
     port, config = free_port(), folder / "prometheus.yml"
-    jobs = [{"job_name": "bg_switch", "scrape_interval": "1s", "static_configs": [{"targets": [f"{HOST}:{each}" for each in targets]}]}]
+    jobs = [
+        {
+            "job_name": "bg_switch",
+            "scrape_interval": "1s",
+            "static_configs": [{"targets": [f"{HOST}:{each}" for each in targets]}],
+        }
+    ]
     config.write_text(json.dumps({"scrape_configs": jobs}), encoding="ascii")  # JSON is YAML
-    words = [program, f"--config.file={config}", f"--storage.tsdb.path={folder / 'data'}", f"--web.listen-address={HOST}:{port}",
-             "--log.level=error"]
-    process = subprocess.Popen(words, stdout=subprocess.DEVNULL, stderr=subprocess.DEVNULL, cwd=folder)
+    words = [
+        program,
+        f"--config.file={config}",
+        f"--storage.tsdb.path={folder / 'data'}",
+        f"--web.listen-address={HOST}:{port}",
+        "--log.level=error",
+    ]
+    process = subprocess.Popen(
+        words, stdout=subprocess.DEVNULL, stderr=subprocess.DEVNULL, cwd=folder
+    )
     try:
         if not comes(lambda: _is_ready(port)):
             raise TimeoutError("prometheus is not ready")

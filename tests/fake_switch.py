@@ -1,4 +1,5 @@
-"""A switch with a book of its own, as far as the tools need one: one connection after the other, no traffic."""
+"""A switch with a book of its own, as far as the tools need one: one connection after the other, no
+traffic."""
 import dataclasses
 from collections.abc import Callable, Sequence
 
@@ -8,6 +9,7 @@ from tests.fake_port import ENDS, FakePort
 @dataclasses.dataclass
 class Held:
     """A revision of the book."""
+
     number: int
     name: str
     ports: tuple[str, ...]
@@ -22,7 +24,8 @@ class Refused(Exception):
 
 
 class FakeBook:
-    """A strategy with two replicas, and with those steps that are given: an analysis before, a pause, an analysis after."""
+    """A strategy with two replicas, and with those steps that are given: an analysis before, a
+    pause, an analysis after."""
 
     def __init__(self, *steps: str, delay: int = 30) -> None:
         self.steps = steps
@@ -30,8 +33,14 @@ class FakeBook:
         self.moment = 0
         self.phase = ""
         self.revisions: dict[int, Held] = {}
-        self.down: list[str] | None = None  # what the line `down` has named; None for a switch that does not know the line
-        self.refusals: dict[str, str] = {}  # by the first word: what a test wants each line of it to be refused with
+        self.down: list[
+            str
+        ] | None = (
+            None  # what the line `down` has named; None for a switch that does not know the line
+        )
+        self.refusals: dict[
+            str, str
+        ] = {}  # by the first word: what a test wants each line of it to be refused with
         self.active = self.stable = self.newest = 1
 
     def answer(self, line: str) -> Sequence[str] | None:
@@ -40,9 +49,16 @@ class FakeBook:
         if line == "quit":
             return ENDS
         known: dict[str, Callable[[list[str]], Sequence[str]]] = {
-            "open": self._open, "report": self._report, "tick": self._tick, "available": self._available,
-            "deploy": self._deploy, "promote": self._promote, "abort": self._abort, "retry": self._retry,
-            "verdict": self._verdict}
+            "open": self._open,
+            "report": self._report,
+            "tick": self._tick,
+            "available": self._available,
+            "deploy": self._deploy,
+            "promote": self._promote,
+            "abort": self._abort,
+            "retry": self._retry,
+            "verdict": self._verdict,
+        }
         if self.down is not None:
             known["down"] = self._down
         if not words or words[0] not in known:
@@ -68,10 +84,20 @@ class FakeBook:
 
     def _report(self, _: list[str]) -> Sequence[str]:
         preview = self.newest if self.phase not in ("steady", "aborted") else self.stable
-        return [f"moment {self.moment}", f"phase {self.phase}", f"active {self.active}", f"preview {preview}",
-                f"stable {self.stable}", f"newest {self.newest}",
-                *(f"revision {each.number} {each.name} desired {each.desired} available {each.available} open {each.open} "
-                  f"deadline {'none' if each.deadline is None else each.deadline}" for each in self.revisions.values()), "end"]
+        return [
+            f"moment {self.moment}",
+            f"phase {self.phase}",
+            f"active {self.active}",
+            f"preview {preview}",
+            f"stable {self.stable}",
+            f"newest {self.newest}",
+            *(
+                f"revision {each.number} {each.name} desired {each.desired} available {each.available} open {each.open} "
+                f"deadline {'none' if each.deadline is None else each.deadline}"
+                for each in self.revisions.values()
+            ),
+            "end",
+        ]
 
     def _tick(self, words: list[str]) -> Sequence[str]:
         self._require(int(words[0]) >= self.moment, "MomentBack")
@@ -105,7 +131,13 @@ class FakeBook:
         """The steps that the attempt takes by itself."""
         enough, steps = self.revisions[self.newest].available >= 2, 0
         if self.phase == "scaling" and enough:
-            self.phase, steps = ("preAnalysis" if "pre" in self.steps else "paused" if "pause" in self.steps else "sizing"), 1
+            self.phase, steps = (
+                "preAnalysis"
+                if "pre" in self.steps
+                else "paused"
+                if "pause" in self.steps
+                else "sizing"
+            ), 1
         if self.phase == "sizing" and enough:
             self.revisions[self.active].deadline = self.moment + self.delay
             self.active, self.phase, steps = self.newest, "postAnalysis", steps + 1
@@ -114,7 +146,9 @@ class FakeBook:
         return [f"ok {steps}"]
 
     def _promote(self, words: list[str]) -> Sequence[str]:
-        self._require(self.phase == "paused" or (words == ["full"] and self.phase != "steady"), "NotPaused")
+        self._require(
+            self.phase == "paused" or (words == ["full"] and self.phase != "steady"), "NotPaused"
+        )
         self.phase = "sizing"
         return self._go_on()
 
@@ -139,7 +173,6 @@ class FakeBook:
             self.phase = "paused" if "pause" in self.steps else "sizing"
         return self._go_on()
 
-
     def _down(self, words: list[str]) -> Sequence[str]:
         if not all(word.isdecimal() and int(word) < 65536 for word in words):
             return ["fault BadNumber"]
@@ -150,7 +183,8 @@ class FakeBook:
 
 
 class FakeSwitch:
-    """A switch at a control port. It can be killed, after which its book is gone, and started again."""
+    """A switch at a control port. It can be killed, after which its book is gone, and started
+    again."""
 
     def __init__(self, *steps: str, delay: int = 30, knows_down: bool = False) -> None:
         self.steps = steps
@@ -174,4 +208,8 @@ class FakeSwitch:
 
     def sent_lines(self) -> list[str]:
         """The lines that it was sent, but for reports, ticks and the ports that are down."""
-        return [line for line in list(self.lines) if line.split(" ")[0] not in ("report", "tick", "down")]
+        return [
+            line
+            for line in list(self.lines)
+            if line.split(" ")[0] not in ("report", "tick", "down")
+        ]

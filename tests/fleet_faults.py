@@ -1,4 +1,5 @@
-"""Planted faults of a fleet's agents: each is a patch that makes the agents' own code wrong in one way, which one rule forbids.
+"""Planted faults of a fleet's agents: each is a patch that makes the agents' own code wrong in one
+way, which one rule forbids.
 
 The simulation plants them in its agents, and the drill in agents of its own.
 """
@@ -24,13 +25,19 @@ def without_compares(*names: str) -> Patch:
     compares_of = leader.compares_of
 
     def fewer(view: View, created: int, decision: Decision) -> tuple[Compare, ...]:
-        return tuple(compare for compare in compares_of(view, created, decision) if not compare.name.startswith(names))
+        return tuple(
+            compare
+            for compare in compares_of(view, created, decision)
+            if not compare.name.startswith(names)
+        )
+
     return mock.patch.object(leader, "compares_of", fewer)
 
 
 def without_one_member() -> Patch:
     def are_enough(votes: Votes, max_missing: int) -> bool:
         return bool(votes.given) and len(votes.awaited) <= 1
+
     return mock.patch.object(Votes, "are_enough", are_enough)
 
 
@@ -39,7 +46,12 @@ def alone() -> Patch:
     line_of = Machine.next_line
 
     def or_promote(self: Machine, report: Report, now: float) -> str | None:
-        return "promote" if self.read_at is None and report.phase == "paused" else line_of(self, report, now)
+        return (
+            "promote"
+            if self.read_at is None and report.phase == "paused"
+            else line_of(self, report, now)
+        )
+
     return mock.patch.object(Machine, "next_line", or_promote)
 
 
@@ -55,25 +67,30 @@ def on_changes() -> Patch:
         if line is None:
             done[self] = self.record
         return line
+
     return mock.patch.object(Machine, "next_line", once)
 
 
 def on_reads_of_any_age() -> Patch:
     def is_fresh(self: Machine, now: float) -> bool:
         return self.record is not None
+
     return mock.patch.object(Machine, "is_fresh", is_fresh)
 
 
 def no_catch_up() -> Patch:
     def nothing(report: Report, known: Known) -> None:
         return None
+
     return mock.patch.object(next_line, "_catch_up", nothing)
 
 
 def without_the_id() -> Patch:
     """An agent that takes the attempt of a revision for that of the record by its name alone."""
+
     def has_joined(self: Known, report: Report) -> bool:
         return report.newest.name == self.record.revision.name
+
     return mock.patch.object(Known, "has_joined", has_joined)
 
 
@@ -81,8 +98,11 @@ def back_by_permission() -> Patch:
     """An agent that hands a failed verdict in only where it has a fresh read."""
     may_hand_in = FleetLines.may_hand_in
 
-    def by_permission(self: FleetLines, report: Report, name: str, verdict: str, fault: str) -> bool:
+    def by_permission(
+        self: FleetLines, report: Report, name: str, verdict: str, fault: str
+    ) -> bool:
         return self.machine.is_fresh(self.now()) and may_hand_in(self, report, name, verdict, fault)
+
     return mock.patch.object(FleetLines, "may_hand_in", by_permission)
 
 
@@ -92,6 +112,7 @@ def verdict_at_once() -> Patch:
 
     def at_once(self: FleetLines, report: Report, name: str, verdict: str, fault: str) -> bool:
         return may_hand_in(self, report, name, verdict, fault) or True
+
     return mock.patch.object(FleetLines, "may_hand_in", at_once)
 
 
@@ -103,4 +124,5 @@ def after_the_end() -> Patch:
         if record.stage == "aborted" and view.changed(PLAN) == record.id and "h1" in record.reason:
             return Decision(dataclasses.replace(record, stage="deploying", reason=""))
         return begin(view, plan, record)
+
     return mock.patch.object(leader, "_begin", again)

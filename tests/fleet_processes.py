@@ -1,4 +1,5 @@
-"""Agents of a fleet whose threads run in the process of a test, over a store in memory that can be away or silent."""
+"""Agents of a fleet whose threads run in the process of a test, over a store in memory that can be
+away or silent."""
 import contextlib
 import io
 import json
@@ -25,13 +26,24 @@ from tests.tool_runs import Endpoint, comes
 
 LONGEST = 20.0  # seconds for which anything is awaited
 LEASE = 2  # seconds
-FIT = {"spec": {"replicas": 2, "strategy": {"blueGreen": {"autoPromotionEnabled": False, "prePromotionAnalysis": {},
-                                                          "postPromotionAnalysis": {}}}}}
+FIT = {
+    "spec": {
+        "replicas": 2,
+        "strategy": {
+            "blueGreen": {
+                "autoPromotionEnabled": False,
+                "prePromotionAnalysis": {},
+                "postPromotionAnalysis": {},
+            }
+        },
+    }
+}
 
 
 class Network:
-    """What the stores of a test share: `silence` is for how many seconds each call waits before it fails; None where none fails.
-    While a call waits, `is_asked` is set. All that wait fail once the test has ended."""
+    """What the stores of a test share: `silence` is for how many seconds each call waits before it
+    fails; None where none fails. While a call waits, `is_asked` is set. All that wait fail once the
+    test has ended."""
 
     def __init__(self) -> None:
         self.keys = Keys(time.monotonic)
@@ -63,7 +75,13 @@ class SharedStore(MemoryStore):
         with self._pass():
             return super().read()
 
-    def write(self, compares: Sequence[Compare], puts: Mapping[str, str], deletes: Collection[str] = (), lease: int = 0) -> int | None:
+    def write(
+        self,
+        compares: Sequence[Compare],
+        puts: Mapping[str, str],
+        deletes: Collection[str] = (),
+        lease: int = 0,
+    ) -> int | None:
         with self._pass():
             return super().write(compares, puts, deletes, lease)
 
@@ -86,13 +104,17 @@ class SharedStore(MemoryStore):
 
 
 class FleetProcessCase(unittest.TestCase):
-    """A fleet of the host `a`, whose switch has a pause and an analysis after the switch. It ends once the file `judged` is there, and
-    passes while the file `good` is there."""
+    """A fleet of the host `a`, whose switch has a pause and an analysis after the switch. It ends
+    once the file `judged` is there, and passes while the file `good` is there."""
 
     def setUp(self) -> None:
         self.folder = pathlib.Path(self.enterContext(tempfile.TemporaryDirectory()))
         self.stack = self.enterContext(contextlib.ExitStack())
-        self.good, self.judged, self.rollout = self.folder / "good", self.folder / "judged", self.folder / "rollout.json"
+        self.good, self.judged, self.rollout = (
+            self.folder / "good",
+            self.folder / "judged",
+            self.folder / "rollout.json",
+        )
         self.good.touch()
         self.judged.touch()
         self.rollout.write_text(json.dumps(FIT), encoding="ascii")
@@ -100,7 +122,10 @@ class FleetProcessCase(unittest.TestCase):
         for pair in self.endpoints.values():
             for endpoint in pair:
                 self.stack.callback(endpoint.stop)
-        self.v1, self.v2 = (PlannedRevision(name, tuple(endpoint.port for endpoint in pair)) for name, pair in self.endpoints.items())
+        self.v1, self.v2 = (
+            PlannedRevision(name, tuple(endpoint.port for endpoint in pair))
+            for name, pair in self.endpoints.items()
+        )
         self.switch = FakeSwitch("pause", "post")
         self.stack.callback(self.switch.kill)
         self.network = Network()
@@ -112,14 +137,29 @@ class FleetProcessCase(unittest.TestCase):
     def put(self, *revisions: PlannedRevision, **members: object) -> None:
         """A person puts a plan with these revisions."""
         told = [{"name": one.name, "ports": list(one.ports)} for one in revisions]
-        self.person.write([], {"plan": json.dumps({"revisions": told, "analyses": {"post": "errors"},
-                                                   "health": {"interval": 0.1, "timeout": 0.5}, **members})})
+        self.person.write(
+            [],
+            {
+                "plan": json.dumps(
+                    {
+                        "revisions": told,
+                        "analyses": {"post": "errors"},
+                        "health": {"interval": 0.1, "timeout": 0.5},
+                        **members,
+                    }
+                )
+            },
+        )
 
     def add(self, *hosts: str) -> None:
         self.person.write([], {f"members/{host}": "" for host in hosts})
 
     def settings(self) -> MachineSettings:
-        judge = ("sh", "-c", f"until [ -e {self.judged} ]; do sleep 0.05; done; test -e {self.good}")
+        judge = (
+            "sh",
+            "-c",
+            f"until [ -e {self.judged} ]; do sleep 0.05; done; test -e {self.good}",
+        )
         return MachineSettings(self.switch.port, {"errors": judge}, rollout=str(self.rollout))
 
     def started(self, folder: str = "state", host: str = "a") -> AgentProcess:
@@ -127,8 +167,13 @@ class FleetProcessCase(unittest.TestCase):
         state = self.folder / folder
         state.mkdir(exist_ok=True)
         file = FleetFile("web", EtcdSettings(()), str(self.folder), host, self.settings())
-        made = AgentProcess(file, self.settings(), AgentArguments(state, 0.1), Log(self.out, False),
-                            lambda _: SharedStore(self.network, f"{host} of {folder}"))
+        made = AgentProcess(
+            file,
+            self.settings(),
+            AgentArguments(state, 0.1),
+            Log(self.out, False),
+            lambda _: SharedStore(self.network, f"{host} of {folder}"),
+        )
         made.start()
         self.stack.callback(made.stop)
         return made
@@ -143,7 +188,9 @@ class FleetProcessCase(unittest.TestCase):
 
     def await_that(self, holds: object, what: str, longest: float = LONGEST) -> None:
         if not comes(holds, longest):  # type: ignore[arg-type]
-            self.fail(f"in {longest:g} seconds it did not come that {what}: {self.out.getvalue()}\n{self.keys()}")
+            self.fail(
+                f"in {longest:g} seconds it did not come that {what}: {self.out.getvalue()}\n{self.keys()}"
+            )
 
     def await_log(self, text: str, longest: float = LONGEST) -> None:
         self.await_that(lambda: text in self.out.getvalue(), f"the log has {text!r}", longest)

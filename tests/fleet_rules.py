@@ -1,4 +1,5 @@
-"""The rules of a fleet, checked on a trace by code that shares nothing with the agents: it reads the values of the keys by itself."""
+"""The rules of a fleet, checked on a trace by code that shares nothing with the agents: it reads
+the values of the keys by itself."""
 import dataclasses
 import json
 from collections.abc import Iterator
@@ -10,7 +11,9 @@ FRESHEST = 1.0  # seconds: how old a read may be that a promote rests on
 
 
 class Promote(NamedTuple):
-    """A line `promote` was carried out. `read_at` and `record` are of the agent's latest read, by the store's own note."""
+    """A line `promote` was carried out. `read_at` and `record` are of the agent's latest read, by
+    the store's own note."""
+
     at: float
     host: str
     revision: str
@@ -21,6 +24,7 @@ class Promote(NamedTuple):
 
 class Selection(NamedTuple):
     """The service `active` or `stable` of a host selects another revision."""
+
     at: float
     changes: int  # how many changes of the store came before
     host: str
@@ -31,10 +35,13 @@ class Selection(NamedTuple):
 @dataclasses.dataclass
 class Trace:
     """What a history has left."""
+
     changes: list[Change]
     promotes: list[Promote] = dataclasses.field(default_factory=list)
     selections: list[Selection] = dataclasses.field(default_factory=list)
-    broken: list[str] = dataclasses.field(default_factory=list)  # rules 4, 5 and 6, which are looked at as the history goes on
+    broken: list[str] = dataclasses.field(
+        default_factory=list
+    )  # rules 4, 5 and 6, which are looked at as the history goes on
 
 
 Told = dict[str, Any]
@@ -51,7 +58,9 @@ class Replay:
     def __init__(self, changes: list[Change]) -> None:
         self.changes = changes
         self.keys: dict[str, Change] = {}
-        self.newest: dict[str, int] = {}  # by name: the revision of its latest change, also where that was a deletion
+        self.newest: dict[
+            str, int
+        ] = {}  # by name: the revision of its latest change, also where that was a deletion
 
     def go(self) -> Iterator[Change]:
         for change in self.changes:
@@ -77,7 +86,8 @@ class Replay:
 
 
 def vote_faults(replay: Replay, record: Told) -> Iterator[str]:
-    """What is wrong with the votes that `promoting` or `successful` rests on, by the reports at the moment of its write."""
+    """What is wrong with the votes that `promoting` or `successful` rests on, by the reports at the
+    moment of its write."""
     needed = {"promoting": "ready", "successful": "passed"}[record["stage"]]
     before = replay.value("attempt") or {}
     without = set(before.get("missing", [])) if record["stage"] == "successful" else set()
@@ -98,7 +108,8 @@ def vote_faults(replay: Replay, record: Told) -> Iterator[str]:
 
 
 def write_faults(replay: Replay, change: Change, record: Told) -> Iterator[str]:
-    """What is wrong with a write of the attempt beside its votes: who wrote it, and what had changed since their read."""
+    """What is wrong with a write of the attempt beside its votes: who wrote it, and what had
+    changed since their read."""
     leader = replay.keys.get("leader")
     if leader is None or leader.created != record["by"]:
         yield f"rule 3: {record['stage']} was written by {change.client}, which does not lead"
@@ -106,10 +117,18 @@ def write_faults(replay: Replay, change: Change, record: Told) -> Iterator[str]:
     if before and record["by"] < before["by"]:
         yield f"rule 3: {record['stage']} was written by a leader of before, {change.client}"
     watched = ["attempt", "plan"]
-    if record["stage"] in ("promoting", "successful") and before and before["stage"] in ("deploying", "promoting"):
+    if (
+        record["stage"] in ("promoting", "successful")
+        and before
+        and before["stage"] in ("deploying", "promoting")
+    ):
         watched += [f"machines/{host}" for host in replay.members()]
     newer = [name for name in watched if replay.newest.get(name, 0) > change.read]
-    newer += [name for name, key in replay.keys.items() if name.startswith("members/") and key.revision > change.read]
+    newer += [
+        name
+        for name, key in replay.keys.items()
+        if name.startswith("members/") and key.revision > change.read
+    ]
     if newer:
         yield f"rule 3: {record['stage']} was written by {change.client}, and {', '.join(newer)} had changed since its read"
 
@@ -122,7 +141,12 @@ def broken_by_writes(trace: Trace) -> Iterator[str]:
             continue
         record, before = json.loads(change.value), replay.value("attempt")
         yield from write_faults(replay, change, record)
-        is_voted = record["stage"] == "promoting" or record["stage"] == "successful" and before and before["stage"] == "promoting"
+        is_voted = (
+            record["stage"] == "promoting"
+            or record["stage"] == "successful"
+            and before
+            and before["stage"] == "promoting"
+        )
         for fault in vote_faults(replay, record) if is_voted else ():
             yield f"rule 1: {record['stage']} was written for attempt {record['id']}, and {fault}"
         if before and before["id"] == record["id"] and before["stage"] == "aborted":
@@ -130,15 +154,23 @@ def broken_by_writes(trace: Trace) -> Iterator[str]:
 
 
 def broken_by_selections(trace: Trace) -> Iterator[str]:
-    """Rule 1, by what the services select: a revision is active once `promoting` was written for it, and stable once the fleet has
-    succeeded with it. The revision that the fleet began with may be both."""
-    written = [(number, json.loads(change.value)) for number, change in enumerate(trace.changes)
-               if change.name == "attempt" and change.value]
+    """Rule 1, by what the services select: a revision is active once `promoting` was written for
+    it, and stable once the fleet has succeeded with it. The revision that the fleet began with may
+    be both."""
+    written = [
+        (number, json.loads(change.value))
+        for number, change in enumerate(trace.changes)
+        if change.name == "attempt" and change.value
+    ]
     needed = {"active": "promoting", "stable": "successful"}
     for selection in trace.selections:
         stage = needed[selection.service]
-        if not any(record["revision"]["name"] == selection.revision and (record["stage"] == stage or record["id"] == 0)
-                   for number, record in written if number < selection.changes):
+        if not any(
+            record["revision"]["name"] == selection.revision
+            and (record["stage"] == stage or record["id"] == 0)
+            for number, record in written
+            if number < selection.changes
+        ):
             yield f"rule 1: {selection.host} has {selection.service} {selection.revision}, for which {stage} was not written"
 
 
@@ -160,4 +192,9 @@ def broken_by_promotes(trace: Trace) -> Iterator[str]:
 
 def broken(trace: Trace) -> list[str]:
     """What breaks a rule, a text each that begins with the rule."""
-    return [*broken_by_writes(trace), *broken_by_selections(trace), *broken_by_promotes(trace), *trace.broken]
+    return [
+        *broken_by_writes(trace),
+        *broken_by_selections(trace),
+        *broken_by_promotes(trace),
+        *trace.broken,
+    ]

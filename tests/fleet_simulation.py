@@ -1,7 +1,9 @@
-"""A fleet in simulated time: the agents' own code, over a store and switches in memory, with faults at random by a seed.
+"""A fleet in simulated time: the agents' own code, over a store and switches in memory, with faults
+at random by a seed.
 
-A history has a time of faults and a time without. In the first one, any agent, candidate, switch, analysis, person or fault goes on next.
-In the second one all goes on in turn, until the machines agree or the time is over. `tests/fleet_rules.py` judges what was seen.
+A history has a time of faults and a time without. In the first one, any agent, candidate, switch,
+analysis, person or fault goes on next. In the second one all goes on in turn, until the machines
+agree or the time is over. `tests/fleet_rules.py` judges what was seen.
 """
 import dataclasses
 import json
@@ -34,7 +36,8 @@ PASS = 0.25  # seconds of such a pass
 
 
 class SimulatedSwitch:
-    """A switch by the rules of docs/LINES.md, as far as an agent uses them, with one replica and a pause."""
+    """A switch by the rules of docs/LINES.md, as far as an agent uses them, with one replica and a
+    pause."""
 
     def __init__(self, has_pre: bool) -> None:
         self.has_pre = has_pre
@@ -51,9 +54,25 @@ class SimulatedSwitch:
 
     def report(self) -> Report:
         preview = self.newest if self.runs else self.stable
-        revisions = {number: Revision(number, name, int(number in self.desired), int(number in self.up), 0, None, False, False)
-                     for number, name in enumerate(self.names, 1)}
-        selected = {"active": self.active, "preview": preview, "stable": self.stable, "newest": self.newest}
+        revisions = {
+            number: Revision(
+                number,
+                name,
+                int(number in self.desired),
+                int(number in self.up),
+                0,
+                None,
+                False,
+                False,
+            )
+            for number, name in enumerate(self.names, 1)
+        }
+        selected = {
+            "active": self.active,
+            "preview": preview,
+            "stable": self.stable,
+            "newest": self.newest,
+        }
         return Report(self.moment, self.phase, selected, revisions)
 
     def name(self, number: int) -> str:
@@ -73,7 +92,11 @@ class SimulatedSwitch:
             self.phase = "sizing"
         elif words[0] == "abort":
             if not self.runs:
-                return "refused AlreadyAborted" if self.phase == "aborted" else "refused NothingToAbort"
+                return (
+                    "refused AlreadyAborted"
+                    if self.phase == "aborted"
+                    else "refused NothingToAbort"
+                )
             self._go_back()
         elif words[0] == "retry":
             if self.phase != "aborted":
@@ -122,7 +145,8 @@ class SimulatedSwitch:
         self.go_on()
 
     def scale_down(self) -> None:
-        """Old revisions are scaled down: those that no service selects, and that are not the newest one of an attempt."""
+        """Old revisions are scaled down: those that no service selects, and that are not the newest
+        one of an attempt."""
         self.desired &= {self.active, self.stable, *([self.newest] if self.runs else [])}
         self.up &= self.desired
 
@@ -130,6 +154,7 @@ class SimulatedSwitch:
 @dataclasses.dataclass
 class RunningAnalysis:
     """An analysis that runs beside an agent."""
+
     name: str
     number: int
     verdict: str = ""
@@ -164,7 +189,9 @@ class Host:
         self.leader_store = MemoryStore(world.keys, name, world.chance)
         self.kept: bytes | None = None
         self.seen: Report | None = None  # the report of the round before, which is told
-        self.begun_by = ""  # the record that the attempt of the switch was begun by, by the store's note
+        self.begun_by = (
+            ""  # the record that the attempt of the switch was begun by, by the store's note
+        )
         self.frozen_until = 0.0
         self.has_failed = False  # whether the analysis after the switch has failed, and the switch has not gone back
         self.agent: FleetAgent | None = None
@@ -176,9 +203,14 @@ class Host:
         state = read_machine_state(self.kept) if self.kept else MachineState()
         machine = Machine(self.name, f"id-{self.name}", SETTINGS, self.keep, state)
         self.agent = FleetAgent(machine, self.store, self.world.say, self.now, LEASE)
-        parts = cast(SourceParts, types.SimpleNamespace(log=NoLog(), history=NoHistory(), launcher=ReadyLauncher()))
+        parts = cast(
+            SourceParts,
+            types.SimpleNamespace(log=NoLog(), history=NoHistory(), launcher=ReadyLauncher()),
+        )
         self.lines = FleetLines(machine, parts, self.now)
-        self.candidate = Candidate(self.name, self.leader_store, self.world.say, Clocks(self.now, lambda: 0.0), LEASE)
+        self.candidate = Candidate(
+            self.name, self.leader_store, self.world.say, Clocks(self.now, lambda: 0.0), LEASE
+        )
         self.pending: Pending | None = None
         self.analysis: RunningAnalysis | None = None
         self.step = 0
@@ -246,15 +278,26 @@ class Host:
         if self.has_failed:
             self.has_failed = False
             if switch.active != switch.stable:
-                self.world.trace.broken.append(f"rule 6: the analysis of {self.name} has failed, and it keeps {switch.name(switch.active)}")
+                self.world.trace.broken.append(
+                    f"rule 6: the analysis of {self.name} has failed, and it keeps {switch.name(switch.active)}"
+                )
 
     def judge(self, plan: Plan, report: Report) -> None:
         name, number = ANALYSIS_OF_PHASE.get(report.phase), report.newest.number
-        if self.lines.why_not_judged(plan, report) or self.analysis and not self.analysis.is_for(name, number):
+        if (
+            self.lines.why_not_judged(plan, report)
+            or self.analysis
+            and not self.analysis.is_for(name, number)
+        ):
             self.analysis = None
         elif name and name in plan.analyses.commands and self.analysis is None:
             self.analysis = RunningAnalysis(name, number)
-        elif name and self.analysis and self.analysis.verdict and self.lines.may_hand_in(report, name, self.analysis.verdict, ""):
+        elif (
+            name
+            and self.analysis
+            and self.analysis.verdict
+            and self.lines.may_hand_in(report, name, self.analysis.verdict, "")
+        ):
             self.send(f"verdict {name} {self.analysis.verdict}")
             self.analysis = None
 
@@ -281,15 +324,27 @@ class Host:
             if line.startswith(("deploy ", "retry")):
                 self.begun_by = record
             elif line == "promote":
-                self.world.trace.promotes.append(Promote(self.world.time, self.name, switch.name(switch.newest), self.store.read_at,
-                                                         record, self.begun_by))
+                self.world.trace.promotes.append(
+                    Promote(
+                        self.world.time,
+                        self.name,
+                        switch.name(switch.newest),
+                        self.store.read_at,
+                        record,
+                        self.begun_by,
+                    )
+                )
         self.world.note_selection(self)
         return reply
 
     def end_analysis(self, verdict: str) -> None:
         if self.analysis and not self.analysis.verdict:
             self.analysis.verdict = verdict
-            is_seen = self.switch is not None and self.switch.phase == "postAnalysis" and self.switch.newest == self.analysis.number
+            is_seen = (
+                self.switch is not None
+                and self.switch.phase == "postAnalysis"
+                and self.switch.newest == self.analysis.number
+            )
             self.has_failed = verdict != "successful" and self.analysis.name == "post" and is_seen
 
 
@@ -308,11 +363,16 @@ class World:
         self.selected: dict[tuple[str, str], str] = {}  # by host and service: the revision
         self.records: list[tuple[int, str]] = []  # each text of the record, by its revision
         self.person = MemoryStore(self.keys, "person")
-        self.failing = self.chance.choice((0.0, 0.1, 0.5))  # how probable it is that an analysis fails
+        self.failing = self.chance.choice(
+            (0.0, 0.1, 0.5)
+        )  # how probable it is that an analysis fails
         self.count = self.chance.choice((2, 3, 3, 4))
         self.hosts = [Host(f"h{number}", self) for number in range(1, self.count + 1)]
         self.names = ["v1"]
-        self.settings: dict[str, object] = {"max_missing": self.chance.choice((0, 0, 1)), "by_hand": self.chance.random() < 0.2}
+        self.settings: dict[str, object] = {
+            "max_missing": self.chance.choice((0, 0, 1)),
+            "by_hand": self.chance.random() < 0.2,
+        }
         if self.chance.random() < 0.3:
             self.settings["seconds"] = 1.0
         self.limits: dict[str, object] = {"abort": self.chance.random() < 0.3, "seconds": 20}
@@ -330,7 +390,7 @@ class World:
 
     def record_at(self, revision: int) -> str:
         """The text of the record at a revision of the store; empty where there was none."""
-        for change in self.keys.changes[self.logged:]:
+        for change in self.keys.changes[self.logged :]:
             if change.name == "attempt" and change.value:
                 self.records.append((change.revision, change.value))
         self.logged = len(self.keys.changes)
@@ -344,10 +404,14 @@ class World:
             name = switch.name(number)
             if name != self.selected.get((host.name, service)):
                 self.selected[host.name, service] = name
-                self.trace.selections.append(Selection(self.time, len(self.keys.changes), host.name, service, name))
+                self.trace.selections.append(
+                    Selection(self.time, len(self.keys.changes), host.name, service, name)
+                )
                 self.log(f"{host.name}: {service} {name}")
         if switch.active not in switch.up:
-            self.trace.broken.append(f"rule 5: {host.name} selects {switch.name(switch.active)}, of which no endpoint is up")
+            self.trace.broken.append(
+                f"rule 5: {host.name} selects {switch.name(switch.active)}, of which no endpoint is up"
+            )
 
     # ---- what a person does ----
 
@@ -361,7 +425,12 @@ class World:
         if self.has_pre:
             analyses["pre"] = "smoke"
         fleet = dict(self.settings, promoting_seconds=30)
-        plan = {"revisions": revisions, "analyses": analyses, "progress": self.limits, "fleet": fleet}
+        plan = {
+            "revisions": revisions,
+            "analyses": analyses,
+            "progress": self.limits,
+            "fleet": fleet,
+        }
         self.person.write([], {"plan": json.dumps(plan)})
         self.log(f"person: plan with {last} last")
 
@@ -378,7 +447,9 @@ class World:
         record = view.record
         if record and record.is_running:
             text = PersonOrder(what, record.id, "somebody").text()
-            self.person.write([Compare("attempt", "changed", view.changed("attempt"))], {"order": text})
+            self.person.write(
+                [Compare("attempt", "changed", view.changed("attempt"))], {"order": text}
+            )
             self.log(f"person: {what}")
 
     def change_members(self, host: Host) -> None:
@@ -393,7 +464,21 @@ class World:
 
     def fault(self, host: Host) -> None:
         chance = self.chance
-        kind = chance.choice(("agent", "switch", "both", "cut", "away", "away", "freeze", "freeze", "lease", "lost answers", "by hand"))
+        kind = chance.choice(
+            (
+                "agent",
+                "switch",
+                "both",
+                "cut",
+                "away",
+                "away",
+                "freeze",
+                "freeze",
+                "lease",
+                "lost answers",
+                "by hand",
+            )
+        )
         if kind in ("agent", "both") and host.agent:
             self.log(f"{host.name}: the agent is killed")
             host.kill_agent()
@@ -464,7 +549,11 @@ class World:
     def do_pass(self) -> None:
         """All that is awake goes on, so that an attempt gets somewhere between the faults."""
         for host in self.hosts:
-            for step in (host.go_on, host.go_on, host.go_on, host.lead, host.lead) if host.frozen_until <= self.time else ():
+            for step in (
+                (host.go_on, host.go_on, host.go_on, host.lead, host.lead)
+                if host.frozen_until <= self.time
+                else ()
+            ):
                 step()
             if self.chance.random() < 0.7:
                 self.switch_goes_on(host)
@@ -474,7 +563,11 @@ class World:
             host.switch.endpoints_come_up()
             if self.chance.random() < 0.3:
                 host.switch.scale_down()
-            host.end_analysis(self.chance.choice(("failed", "error")) if self.chance.random() < self.failing else "successful")
+            host.end_analysis(
+                self.chance.choice(("failed", "error"))
+                if self.chance.random() < self.failing
+                else "successful"
+            )
             self.note_selection(host)
 
     def rest(self) -> None:
@@ -494,11 +587,15 @@ class World:
                     host.switch.scale_down()
                     host.end_analysis("successful")
                     self.note_selection(host)
-            if "order" not in self.keys.keys and "a person's promote" in awaited_of(self.person.read()):
+            if "order" not in self.keys.keys and "a person's promote" in awaited_of(
+                self.person.read()
+            ):
                 self.order("promote")
             if self.agrees():
                 return
-        self.trace.broken.append(f"rule 4: the machines do not agree after {LONGEST_REST * PASS:g} seconds: {self.states()}")
+        self.trace.broken.append(
+            f"rule 4: the machines do not agree after {LONGEST_REST * PASS:g} seconds: {self.states()}"
+        )
 
     def agrees(self) -> bool:
         view = View(self.person.read())
@@ -506,23 +603,39 @@ class World:
         if record is None or record.is_running or record.id != view.changed("plan"):
             return record is not None and record.id == 0 and len(self.names) == 1
         reports = [view.machine(host) for host in view.members]
-        return (all(report is not None and report.state == FOLLOWS for report in reports)
-                and all(self.has(host, record.fleet_stable.name) for host in self.hosts))
+        return all(report is not None and report.state == FOLLOWS for report in reports) and all(
+            self.has(host, record.fleet_stable.name) for host in self.hosts
+        )
 
     @staticmethod
     def has(host: Host, name: str) -> bool:
         switch = host.switch
-        return switch is not None and not switch.runs and switch.name(switch.active) == switch.name(switch.stable) == name
+        return (
+            switch is not None
+            and not switch.runs
+            and switch.name(switch.active) == switch.name(switch.stable) == name
+        )
 
     def states(self) -> str:
-        found = [f"{host.name} {host.switch.phase} active {host.switch.name(host.switch.active)} stable {host.switch.name(host.switch.stable)}"
-                 for host in self.hosts if host.switch]
+        found = [
+            f"{host.name} {host.switch.phase} active {host.switch.name(host.switch.active)} stable {host.switch.name(host.switch.stable)}"
+            for host in self.hosts
+            if host.switch
+        ]
         return f"{'; '.join(found)}; record {self.record_at(self.keys.revision)}; awaited {awaited_of(self.person.read())}"
 
     def told(self) -> str:
         """The history, for people."""
-        changes = [f"{change.at:8.2f}  {change.client or 'a lease ends'}: {change.name} @{change.revision} = {change.value}" for change in self.keys.changes]
-        return "\n".join([f"seed {self.seed}, {self.count} machines, {self.settings}", *sorted([*self.lines, *changes], key=moment)])
+        changes = [
+            f"{change.at:8.2f}  {change.client or 'a lease ends'}: {change.name} @{change.revision} = {change.value}"
+            for change in self.keys.changes
+        ]
+        return "\n".join(
+            [
+                f"seed {self.seed}, {self.count} machines, {self.settings}",
+                *sorted([*self.lines, *changes], key=moment),
+            ]
+        )
 
 
 def moment(line: str) -> float:

@@ -1,4 +1,5 @@
-"""A store in memory with etcd's revisions and leases, and with its faults: it is away, or the answer to a write is lost."""
+"""A store in memory with etcd's revisions and leases, and with its faults: it is away, or the
+answer to a write is lost."""
 import random
 from collections.abc import Callable, Collection, Mapping, Sequence
 from typing import NamedTuple
@@ -7,8 +8,9 @@ from bg_switch_tools.fleet.store import Compare, Key, Snapshot, StoreFault
 
 
 class Change(NamedTuple):
-    """A change of one key. `value` is None where the key was deleted; `client` is empty where its lease has ended. `read` is the
-    revision of the client's latest read."""
+    """A change of one key. `value` is None where the key was deleted; `client` is empty where its
+    lease has ended. `read` is the revision of the client's latest read."""
+
     revision: int
     at: float
     name: str
@@ -54,18 +56,28 @@ class Keys:
     def delete(self, name: str, client: str, read: int) -> None:
         key = self.keys.pop(name, None)
         if key:
-            self.changes.append(Change(self.revision, self.now(), name, None, key.created, client, read))
+            self.changes.append(
+                Change(self.revision, self.now(), name, None, key.created, client, read)
+            )
 
     def holds(self, compare: Compare) -> bool:
         name, what, value = compare
         if name.endswith("/"):
-            return all(revision_of(key, what) <= value for other, key in self.keys.items() if other.startswith(name))
+            return all(
+                revision_of(key, what) <= value
+                for other, key in self.keys.items()
+                if other.startswith(name)
+            )
         return revision_of(self.keys.get(name), what) == value
 
     def put(self, name: str, value: str, lease: int, client: str, read: int) -> None:
         before = self.keys.get(name)
-        self.keys[name] = Key(value, before.created if before else self.revision, self.revision, lease)
-        self.changes.append(Change(self.revision, self.now(), name, value, self.keys[name].created, client, read))
+        self.keys[name] = Key(
+            value, before.created if before else self.revision, self.revision, lease
+        )
+        self.changes.append(
+            Change(self.revision, self.now(), name, value, self.keys[name].created, client, read)
+        )
 
 
 class MemoryStore:
@@ -90,7 +102,13 @@ class MemoryStore:
         self.read_revision, self.read_at = self.all.revision, self.all.now()
         return Snapshot(self.all.revision, self.all.cluster, dict(self.all.keys))
 
-    def write(self, compares: Sequence[Compare], puts: Mapping[str, str], deletes: Collection[str] = (), lease: int = 0) -> int | None:
+    def write(
+        self,
+        compares: Sequence[Compare],
+        puts: Mapping[str, str],
+        deletes: Collection[str] = (),
+        lease: int = 0,
+    ) -> int | None:
         self._reach()
         if lease and lease not in self.all.leases:
             raise StoreFault("etcdserver: requested lease not found")

@@ -1,4 +1,5 @@
-"""Real members of etcd at ports of 127.0.0.1, their certificates, and calls of them that use none of the tools' code."""
+"""Real members of etcd at ports of 127.0.0.1, their certificates, and calls of them that use none
+of the tools' code."""
 import base64
 import json
 import pathlib
@@ -24,7 +25,13 @@ SETPRIV = shutil.which("setpriv")
 # A member ends with the process that has started it, also where that is killed.
 TIED = (SETPRIV, "--pdeathsig", "KILL") if SETPRIV else ()
 # With these, an election takes a fifth of a second.
-FAST = ("--heartbeat-interval=20", "--election-timeout=200", "--log-level=error", "--logger=zap", "--log-outputs=stderr")
+FAST = (
+    "--heartbeat-interval=20",
+    "--election-timeout=200",
+    "--log-level=error",
+    "--logger=zap",
+    "--log-outputs=stderr",
+)
 Json = Mapping[str, object]
 
 
@@ -32,9 +39,14 @@ def in_base64(text: str) -> str:
     return base64.b64encode(text.encode()).decode()
 
 
-def asked(endpoint: StoreEndpoint, path: str, message: Json, context: ssl.SSLContext | None = None) -> dict[str, object]:
-    """What etcd answers to a call, also to one that it refuses. With a context, the connection has TLS."""
-    request = urllib.request.Request(f"{'https' if context else 'http'}://{endpoint}{path}", json.dumps(message).encode())
+def asked(
+    endpoint: StoreEndpoint, path: str, message: Json, context: ssl.SSLContext | None = None
+) -> dict[str, object]:
+    """What etcd answers to a call, also to one that it refuses. With a context, the connection has
+    TLS."""
+    request = urllib.request.Request(
+        f"{'https' if context else 'http'}://{endpoint}{path}", json.dumps(message).encode()
+    )
     try:
         with urllib.request.urlopen(request, timeout=WAIT, context=context) as response:
             answer: dict[str, object] = json.load(response)
@@ -50,7 +62,9 @@ def put(endpoint: StoreEndpoint, key: str, value: str = "") -> dict[str, object]
 class Member:
     """A member of a cluster. It can be killed, started again, stopped and let go on."""
 
-    def __init__(self, folder: pathlib.Path, name: str, words: Sequence[str], scheme: str = "http") -> None:
+    def __init__(
+        self, folder: pathlib.Path, name: str, words: Sequence[str], scheme: str = "http"
+    ) -> None:
         self.folder, self.name, self.words, self.scheme = folder, name, words, scheme
         self.endpoint, self.peer = StoreEndpoint(HOST, free_port()), f"http://{HOST}:{free_port()}"
         self.process: subprocess.Popen[bytes] | None = None
@@ -58,9 +72,28 @@ class Member:
     def start(self, members: str, token: str = "test") -> None:
         """Starts it, in a cluster of these members, as etcd names them."""
         url = f"{self.scheme}://{self.endpoint}"
-        words = [*TIED, PROGRAM or "etcd", "--name", self.name, "--data-dir", str(self.folder / self.name), "--listen-client-urls", url,
-                 "--advertise-client-urls", url, "--listen-peer-urls", self.peer, "--initial-advertise-peer-urls", self.peer,
-                 "--initial-cluster", members, "--initial-cluster-token", token, *FAST, *self.words]
+        words = [
+            *TIED,
+            PROGRAM or "etcd",
+            "--name",
+            self.name,
+            "--data-dir",
+            str(self.folder / self.name),
+            "--listen-client-urls",
+            url,
+            "--advertise-client-urls",
+            url,
+            "--listen-peer-urls",
+            self.peer,
+            "--initial-advertise-peer-urls",
+            self.peer,
+            "--initial-cluster",
+            members,
+            "--initial-cluster-token",
+            token,
+            *FAST,
+            *self.words,
+        ]
         with open(self.folder / f"{self.name}.log", "ab") as log:
             self.process = subprocess.Popen(words, stdin=subprocess.DEVNULL, stdout=log, stderr=log)
 
@@ -96,7 +129,13 @@ class Member:
 class Cluster:
     """A cluster of so many members in a temporary folder, which all take requests."""
 
-    def __init__(self, count: int, words: Sequence[str] = (), scheme: str = "http", context: ssl.SSLContext | None = None) -> None:
+    def __init__(
+        self,
+        count: int,
+        words: Sequence[str] = (),
+        scheme: str = "http",
+        context: ssl.SSLContext | None = None,
+    ) -> None:
         self.folder = pathlib.Path(tempfile.mkdtemp(prefix="bg-etcd-"))
         self.context = context
         self.members = [Member(self.folder, f"m{number}", words, scheme) for number in range(count)]
@@ -119,7 +158,9 @@ class Cluster:
 
     def start_member(self, number: int) -> None:
         """Starts a member that was killed."""
-        self.members[number].start(",".join(f"{member.name}={member.peer}" for member in self.members))
+        self.members[number].start(
+            ",".join(f"{member.name}={member.peer}" for member in self.members)
+        )
 
     def wait(self) -> None:
         """Waits until each member knows a leader."""
@@ -129,7 +170,9 @@ class Cluster:
 
     def _is_healthy(self, member: Member) -> bool:
         try:
-            with urllib.request.urlopen(f"{member.scheme}://{member.endpoint}/health", timeout=2, context=self.context) as response:
+            with urllib.request.urlopen(
+                f"{member.scheme}://{member.endpoint}/health", timeout=2, context=self.context
+            ) as response:
                 return bool(json.load(response).get("health") == "true")
         except (OSError, ValueError):
             return False
@@ -146,7 +189,9 @@ class Cluster:
 
 
 class WithCluster(unittest.TestCase):
-    """Tests on one cluster, which starts with the first of them. The words are further ones of its members."""
+    """Tests on one cluster, which starts with the first of them. The words are further ones of its
+    members."""
+
     COUNT = 1
     WORDS: Sequence[str] = ()
     cluster: Cluster
@@ -175,21 +220,57 @@ class Certificates:
 
     def __init__(self, folder: pathlib.Path) -> None:
         self.folder = folder
-        self._run("req", "-x509", *self._new_key("ca"), "-out", self.path("ca.pem"), "-days", "2", "-subj", "/CN=authority")
+        self._run(
+            "req",
+            "-x509",
+            *self._new_key("ca"),
+            "-out",
+            self.path("ca.pem"),
+            "-days",
+            "2",
+            "-subj",
+            "/CN=authority",
+        )
 
     def path(self, name: str) -> str:
         return str(self.folder / name)
 
     def _new_key(self, name: str) -> tuple[str, ...]:
-        return ("-newkey", "ec", "-pkeyopt", "ec_paramgen_curve:prime256v1", "-nodes", "-keyout", self.path(f"{name}.key"))
+        return (
+            "-newkey",
+            "ec",
+            "-pkeyopt",
+            "ec_paramgen_curve:prime256v1",
+            "-nodes",
+            "-keyout",
+            self.path(f"{name}.key"),
+        )
 
     def sign(self, name: str, alternative: str, subject: str = "/CN=bg") -> None:
-        """Makes NAME.pem and NAME.key, a certificate for this alternative name. A subject of `/` has no name."""
+        """Makes NAME.pem and NAME.key, a certificate for this alternative name. A subject of `/`
+        has no name."""
         (self.folder / "extensions").write_text(f"subjectAltName={alternative}\n", encoding="ascii")
         self._run("req", *self._new_key(name), "-out", self.path("request"), "-subj", subject)
-        self._run("x509", "-req", "-in", self.path("request"), "-CA", self.path("ca.pem"), "-CAkey", self.path("ca.key"),
-                  "-CAcreateserial", "-out", self.path(f"{name}.pem"), "-days", "2", "-extfile", self.path("extensions"))
+        self._run(
+            "x509",
+            "-req",
+            "-in",
+            self.path("request"),
+            "-CA",
+            self.path("ca.pem"),
+            "-CAkey",
+            self.path("ca.key"),
+            "-CAcreateserial",
+            "-out",
+            self.path(f"{name}.pem"),
+            "-days",
+            "2",
+            "-extfile",
+            self.path("extensions"),
+        )
 
     @staticmethod
     def _run(*words: str) -> None:
-        subprocess.run([OPENSSL or "openssl", *words], check=True, capture_output=True, timeout=WAIT)
+        subprocess.run(
+            [OPENSSL or "openssl", *words], check=True, capture_output=True, timeout=WAIT
+        )

@@ -1,4 +1,5 @@
-"""A stand-in for the switch, with the words of `bg_switch serve`: the book of `FakeBook`, and requests that are passed on one by one.
+"""A stand-in for the switch, with the words of `bg_switch serve`: the book of `FakeBook`, and
+requests that are passed on one by one.
 
 python3 -m tests.stand_in_switch serve --active PORT --control PORT --preview PORT .."""
 import contextlib
@@ -24,7 +25,9 @@ class Service:
 
     def accept(self) -> None:
         while True:
-            threading.Thread(target=self.serve, args=(self.listener.accept()[0],), daemon=True).start()
+            threading.Thread(
+                target=self.serve, args=(self.listener.accept()[0],), daemon=True
+            ).start()
 
     def selected(self) -> int | None:
         """The port of an endpoint."""
@@ -59,7 +62,10 @@ def main(words: list[str]) -> None:
     sys.stdin.read()
     book = FakeBook("pre", "pause", "post")
     FakePort(book.answer, port_of(words, "--control"))
-    services = [Service(book, port_of(words, name), name == "--preview") for name in ("--active", "--preview")]
+    services = [
+        Service(book, port_of(words, name), name == "--preview")
+        for name in ("--active", "--preview")
+    ]
     print("listening", flush=True)
     threading.Event().wait()
     del services

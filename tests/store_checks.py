@@ -1,4 +1,5 @@
-"""What the tests of the store share: stores at endpoints of etcd, their faults, and how long a call takes."""
+"""What the tests of the store share: stores at endpoints of etcd, their faults, and how long a call
+takes."""
 import time
 from collections.abc import Callable
 
@@ -13,8 +14,14 @@ PREFIX = f"/bg-switch/{FLEET}/"
 TIMEOUT = 5.0  # seconds of a call on a busy machine
 
 
-def store_at(*endpoints: StoreEndpoint, timeout: float = TIMEOUT, user: str = "", password_file: str = "", tls: TlsFiles | None = None,
-             fleet: str = FLEET) -> EtcdStore:
+def store_at(
+    *endpoints: StoreEndpoint,
+    timeout: float = TIMEOUT,
+    user: str = "",
+    password_file: str = "",
+    tls: TlsFiles | None = None,
+    fleet: str = FLEET,
+) -> EtcdStore:
     return EtcdStore(EtcdSettings(endpoints, tls, user, password_file, timeout), fleet)
 
 

@@ -1,7 +1,8 @@
-"""The dashboard's server in this process, whose looks are given by hand: python3 -m tests.streams_of_a_server PORT
+"""The dashboard's server in this process, whose looks are given by hand: python3 -m
+tests.streams_of_a_server PORT
 
-Prints what is left of a stream whose client reads nothing, where a page that is opened after an order finds it, and what the
-server says of looks that end by a fault which nobody expects."""
+Prints what is left of a stream whose client reads nothing, where a page that is opened after an
+order finds it, and what the server says of looks that end by a fault which nobody expects."""
 import asyncio
 import contextlib
 import io
@@ -23,7 +24,8 @@ PAUSED = ("open web-v1 1 2", "available 1 2", "deploy web-v2 3 4", "available 2 
 
 
 async def read_nothing(looked_at: SwitchPages, port: int) -> socket.socket:
-    """A stream whose client reads nothing is ended, once it is too far behind. Gives the client's end."""
+    """A stream whose client reads nothing is ended, once it is too far behind. Gives the client's
+    end."""
     while looked_at.listeners:  # the page of before has gone, which its next update shows
         looked_at.take(None, None, False)
         await asyncio.sleep(0.01)
@@ -42,8 +44,11 @@ async def send_command(looked_at: SwitchPages, port: int) -> str:
     """A page is opened after an order: it finds it in its state, or in the update that follows."""
     address = f"http://localhost:{port}"
     async with ClientSession() as session:
-        told = await session.post(f"{address}/api/order", data='{"order": "promote", "revision": 2}',
-                                  headers={"Origin": address, "X-Token": looked_at.token})
+        told = await session.post(
+            f"{address}/api/order",
+            data='{"order": "promote", "revision": 2}',
+            headers={"Origin": address, "X-Token": looked_at.token},
+        )
         assert told.status == 200, await told.text()
         stream = await session.get(f"{address}/api/events")
         seen = []
@@ -58,16 +63,25 @@ async def send_command(looked_at: SwitchPages, port: int) -> str:
 
 async def look_on(control: int) -> str:
     """The first looks end by a fault, of which none ends the looks that follow."""
-    looked_at, faults = SwitchPages(Board(control, "", False)), [ValueError("planted"), ValueError("planted"), KeyError("planted")]
+    looked_at, faults = SwitchPages(Board(control, "", False)), [
+        ValueError("planted"),
+        ValueError("planted"),
+        KeyError("planted"),
+    ]
 
     def look() -> tuple[None, None]:
         if faults:
             raise faults.pop()
         return None, None
+
     traces = io.StringIO()
-    with mock.patch.object(looked_at, "look", look), mock.patch.object(switch_pages, "PAUSE", 0.01), contextlib.redirect_stderr(traces):
+    with mock.patch.object(looked_at, "look", look), mock.patch.object(
+        switch_pages, "PAUSE", 0.01
+    ), contextlib.redirect_stderr(traces):
         task = asyncio.create_task(looked_at.look_always())
-        while not any("looks at the switch again" in each["text"] for each in looked_at.board.happened):
+        while not any(
+            "looks at the switch again" in each["text"] for each in looked_at.board.happened
+        ):
             await asyncio.sleep(0.01)
         task.cancel()
     said = [each["text"] for each in looked_at.board.happened if each["kind"] == "fault"]

@@ -10,41 +10,73 @@ SEED = 46
 BEGIN = 1_790_000_000.0  # seconds from 1970
 ANSWERED = LogEntry(BEGIN, "active", 1, 1, 9101, "GET", "/", 200, "answered", None, 78, 5, 4.0, 3.0)
 # What else can become of a connection, by the reason.
-REFUSALS = (("no_endpoint", 503, None), ("no_preview", 503, None), ("history_full", 503, None), ("connect_failed", 502, 1),
-            ("response_timeout", 502, 1), ("response_malformed", 502, 1), ("response_too_large", 502, 1), ("given_up", 503, 1),
-            ("head", 400, None), ("body", 413, None), ("memory", 503, None))
+REFUSALS = (
+    ("no_endpoint", 503, None),
+    ("no_preview", 503, None),
+    ("history_full", 503, None),
+    ("connect_failed", 502, 1),
+    ("response_timeout", 502, 1),
+    ("response_malformed", 502, 1),
+    ("response_too_large", 502, 1),
+    ("given_up", 503, 1),
+    ("head", 400, None),
+    ("body", 413, None),
+    ("memory", 503, None),
+)
 
 
 class Part(NamedTuple):
-    """Requests of a revision: so many, the share of errors, and the mean of the duration in milliseconds."""
+    """Requests of a revision: so many, the share of errors, and the mean of the duration in
+    milliseconds."""
+
     revision: int
     requests: int
     errors: float = 0.0
     milliseconds: float = 5.0
 
 
-def entries(parts: Sequence[Part], begin: float = BEGIN, seconds: float = 60.0, seed: int = SEED) -> Iterator[LogEntry]:
-    """The entries of these parts, which follow each other; all of them together take so many seconds."""
+def entries(
+    parts: Sequence[Part], begin: float = BEGIN, seconds: float = 60.0, seed: int = SEED
+) -> Iterator[LogEntry]:
+    """The entries of these parts, which follow each other; all of them together take so many
+    seconds."""
     chance, count, number = random.Random(seed), sum(part.requests for part in parts), 0
     for part in parts:
         for _ in range(part.requests):
             number += 1
             status = 500 if chance.random() < part.errors else 200
             duration = round(chance.expovariate(1 / part.milliseconds) + 0.2, 3)
-            yield ANSWERED._replace(time=round(begin + seconds * number / count, 3), revision=part.revision, request=number,
-                                    port=9000 + 100 * part.revision + chance.choice((1, 2)), target=f"/{number}", status=status,
-                                    duration_ms=duration, upstream_ms=round(duration * 0.9, 3))
+            yield ANSWERED._replace(
+                time=round(begin + seconds * number / count, 3),
+                revision=part.revision,
+                request=number,
+                port=9000 + 100 * part.revision + chance.choice((1, 2)),
+                target=f"/{number}",
+                status=status,
+                duration_ms=duration,
+                upstream_ms=round(duration * 0.9, 3),
+            )
 
 
 def refused(reason: str, number: int = 1) -> LogEntry:
     """An entry of a request that the switch refused for this reason."""
-    status, revision = next((status, revision) for name, status, revision in REFUSALS if name == reason)
-    return ANSWERED._replace(status=status, end="refused", reason=reason, revision=revision, request=number if revision else None,
-                             port=None, upstream_ms=None)
+    status, revision = next(
+        (status, revision) for name, status, revision in REFUSALS if name == reason
+    )
+    return ANSWERED._replace(
+        status=status,
+        end="refused",
+        reason=reason,
+        revision=revision,
+        request=number if revision else None,
+        port=None,
+        upstream_ms=None,
+    )
 
 
 class GrowingLog:
-    """A file to which lines are added as the switch adds them. It can be renamed, and is then begun anew."""
+    """A file to which lines are added as the switch adds them. It can be renamed, and is then begun
+    anew."""
 
     def __init__(self, path: pathlib.Path) -> None:
         self.path = path

@@ -7,13 +7,23 @@ from collections.abc import Callable
 from unittest import mock
 
 from bg_switch_tools.switch import access_log
-from bg_switch_tools.switch.access_log import Follower, LogEntry, LostLines, NoLogEntry, read_line, time_text, written
+from bg_switch_tools.switch.access_log import (
+    Follower,
+    LogEntry,
+    LostLines,
+    NoLogEntry,
+    read_line,
+    time_text,
+    written,
+)
 from tests.costs import processor_seconds_of, steps_of
 from tests.synthetic_log import ANSWERED, BEGIN, REFUSALS, GrowingLog, Part, entries, refused
 
-LINE = (b'{"time":"2026-11-25T18:03:12.042Z","service":"active","revision":2,"request":17,"port":9201,"method":"GET",'
-        b'"target":"/a?\\u003cscript\\u003e","status":200,"end":"answered","reason":null,"request_bytes":78,"response_bytes":5,'
-        b'"duration_ms":4.25,"upstream_ms":3}')
+LINE = (
+    b'{"time":"2026-11-25T18:03:12.042Z","service":"active","revision":2,"request":17,"port":9201,"method":"GET",'
+    b'"target":"/a?\\u003cscript\\u003e","status":200,"end":"answered","reason":null,"request_bytes":78,"response_bytes":5,'
+    b'"duration_ms":4.25,"upstream_ms":3}'
+)
 
 
 LINES_A_SECOND = 20_000
@@ -21,18 +31,48 @@ LINES_A_SECOND = 20_000
 
 class Lines(unittest.TestCase):
     def test_every_value(self) -> None:
-        expected = LogEntry(1795629792.042, "active", 2, 17, 9201, "GET", "/a?<script>", 200, "answered", None, 78, 5, 4.25, 3)
+        expected = LogEntry(
+            1795629792.042,
+            "active",
+            2,
+            17,
+            9201,
+            "GET",
+            "/a?<script>",
+            200,
+            "answered",
+            None,
+            78,
+            5,
+            4.25,
+            3,
+        )
         self.assertEqual(read_line(LINE), expected)
-        self.assertEqual(read_line(b'{"time": "2026-11-25T19:03:12+01:00", "lost": 12}'), LostLines(1795629792.0, 12))
+        self.assertEqual(
+            read_line(b'{"time": "2026-11-25T19:03:12+01:00", "lost": 12}'),
+            LostLines(1795629792.0, 12),
+        )
         self.assertEqual(read_line(b'{"time": null, "lost": 12}'), LostLines(None, 12))
 
     def test_members_that_a_line_need_not_have(self) -> None:
         expected = read_line(LINE)
         assert isinstance(expected, LogEntry)
         self.assertEqual((expected.slot_port, expected.tries), (None, None))
-        self.assertEqual(read_line(LINE[:-1] + b',"slot_port":9202,"tries":3}'), expected._replace(slot_port=9202, tries=3))
-        self.assertEqual(read_line(LINE[:-1] + b',"slot_port":null,"tries":1}'), expected._replace(tries=1))
-        for wrong in (b'"slot_port":"9202"', b'"slot_port":-1', b'"tries":1.5', b'"tries":true', b'"tries":1e400', b'"slot_port":[]'):
+        self.assertEqual(
+            read_line(LINE[:-1] + b',"slot_port":9202,"tries":3}'),
+            expected._replace(slot_port=9202, tries=3),
+        )
+        self.assertEqual(
+            read_line(LINE[:-1] + b',"slot_port":null,"tries":1}'), expected._replace(tries=1)
+        )
+        for wrong in (
+            b'"slot_port":"9202"',
+            b'"slot_port":-1',
+            b'"tries":1.5',
+            b'"tries":true',
+            b'"tries":1e400',
+            b'"slot_port":[]',
+        ):
             with self.subTest(member=wrong), self.assertRaises(NoLogEntry):
                 read_line(LINE[:-1] + b"," + wrong + b"}")
 
@@ -41,8 +81,12 @@ class Lines(unittest.TestCase):
         self.assertEqual((told, ANSWERED.is_without_endpoint), (["no_endpoint"], False))
 
     def test_it_keeps_up_with_20000_lines_a_second(self) -> None:
-        """To read a line costs no more than few times what its JSON costs, and a line costs no more beside others."""
-        lines = [written(entry).rstrip(b"\n") for entry in entries([Part(1, LINES_A_SECOND // 2), Part(2, LINES_A_SECOND // 2, 0.01)])]
+        """To read a line costs no more than few times what its JSON costs, and a line costs no more
+        beside others."""
+        lines = [
+            written(entry).rstrip(b"\n")
+            for entry in entries([Part(1, LINES_A_SECOND // 2), Part(2, LINES_A_SECOND // 2, 0.01)])
+        ]
         self.assertEqual(len(access_log.read_lines(lines).entries), LINES_A_SECOND)
         of_json = processor_seconds_of(lambda: [json.loads(line) for line in lines])
         self.assertLess(processor_seconds_of(lambda: access_log.read_lines(lines)), 4 * of_json)
@@ -50,14 +94,42 @@ class Lines(unittest.TestCase):
         self.assertLess(steps_of(lambda: access_log.read_lines(lines[:2000])), 2.2 * few)
 
     def test_what_is_written_is_read(self) -> None:
-        told = [ANSWERED, *(refused(reason) for reason, *_ in REFUSALS), ANSWERED._replace(target='"\\\n\u2028<'),
-                ANSWERED._replace(status=None, end="closed", request_bytes=None, response_bytes=None, upstream_ms=None),
-                LogEntry(BEGIN, "active", None, None, None, None, None, None, "closed", None, None, None, 0, None)]
+        told = [
+            ANSWERED,
+            *(refused(reason) for reason, *_ in REFUSALS),
+            ANSWERED._replace(target='"\\\n\u2028<'),
+            ANSWERED._replace(
+                status=None, end="closed", request_bytes=None, response_bytes=None, upstream_ms=None
+            ),
+            LogEntry(
+                BEGIN,
+                "active",
+                None,
+                None,
+                None,
+                None,
+                None,
+                None,
+                "closed",
+                None,
+                None,
+                None,
+                0,
+                None,
+            ),
+        ]
         self.assertEqual([read_line(written(entry)) for entry in told], told)
         self.assertEqual(time_text(1795629792.042), "2026-11-25T18:03:12.042Z")
 
     def test_errors(self) -> None:
-        for status, is_error in ((200, False), (404, False), (499, False), (500, True), (503, True), (None, True)):
+        for status, is_error in (
+            (200, False),
+            (404, False),
+            (499, False),
+            (500, True),
+            (503, True),
+            (None, True),
+        ):
             self.assertEqual(ANSWERED._replace(status=status).is_error, is_error, status)
 
     def test_what_is_no_line(self) -> None:
@@ -68,12 +140,26 @@ class Lines(unittest.TestCase):
             for told in ({**whole, name: wrong}, {**whole, name: True}, without):
                 with self.subTest(member=name, told=told), self.assertRaises(NoLogEntry):
                     read_line(json.dumps(told).encode())
-        for told in (b"", b"{}", b"[]", LINE[:-1], LINE.replace(b"active", b"both"), LINE.replace(b"answered", b"gone"),
-                     LINE.replace(b"4.25", b"NaN"), LINE.replace(b"4.25", b"1e999"), LINE.replace(b"4.25", b"-1"),
-                     LINE.replace(b".042Z", b""), b'{"time": "now", "lost": 1}', LINE.replace(b"4.25", b"1" * 400),
-                     LINE.replace(b"4.25", b"1.7e308"), LINE.replace(b'"upstream_ms":3', b'"upstream_ms":1e999'),
-                     LINE.replace(b'"response_bytes":5', b'"response_bytes":' + b"5" * 400),
-                     b'{"time": "2026-11-25T18:03:12Z", "lost": ' + b"1" * 400 + b"}", b"\xff", b"[" * 100000):
+        for told in (
+            b"",
+            b"{}",
+            b"[]",
+            LINE[:-1],
+            LINE.replace(b"active", b"both"),
+            LINE.replace(b"answered", b"gone"),
+            LINE.replace(b"4.25", b"NaN"),
+            LINE.replace(b"4.25", b"1e999"),
+            LINE.replace(b"4.25", b"-1"),
+            LINE.replace(b".042Z", b""),
+            b'{"time": "now", "lost": 1}',
+            LINE.replace(b"4.25", b"1" * 400),
+            LINE.replace(b"4.25", b"1.7e308"),
+            LINE.replace(b'"upstream_ms":3', b'"upstream_ms":1e999'),
+            LINE.replace(b'"response_bytes":5', b'"response_bytes":' + b"5" * 400),
+            b'{"time": "2026-11-25T18:03:12Z", "lost": ' + b"1" * 400 + b"}",
+            b"\xff",
+            b"[" * 100000,
+        ):
             with self.subTest(line=told[:80]), self.assertRaises(NoLogEntry):
                 read_line(told)
 
@@ -114,8 +200,10 @@ class Files(unittest.TestCase):
 
     def test_nothing_is_from_before_once_the_file_is_replaced_or_cut(self) -> None:
         """Also where the new file is smaller than the one that was followed first."""
+
         def cut() -> None:
             self.log.path.write_bytes(b"")
+
         changes: tuple[Callable[[], object], ...] = (self.log.rename, cut)
         for change in changes:
             cut()
@@ -124,7 +212,9 @@ class Files(unittest.TestCase):
             self.assertEqual((len(self.numbers(follower)), follower.is_behind), (50, False))
             change()
             self.log.add(self.told[50:])
-            self.assertEqual((self.numbers(follower), follower.is_behind), (list(range(51, 61)), False))
+            self.assertEqual(
+                (self.numbers(follower), follower.is_behind), (list(range(51, 61)), False)
+            )
             with mock.patch.object(access_log, "READ_ON_SECONDS", 0.0):
                 follower.read()
             self.assertEqual((len(follower.files), follower.is_behind), (1, False))
@@ -156,7 +246,9 @@ class Files(unittest.TestCase):
     def test_a_file_that_is_moved_away_and_back(self) -> None:
         follower = self.follow()
         moved = self.log.rename()
-        self.assertEqual((self.numbers(follower), follower.fault), ([], "No such file or directory"))
+        self.assertEqual(
+            (self.numbers(follower), follower.fault), ([], "No such file or directory")
+        )
         moved.rename(self.log.path)
         self.log.add(self.told[:2])
         self.assertEqual((self.numbers(follower), follower.fault), ([1, 2], ""))
@@ -169,7 +261,10 @@ class Files(unittest.TestCase):
         self.log.add(self.told[1:2])
         with mock.patch.object(access_log, "READ_ON_SECONDS", 0.0):
             batch = follower.read()
-        self.assertEqual(([entry.request for entry in batch.entries], batch.unreadable, len(follower.files)), ([1, 2], 1, 1))
+        self.assertEqual(
+            ([entry.request for entry in batch.entries], batch.unreadable, len(follower.files)),
+            ([1, 2], 1, 1),
+        )
         GrowingLog(moved).add(self.told[2:3])
         self.assertEqual(self.numbers(follower), [])
 
@@ -205,7 +300,9 @@ class Files(unittest.TestCase):
     def test_a_file_that_cannot_be_read(self) -> None:
         self.log.path.unlink()
         follower = self.follow(1 << 20)
-        self.assertEqual((follower.fault, self.numbers(follower)), ("No such file or directory", []))
+        self.assertEqual(
+            (follower.fault, self.numbers(follower)), ("No such file or directory", [])
+        )
         self.log.add(self.told[:2])
         self.assertEqual((self.numbers(follower), follower.fault), ([1, 2], ""))
         self.assertEqual(Follower(tempfile.gettempdir()).fault, "it is not a regular file")

@@ -1,4 +1,5 @@
-"""bench/compare.py fails where a bench or a ratio is worse, and writes the baseline; the benches print ratios."""
+"""bench/compare.py fails where a bench or a ratio is worse, and writes the baseline; the benches
+print ratios."""
 import json
 import pathlib
 import shutil
@@ -19,7 +20,8 @@ def lines(cost: float, rate: float) -> str:
 
 
 class Compare(unittest.TestCase):
-    """A repository of its own with one bench, whose runs print what a test says, one text after the other."""
+    """A repository of its own with one bench, whose runs print what a test says, one text after the
+    other."""
 
     def setUp(self) -> None:
         self.top = pathlib.Path(self.enterContext(tempfile.TemporaryDirectory()))
@@ -31,7 +33,9 @@ class Compare(unittest.TestCase):
         (self.top / "bench" / "baseline.json").write_text(json.dumps(baseline), encoding="ascii")
 
     def baseline(self) -> dict[str, dict[str, float]]:
-        found: dict[str, dict[str, float]] = json.loads((self.top / "bench" / "baseline.json").read_text(encoding="ascii"))
+        found: dict[str, dict[str, float]] = json.loads(
+            (self.top / "bench" / "baseline.json").read_text(encoding="ascii")
+        )
         return found
 
     def write_bench(self, *runs: str, status: int = 0) -> None:
@@ -40,15 +44,24 @@ class Compare(unittest.TestCase):
             (self.top / f"run{number}").write_text(text, encoding="ascii")
         (self.top / "runs").unlink(missing_ok=True)
         bench = self.top / BENCH
-        bench.write_text(f'#!/bin/sh\necho >> runs\nn=$(wc -l < runs)\n[ "$n" -le {len(runs)} ] || n={len(runs)}\n'
-                         f'cat "run$((n))"\nexit {status}\n', encoding="ascii")
+        bench.write_text(
+            f'#!/bin/sh\necho >> runs\nn=$(wc -l < runs)\n[ "$n" -le {len(runs)} ] || n={len(runs)}\n'
+            f'cat "run$((n))"\nexit {status}\n',
+            encoding="ascii",
+        )
         bench.chmod(0o755)
 
     def runs(self) -> int:
         return len((self.top / "runs").read_text(encoding="ascii").splitlines())
 
     def compare(self, *words: str) -> Run:
-        done = subprocess.run([str(self.top / "bench" / "compare.py"), *words], capture_output=True, text=True, timeout=WAIT, check=False)
+        done = subprocess.run(
+            [str(self.top / "bench" / "compare.py"), *words],
+            capture_output=True,
+            text=True,
+            timeout=WAIT,
+            check=False,
+        )
         return Run(done.stdout, done.stderr, done.returncode)
 
     def test_ratios_within_the_limit_pass(self) -> None:
@@ -59,7 +72,10 @@ class Compare(unittest.TestCase):
                 self.assertEqual(self.runs(), 1)
 
     def test_a_ratio_that_is_worse_twice_fails(self) -> None:
-        for cost, rate, fault in ((2.42, 1.0, f"{COST}: 2.42, and 2.00 before"), (2.0, 0.79, f"{RATE}: 0.79, and 1.00 before")):
+        for cost, rate, fault in (
+            (2.42, 1.0, f"{COST}: 2.42, and 2.00 before"),
+            (2.0, 0.79, f"{RATE}: 0.79, and 1.00 before"),
+        ):
             with self.subTest(fault):
                 self.write_bench(lines(cost, rate))
                 done = self.compare(BENCH)
@@ -102,7 +118,9 @@ class Compare(unittest.TestCase):
         self.write_baseline({"bench/two.sh": {"x": 1.5}, BENCH: {"gone": 1.0}})
         self.write_bench(lines(2.25, 0.5))
         self.assertEqual(self.compare("--write", BENCH).status, 0)
-        self.assertEqual(self.baseline(), {"bench/two.sh": {"x": 1.5}, BENCH: {COST: 2.25, RATE: 0.5}})
+        self.assertEqual(
+            self.baseline(), {"bench/two.sh": {"x": 1.5}, BENCH: {COST: 2.25, RATE: 0.5}}
+        )
         self.write_bench(lines(1.0, 1.0), status=1)
         self.assertEqual(self.compare("--write", BENCH).status, 1)
         self.assertEqual(self.baseline()[BENCH], {COST: 2.25, RATE: 0.5})
@@ -115,23 +133,46 @@ class Compare(unittest.TestCase):
 
 # What the program of a bench prints, and the ratios that the bench makes of it.
 SAMPLES: dict[str, tuple[str, dict[str, float]]] = {
-    "audit": ("10000 entries audited true: 50 ns\n100000 entries audited true: 550 ns\nratio in percent: 1108\n",
-              {"100,000 entries to 10,000": 11.08}),
-    "compaction": ("requests 10 0 100 1\nrequests 100 0 2000 1\nrequests 1000 0 15000 1\nticks 10 1 100 8\n",
-                   {"an entry of requests to one of the first run": 2.0, "an entry of ticks to one of the first run": 1.0}),
-    "deadlines": ("none_due 0 10 0 40\none_due 1 20 1 40\ntwo_due 2 30 2 40\nall_due 64 1 64 2\n",
-                  {"a sorted table to one in one order, none due": 0.25, "a sorted table to one in one order, one due": 0.5,
-                   "a sorted table to one in one order, two due": 0.75, "a sorted table to one in one order, all due": 0.5}),
+    "audit": (
+        "10000 entries audited true: 50 ns\n100000 entries audited true: 550 ns\nratio in percent: 1108\n",
+        {"100,000 entries to 10,000": 11.08},
+    ),
+    "compaction": (
+        "requests 10 0 100 1\nrequests 100 0 2000 1\nrequests 1000 0 15000 1\nticks 10 1 100 8\n",
+        {
+            "an entry of requests to one of the first run": 2.0,
+            "an entry of ticks to one of the first run": 1.0,
+        },
+    ),
+    "deadlines": (
+        "none_due 0 10 0 40\none_due 1 20 1 40\ntwo_due 2 30 2 40\nall_due 64 1 64 2\n",
+        {
+            "a sorted table to one in one order, none due": 0.25,
+            "a sorted table to one in one order, one due": 0.5,
+            "a sorted table to one in one order, two due": 0.75,
+            "a sorted table to one in one order, all due": 0.5,
+        },
+    ),
     "desk": ("book 1 1000\ndesk 1 1250\ndesk 2 3000\n", {"the desk to the book, one thread": 1.25}),
-    "lists": ("1 1 100\n8 1 110\n1 64 120\n8 64 150\n",
-              {"8 open requests to 1": 1.1, "8 open requests to 1, with 64 revisions": 1.25, "64 revisions to 1": 1.2}),
-    "openlist": ("9 turns at 8 linked nodes: 10 ns\n9 turns at 256 linked nodes: 9 ns\nratio in percent: 95\n",
-                 {"256 linked nodes to 8": 0.95}),
+    "lists": (
+        "1 1 100\n8 1 110\n1 64 120\n8 64 150\n",
+        {
+            "8 open requests to 1": 1.1,
+            "8 open requests to 1, with 64 revisions": 1.25,
+            "64 revisions to 1": 1.2,
+        },
+    ),
+    "openlist": (
+        "9 turns at 8 linked nodes: 10 ns\n9 turns at 256 linked nodes: 9 ns\nratio in percent: 95\n",
+        {"256 linked nodes to 8": 0.95},
+    ),
 }
-TIMES_OF_HTTP = ("find_head 10\nread_head 20\nwrite_head 15\nrequest_of_one_field 1\nrequest_of_one_field_by_byte 20\n"
-                 "request_of_64_fields 1\nrequest_of_64_fields_by_byte 20\nresponse_of_one_field 1\nresponse_of_one_field_by_byte 20\n"
-                 "response_of_64_fields 1\nresponse_of_64_fields_by_byte 20\ncopy 10\ncopy_pieces 10\nrequest_by_length 21\n"
-                 "response_by_length 22\nrequest_by_chunks 30\n")
+TIMES_OF_HTTP = (
+    "find_head 10\nread_head 20\nwrite_head 15\nrequest_of_one_field 1\nrequest_of_one_field_by_byte 20\n"
+    "request_of_64_fields 1\nrequest_of_64_fields_by_byte 20\nresponse_of_one_field 1\nresponse_of_one_field_by_byte 20\n"
+    "response_of_64_fields 1\nresponse_of_64_fields_by_byte 20\ncopy 10\ncopy_pieces 10\nrequest_by_length 21\n"
+    "response_by_length 22\nrequest_by_chunks 30\n"
+)
 
 
 class Printed(unittest.TestCase):
@@ -144,12 +185,16 @@ class Printed(unittest.TestCase):
             for file in ("compare.py", f"{name}.sh"):
                 shutil.copy(TOP / "bench" / file, bench / file)
             (bench / "baseline.json").write_text("{}", encoding="ascii")
-            (bench / "run.sh").write_text(f"#!/bin/sh\ncat << 'END'\n{printed}END\n", encoding="ascii")
+            (bench / "run.sh").write_text(
+                f"#!/bin/sh\ncat << 'END'\n{printed}END\n", encoding="ascii"
+            )
             (bench / "run.sh").chmod(0o755)
             words = [str(bench / "compare.py"), "--write", f"bench/{name}.sh"]
             done = subprocess.run(words, capture_output=True, text=True, timeout=WAIT, check=False)
             self.assertEqual(done.returncode, 0, done)
-            found: dict[str, float] = json.loads((bench / "baseline.json").read_text(encoding="ascii"))[f"bench/{name}.sh"]
+            found: dict[str, float] = json.loads(
+                (bench / "baseline.json").read_text(encoding="ascii")
+            )[f"bench/{name}.sh"]
             return found
 
     def test_the_ratios_of_a_sample(self) -> None:

@@ -10,7 +10,15 @@ from unittest import mock
 
 from bg_switch_tools.bgctl.history_table import duration
 from bg_switch_tools.controller import history_file, history_recorder
-from bg_switch_tools.controller.attempts import DEPLOYED, ENDED, LIVE, LOST, Attempts, Event, read_event
+from bg_switch_tools.controller.attempts import (
+    DEPLOYED,
+    ENDED,
+    LIVE,
+    LOST,
+    Attempts,
+    Event,
+    read_event,
+)
 from bg_switch_tools.controller.history_file import HistoryFile
 from bg_switch_tools.controller.history_recorder import HistoryRecorder
 from bg_switch_tools.controller.log import Log
@@ -28,8 +36,21 @@ def at(seconds: int) -> str:
 
 
 def report(phase: str, active: int, stable: int, newest: int) -> Report:
-    told = read_report(["moment 0", f"phase {phase}", f"active {active}", "preview 1", f"stable {stable}", f"newest {newest}",
-                        *(f"revision {number} web-v{number} desired 2 available 2 open 0 deadline none" for number in (1, 2)), "end"])
+    told = read_report(
+        [
+            "moment 0",
+            f"phase {phase}",
+            f"active {active}",
+            "preview 1",
+            f"stable {stable}",
+            f"newest {newest}",
+            *(
+                f"revision {number} web-v{number} desired 2 available 2 open 0 deadline none"
+                for number in (1, 2)
+            ),
+            "end",
+        ]
+    )
     assert told is not None
     return told
 
@@ -42,29 +63,51 @@ class Histories(unittest.TestCase):
         pathlib.Path(self.plan).write_text("{}", encoding="ascii")
         self.file = HistoryFile(self.plan)
         self.seconds = 0
-        stack.enter_context(mock.patch.object(history_recorder, "local_time", lambda: at(self.seconds)))
+        stack.enter_context(
+            mock.patch.object(history_recorder, "local_time", lambda: at(self.seconds))
+        )
         self.out = io.StringIO()
 
     def recorder(self, deployed: PlannedRevision | None = None) -> HistoryRecorder:
         return HistoryRecorder(self.plan, Log(self.out, False), deployed)
 
     def lines(self) -> list[tuple[object, ...]]:
-        return [(one.name, one.began, one.by, one.how, one.live_seconds(at(self.seconds)), bool(one.live_since))
-                for one in self.file.read()[0].all]
+        return [
+            (
+                one.name,
+                one.began,
+                one.by,
+                one.how,
+                one.live_seconds(at(self.seconds)),
+                bool(one.live_since),
+            )
+            for one in self.file.read()[0].all
+        ]
 
 
 class Events(Histories):
     def test_a_line_and_back(self) -> None:
-        for event in (Event(at(0), DEPLOYED, "web-v2", 2, "alice", ports=(3, 4)), Event(at(1), ENDED, "web-v2", 2, how="stable"),
-                      Event(at(2), LIVE, "web-v2", 2), Event(at(3), LOST)):
+        for event in (
+            Event(at(0), DEPLOYED, "web-v2", 2, "alice", ports=(3, 4)),
+            Event(at(1), ENDED, "web-v2", 2, how="stable"),
+            Event(at(2), LIVE, "web-v2", 2),
+            Event(at(3), LOST),
+        ):
             self.assertEqual(read_event(event.line()), event)
 
     def test_what_is_no_event(self) -> None:
         good = {"time": at(0), "event": LIVE, "name": "web-v1", "number": 1}
         self.assertIsNotNone(read_event(json.dumps(good).encode()))
         wrongs: tuple[dict[str, object], ...] = (
-            {"time": 5}, {"time": "yesterday"}, {"time": "2026-11-26T10:00:00"}, {"event": "bought"}, {"name": "A B"}, {"name": 7},
-            {"number": True}, {"number": "1"})
+            {"time": 5},
+            {"time": "yesterday"},
+            {"time": "2026-11-26T10:00:00"},
+            {"event": "bought"},
+            {"name": "A B"},
+            {"name": 7},
+            {"number": True},
+            {"number": "1"},
+        )
         for wrong in wrongs:
             self.assertIsNone(read_event(json.dumps({**good, **wrong}).encode()), wrong)
         for line in (b"[]", b"{", b"\xff", b"7"):
@@ -72,14 +115,22 @@ class Events(Histories):
 
     def test_times_add_up(self) -> None:
         attempts = Attempts()
-        for event in (Event(at(0), DEPLOYED, "web-v1", 1), Event(at(10), LIVE, "web-v1", 1), Event(at(20), DEPLOYED, "web-v2", 2),
-                      Event(at(40), LIVE, "web-v2", 2), Event(at(45), LIVE, "web-v1", 1), Event(at(60), LOST)):
+        for event in (
+            Event(at(0), DEPLOYED, "web-v1", 1),
+            Event(at(10), LIVE, "web-v1", 1),
+            Event(at(20), DEPLOYED, "web-v2", 2),
+            Event(at(40), LIVE, "web-v2", 2),
+            Event(at(45), LIVE, "web-v1", 1),
+            Event(at(60), LOST),
+        ):
             attempts.take(event)
         self.assertEqual([one.live_seconds(at(99)) for one in attempts.all], [45.0, 5.0])
 
     def test_durations(self) -> None:
-        self.assertEqual([duration(each) for each in (0, 59.9, 60, 192, 3600, 7500, 86400, 273600)],
-                         ["0s", "59s", "1m00s", "3m12s", "1h00m", "2h05m", "1d00h", "3d04h"])
+        self.assertEqual(
+            [duration(each) for each in (0, 59.9, 60, 192, 3600, 7500, 86400, 273600)],
+            ["0s", "59s", "1m00s", "3m12s", "1h00m", "2h05m", "1d00h", "3d04h"],
+        )
 
 
 class Files(Histories):
@@ -88,7 +139,11 @@ class Files(Histories):
         with mock.patch.object(history_file, "MOST_BYTES", 1000):
             for _ in range(100):
                 self.file.append(event)
-                sizes = [os.path.getsize(path) for path in (self.file.path, self.file.older) if os.path.exists(path)]
+                sizes = [
+                    os.path.getsize(path)
+                    for path in (self.file.path, self.file.older)
+                    if os.path.exists(path)
+                ]
                 self.assertLessEqual(max(sizes), 1000)
         self.assertGreaterEqual(len(self.file.read()[0].all), 1000 // len(event.line()))
         self.assertEqual(history_file.MOST_BYTES, 1 << 20)
@@ -99,29 +154,53 @@ class Files(Histories):
             file.write(b'{"time": "2026')
         self.file.append(Event(at(1), DEPLOYED, "web-v2", 2))
         attempts, unreadable = self.file.read()
-        self.assertEqual(([one.name for one in attempts.all], unreadable), (["web-v1", "web-v2"], 1))
+        self.assertEqual(
+            ([one.name for one in attempts.all], unreadable), (["web-v1", "web-v2"], 1)
+        )
         shown = run("history", "--plan", self.plan)
-        self.assertEqual((shown.status, f"{self.file.path} has 1 lines that are no events" in shown.told), (0, True))
+        self.assertEqual(
+            (shown.status, f"{self.file.path} has 1 lines that are no events" in shown.told),
+            (0, True),
+        )
 
     def test_what_is_shown(self) -> None:
-        self.assertEqual(run("history", "--plan", self.plan).told,
-                         f"bgctl: {self.file.path} has no attempt yet: the controller of the plan writes it\n")
-        for event in (Event(at(0), DEPLOYED, "web-v1", 1, "plan"), Event(at(1), ENDED, "web-v1", 1, how="stable"),
-                      Event(at(1), LIVE, "web-v1", 1), Event(at(2), DEPLOYED, "web-v2", 2, "alice"),
-                      Event(at(62), ENDED, "web-v2", 2, how="stable"), Event(at(62), LIVE, "web-v2", 2), Event(at(70), LOST)):
+        self.assertEqual(
+            run("history", "--plan", self.plan).told,
+            f"bgctl: {self.file.path} has no attempt yet: the controller of the plan writes it\n",
+        )
+        for event in (
+            Event(at(0), DEPLOYED, "web-v1", 1, "plan"),
+            Event(at(1), ENDED, "web-v1", 1, how="stable"),
+            Event(at(1), LIVE, "web-v1", 1),
+            Event(at(2), DEPLOYED, "web-v2", 2, "alice"),
+            Event(at(62), ENDED, "web-v2", 2, how="stable"),
+            Event(at(62), LIVE, "web-v2", 2),
+            Event(at(70), LOST),
+        ):
             self.file.append(event)
-        self.assertEqual(run("history", "--plan", self.plan).printed.splitlines(), [
-            "WHEN                       REVISION  BY     HOW IT ENDED  LIVE FOR",
-            "2026-11-26T10:00:00+00:00  1 web-v1  plan   stable        1m01s",
-            "2026-11-26T10:00:02+00:00  2 web-v2  alice  stable        8s"])
-        self.assertEqual(len(run("history", "--last", "1", "--json", BG_PLAN=self.plan).printed.splitlines()), 1)
+        self.assertEqual(
+            run("history", "--plan", self.plan).printed.splitlines(),
+            [
+                "WHEN                       REVISION  BY     HOW IT ENDED  LIVE FOR",
+                "2026-11-26T10:00:00+00:00  1 web-v1  plan   stable        1m01s",
+                "2026-11-26T10:00:02+00:00  2 web-v2  alice  stable        8s",
+            ],
+        )
+        self.assertEqual(
+            len(run("history", "--last", "1", "--json", BG_PLAN=self.plan).printed.splitlines()), 1
+        )
 
     def test_a_folder_that_takes_no_file(self) -> None:
         recorder = self.recorder()
         with mock.patch("os.open", side_effect=OSError(28, "No space left on device")):
             recorder.take_in(report("steady", 1, 1, 1), KNOWN)
             recorder.take_in(report("scaling", 1, 1, 2), KNOWN)
-        self.assertEqual(self.out.getvalue().count(f"the history can't be kept in {self.file.path}: No space left on device"), 1)
+        self.assertEqual(
+            self.out.getvalue().count(
+                f"the history can't be kept in {self.file.path}: No space left on device"
+            ),
+            1,
+        )
 
 
 class Reports(Histories):
@@ -136,14 +215,27 @@ class Reports(Histories):
         recorder = self.recorder()
         recorder.take_in(report("steady", 1, 1, 1), KNOWN)
         recorder.announce(V2)
-        for self.seconds, phase, active, stable in ((10, "scaling", 1, 1), (20, "paused", 1, 1), (30, "postAnalysis", 2, 1),
-                                                    (40, "steady", 2, 2)):
+        for self.seconds, phase, active, stable in (
+            (10, "scaling", 1, 1),
+            (20, "paused", 1, 1),
+            (30, "postAnalysis", 2, 1),
+            (40, "steady", 2, 2),
+        ):
             recorder.take_in(report(phase, active, stable, 2), KNOWN)
-        self.assertEqual(self.lines(), [("web-v1", "opened", "plan", "stable", 30, False), ("web-v2", "deployed", "plan", "stable", 10, True)])
+        self.assertEqual(
+            self.lines(),
+            [
+                ("web-v1", "opened", "plan", "stable", 30, False),
+                ("web-v2", "deployed", "plan", "stable", 10, True),
+            ],
+        )
         self.assertEqual(self.file.read()[0].all[1].ports, (3, 4))
 
     def test_how_it_ends_otherwise(self) -> None:
-        for phase, active, newest, how in (("aborted", 1, 2, "aborted"), ("steady", 1, 1, "undone")):
+        for phase, active, newest, how in (
+            ("aborted", 1, 2, "aborted"),
+            ("steady", 1, 1, "undone"),
+        ):
             with self.subTest(how):
                 recorder = self.recorder()
                 recorder.take_in(report("steady", 1, 1, 1), KNOWN)
@@ -157,7 +249,10 @@ class Reports(Histories):
         recorder = self.recorder()
         for _ in range(3):
             recorder.take_in(report("paused", 1, 1, 2), KNOWN)
-        self.assertEqual([line[:4] for line in self.lines()], [("web-v1", "deployed", "", ""), ("web-v2", "deployed", "line", "")])
+        self.assertEqual(
+            [line[:4] for line in self.lines()],
+            [("web-v1", "deployed", "", ""), ("web-v2", "deployed", "line", "")],
+        )
 
     def test_a_lost_book(self) -> None:
         recorder = self.recorder()
@@ -169,13 +264,19 @@ class Reports(Histories):
         recorder.lose_book()
         self.seconds = 80
         recorder.take_in(report("steady", 1, 1, 1), KNOWN)
-        self.assertEqual([(line[0], line[3], line[4]) for line in self.lines()], [("web-v1", "", 50), ("web-v2", "lost", 0), ("web-v1", "stable", 0)])
+        self.assertEqual(
+            [(line[0], line[3], line[4]) for line in self.lines()],
+            [("web-v1", "", 50), ("web-v2", "lost", 0), ("web-v1", "stable", 0)],
+        )
 
     def test_a_controller_that_ended_before_it_noted_its_deploy(self) -> None:
         self.recorder().take_in(report("steady", 1, 1, 1), KNOWN)
         self.recorder(V2).take_in(report("scaling", 1, 1, 2), KNOWN)
         self.recorder(V2).take_in(report("scaling", 1, 1, 2), KNOWN)
-        self.assertEqual([line[:3] for line in self.lines()], [("web-v1", "opened", "plan"), ("web-v2", "deployed", "plan")])
+        self.assertEqual(
+            [line[:3] for line in self.lines()],
+            [("web-v1", "opened", "plan"), ("web-v2", "deployed", "plan")],
+        )
 
 
 class Pauses(Histories):
@@ -184,7 +285,9 @@ class Pauses(Histories):
         for text in (b"", b"\xff\xfe", b"[1]", b'{"who": 7}', b'{"who": "a\\u001b[2Jb"}'):
             pathlib.Path(PauseFile(self.plan).path).write_bytes(text)
             pause.look()
-            self.assertEqual((pause.is_on, pause.paused and pause.paused.text()), (True, "paused by somebody"))
+            self.assertEqual(
+                (pause.is_on, pause.paused and pause.paused.text()), (True, "paused by somebody")
+            )
         self.assertEqual(self.out.getvalue().count("paused by somebody"), 1)
         PauseFile(self.plan).resume()
         pause.look()

@@ -22,8 +22,15 @@ run("live", (good,), by_hand=(bad,))
 
 class Parts(unittest.TestCase):
     def run_parts(self, *words: str) -> tuple[int, str, str]:
-        run = subprocess.run([sys.executable, "-B", "-c", CODE, *words], capture_output=True, text=True, timeout=WAIT, check=False,
-                             cwd=TOP, env={"PYTHONPATH": "lib:scripts"})
+        run = subprocess.run(
+            [sys.executable, "-B", "-c", CODE, *words],
+            capture_output=True,
+            text=True,
+            timeout=WAIT,
+            check=False,
+            cwd=TOP,
+            env={"PYTHONPATH": "lib:scripts"},
+        )
         return run.returncode, run.stdout, run.stderr
 
     def test_which_are_run(self) -> None:
@@ -34,7 +41,9 @@ class Parts(unittest.TestCase):
 
     def test_a_part_that_there_is_not(self) -> None:
         """A run that checks nothing is none that has passed."""
-        self.assertEqual(self.run_parts("good", "goood"), (2, "", "live: there is no part goood, but good bad\n"))
+        self.assertEqual(
+            self.run_parts("good", "goood"), (2, "", "live: there is no part goood, but good bad\n")
+        )
 
 
 if __name__ == "__main__":

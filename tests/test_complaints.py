@@ -1,4 +1,5 @@
-"""What stood in the way of users of the tools. Each test runs the whole tool before a fake switch."""
+"""What stood in the way of users of the tools. Each test runs the whole tool before a fake
+switch."""
 import contextlib
 import json
 import os
@@ -13,7 +14,18 @@ import unittest
 
 from support.pace import is_within
 from tests.fake_switch import FakeSwitch
-from tests.tool_runs import TOOLS, TOP, WAIT, ControllerRun, Endpoint, comes, controlling, operator, plan_of, with_fast_clock
+from tests.tool_runs import (
+    TOOLS,
+    TOP,
+    WAIT,
+    ControllerRun,
+    Endpoint,
+    comes,
+    controlling,
+    operator,
+    plan_of,
+    with_fast_clock,
+)
 
 
 class Controlled(unittest.TestCase):
@@ -50,13 +62,18 @@ class Controlled(unittest.TestCase):
         self.assertTrue(comes(lambda: self.switch.book.phase == "paused"), run.log)
         self.assertEqual(operator(self.switch.port, "promote").printed, "ok 1\n")
         self.write("web-v1", "web-v2", "web-v3")
-        self.assertTrue(comes(lambda: (self.switch.book.phase, self.switch.book.newest) == ("paused", 3)), run.log)
+        self.assertTrue(
+            comes(lambda: (self.switch.book.phase, self.switch.book.newest) == ("paused", 3)),
+            run.log,
+        )
         comes(lambda: run.says("phase: scaling -> paused") and self.remembers_v3(), 1.2)
         return run
 
     def remembers_v3(self) -> bool:
         """Whether the state file has the attempt of web-v3."""
-        with contextlib.suppress(FileNotFoundError), open(f"{self.plan.path}.state", encoding="ascii") as file:
+        with contextlib.suppress(FileNotFoundError), open(
+            f"{self.plan.path}.state", encoding="ascii"
+        ) as file:
             attempt = json.load(file)["attempt"]
             return attempt is not None and attempt["name"] == "web-v3"
         return False
@@ -72,7 +89,10 @@ class SwitchCrashes(Controlled):
         time.sleep(0.5)
         self.switch.start()
         self.assertTrue(comes(lambda: self.switch.book.phase == "paused"), run.log)
-        self.assertEqual(self.switch.sent_lines()[:3], [f"open {self.words('web-v2')}", "available 1 2", f"deploy {self.words('web-v3')}"])
+        self.assertEqual(
+            self.switch.sent_lines()[:3],
+            [f"open {self.words('web-v2')}", "available 1 2", f"deploy {self.words('web-v3')}"],
+        )
         self.assertTrue(run.says("no book is open: it is opened with web-v2, which was stable"))
         self.assertTrue(run.says("the attempt of web-v3, which ran, is begun again"))
 
@@ -80,11 +100,15 @@ class SwitchCrashes(Controlled):
 class ControllerCrashes(Controlled):
     def test_a_controller_started_again_deploys_nothing_that_was_undone(self) -> None:
         run = self.bring_v2_out()
-        self.assertEqual(operator(self.switch.port, "deploy", *self.words("web-v2").split()).printed, "ok 0\n")
+        self.assertEqual(
+            operator(self.switch.port, "deploy", *self.words("web-v2").split()).printed, "ok 0\n"
+        )
         run.kill()
         self.switch.lines.clear()
         self.run_controller()
-        self.assertTrue(comes(lambda: sum(line.startswith("tick ") for line in list(self.switch.lines)) >= 2))
+        self.assertTrue(
+            comes(lambda: sum(line.startswith("tick ") for line in list(self.switch.lines)) >= 2)
+        )
         self.assertEqual(self.switch.sent_lines(), [])
 
 
@@ -110,21 +134,28 @@ class Probing(Controlled):
         run = self.run_controller()
         self.assertTrue(comes(lambda: "available 1 2" in self.switch.lines))
         self.endpoints["web-v1"][1].trickle()
-        self.assertTrue(comes(lambda: "available 1 1" in self.switch.lines, 30), self.switch.sent_lines())
+        self.assertTrue(
+            comes(lambda: "available 1 1" in self.switch.lines, 30), self.switch.sent_lines()
+        )
         status, seconds = run.signal(signal.SIGTERM)
         self.assertEqual((status, is_within(seconds, 2) or seconds), (0, True))
 
 
 class Ends(Controlled):
     def ends_at_once(self, number: int) -> None:
-        """With an analysis that ignores signals, a probe that trickles, and a switch that does not answer."""
+        """With an analysis that ignores signals, a probe that trickles, and a switch that does not
+        answer."""
         self.switch.kill()
         self.switch.steps = ("pre",)
         self.switch.start()
         pid = os.path.join(os.path.dirname(self.plan.path), "pid")
         self.endpoints["web-v1"][1].trickle()
-        self.write("web-v1", "web-v2", analyses={"pre": ["sh", "-c", "trap '' TERM INT; echo $$ > pid; sleep 60; sleep 60"]},
-                   health={"interval": 0.1, "timeout": 60, "failures": 2})
+        self.write(
+            "web-v1",
+            "web-v2",
+            analyses={"pre": ["sh", "-c", "trap '' TERM INT; echo $$ > pid; sleep 60; sleep 60"]},
+            health={"interval": 0.1, "timeout": 60, "failures": 2},
+        )
         run = self.run_controller()
         self.assertTrue(comes(lambda: os.path.exists(pid) and os.path.getsize(pid) > 1), run.log)
         with open(pid, encoding="ascii") as file:
@@ -149,7 +180,9 @@ class Plans(Controlled):
         run = self.run_controller()
         comes(lambda: run.process.poll() is not None, 30)
         told = run.end()
-        self.assertEqual((told.status, "Traceback" in told.told, self.switch.lines), (1, False, []), told)
+        self.assertEqual(
+            (told.status, "Traceback" in told.told, self.switch.lines), (1, False, []), told
+        )
         self.assertIn(f"  {place}: ", told.told)
 
     def test_a_command_that_is_one_text(self) -> None:
@@ -172,10 +205,18 @@ class Plans(Controlled):
         run = self.run_controller()
         self.assertTrue(comes(lambda: "available 1 2" in self.switch.lines))
         self.plan.write([("web-v1", self.ports("web-v1")), ("web-v6\nabort", [70000, 4])])
-        self.assertTrue(run.says("the plan is wrong, so the one before is used: revisions[1].name: "))
-        self.assertTrue(run.says("the plan is wrong, so the one before is used: revisions[1].ports[0]: 70000 is above 65535"))
+        self.assertTrue(
+            run.says("the plan is wrong, so the one before is used: revisions[1].name: ")
+        )
+        self.assertTrue(
+            run.says(
+                "the plan is wrong, so the one before is used: revisions[1].ports[0]: 70000 is above 65535"
+            )
+        )
         time.sleep(1.2)
-        self.assertEqual([line for line in self.switch.sent_lines() if line.startswith(("deploy", "abort"))], [])
+        self.assertEqual(
+            [line for line in self.switch.sent_lines() if line.startswith(("deploy", "abort"))], []
+        )
 
 
 class Pipelines(Controlled):
@@ -187,10 +228,14 @@ class Pipelines(Controlled):
         self.assertEqual((deployed.printed, deployed.status), ("ok 0\n", 0))
         self.assertIn("makes revision 2 web-v2", deployed.told)
         self.write("web-v1", "web-v2")
-        paused = operator(self.switch.port, "wait", "phase=paused", "newest=web-v2", "--timeout", "9")
+        paused = operator(
+            self.switch.port, "wait", "phase=paused", "newest=web-v2", "--timeout", "9"
+        )
         self.assertEqual((paused.status, paused.printed.startswith("paused: ")), (0, True), paused)
         self.assertEqual(operator(self.switch.port, "promote").status, 0)
-        self.assertEqual(operator(self.switch.port, "wait", "stable=web-v2", "--timeout", "9").status, 0)
+        self.assertEqual(
+            operator(self.switch.port, "wait", "stable=web-v2", "--timeout", "9").status, 0
+        )
 
     def test_a_pipeline_hears_of_a_failure(self) -> None:
         self.bring_v2_out()
@@ -204,9 +249,18 @@ class Pipelines(Controlled):
         report = operator(self.switch.port, "report", "--json")
         self.assertEqual(json.loads(report.printed)["phase"], "steady")
         reply = operator(self.switch.port, "promote", "--json")
-        self.assertEqual((json.loads(reply.printed), reply.status), (
-            {"line": "promote", "reply": "refused NotPaused", "carried_out": False,
-             "meaning": "the rollout is not paused"}, 1))
+        self.assertEqual(
+            (json.loads(reply.printed), reply.status),
+            (
+                {
+                    "line": "promote",
+                    "reply": "refused NotPaused",
+                    "carried_out": False,
+                    "meaning": "the rollout is not paused",
+                },
+                1,
+            ),
+        )
 
 
 class Prompts(Controlled):
@@ -218,8 +272,14 @@ class Prompts(Controlled):
     def typed(self, word: str) -> int:
         """The status of a prompt at which this is typed."""
         end, other = pty.openpty()
-        process = subprocess.Popen([str(TOOLS / "operator"), str(self.switch.port)], stdin=other, stdout=other, stderr=other,
-                                   start_new_session=True, env={**os.environ, "TERM": "dumb"})
+        process = subprocess.Popen(
+            [str(TOOLS / "operator"), str(self.switch.port)],
+            stdin=other,
+            stdout=other,
+            stderr=other,
+            start_new_session=True,
+            env={**os.environ, "TERM": "dumb"},
+        )
         os.close(other)
         shown = b""
         while b"> " not in shown and select.select([end], [], [], WAIT)[0]:
@@ -231,7 +291,11 @@ class Prompts(Controlled):
 
     def test_help_lists_the_lines(self) -> None:
         told = operator(self.switch.port, "help")
-        self.assertEqual((told.status, "promote full" in told.printed, "wait CONDITION" in told.printed), (0, True, True), told)
+        self.assertEqual(
+            (told.status, "promote full" in told.printed, "wait CONDITION" in told.printed),
+            (0, True, True),
+            told,
+        )
         self.assertEqual(self.switch.lines, [])
 
 
@@ -242,8 +306,12 @@ class Logs(Controlled):
         self.assertEqual([line for line in told if " tick " in line], [])
         pattern = re.compile(r"\d{4}-\d\d-\d\dT\d\d:\d\d:\d\d[+-]\d\d:\d\d (moment \d+: )?\S")
         self.assertEqual([line for line in told if not pattern.match(line)], [])
-        for change in ("phase: paused -> steady", "active: revision 1 web-v1 -> revision 2 web-v2",
-                       "revision 3 web-v3: deployed, desired 2", "revision 1 web-v1: scale-down at moment none -> "):
+        for change in (
+            "phase: paused -> steady",
+            "active: revision 1 web-v1 -> revision 2 web-v2",
+            "revision 3 web-v3: deployed, desired 2",
+            "revision 1 web-v1: scale-down at moment none -> ",
+        ):
             self.assertTrue(any(change in line for line in told), (change, told))
 
     def test_a_refusal_has_its_meaning(self) -> None:
@@ -255,7 +323,11 @@ class Logs(Controlled):
         run = self.run_controller()
         self.assertTrue(run.says(f"deploy {self.words('web-v3')} => ok 0"))
         self.write("web-v1", "web-v2")
-        self.assertTrue(run.says(f"deploy {self.words('web-v2')} => refused PortsDiffer: a revision of this name already has other ports"))
+        self.assertTrue(
+            run.says(
+                f"deploy {self.words('web-v2')} => refused PortsDiffer: a revision of this name already has other ports"
+            )
+        )
 
 
 if __name__ == "__main__":

@@ -1,4 +1,5 @@
-"""What `wait` waits for: when a condition holds, may still come, or cannot hold unless a line is sent."""
+"""What `wait` waits for: when a condition holds, may still come, or cannot hold unless a line is
+sent."""
 import unittest
 from collections.abc import Sequence
 
@@ -9,11 +10,26 @@ HOLDS, MAY_COME = "holds", "may come"
 
 
 def report(phase: str, active: int, stable: int, newest: int, *revisions: str) -> Report:
-    """A report whose revisions are web-v1 and so on, each with what follows its name in the line."""
+    """A report whose revisions are web-v1 and so on, each with what follows its name in the
+    line."""
     preview = newest if phase not in ("steady", "aborted") else stable
-    lines = [f"revision {number} web-v{number} {rest}" for number, rest in enumerate(revisions, 1) if rest]
-    read = read_report(["moment 5", f"phase {phase}", f"active {active}", f"preview {preview}", f"stable {stable}",
-                        f"newest {newest}", *lines, "end"])
+    lines = [
+        f"revision {number} web-v{number} {rest}"
+        for number, rest in enumerate(revisions, 1)
+        if rest
+    ]
+    read = read_report(
+        [
+            "moment 5",
+            f"phase {phase}",
+            f"active {active}",
+            f"preview {preview}",
+            f"stable {stable}",
+            f"newest {newest}",
+            *lines,
+            "end",
+        ]
+    )
     assert read is not None
     return read
 
@@ -51,10 +67,16 @@ class Outlooks(unittest.TestCase):
     def test_phases(self) -> None:
         self.check("phase=paused", [SCALING], MAY_COME)
         self.check("phase=paused", [SCALING, PAUSED], HOLDS)
-        self.check("phase=paused", [POST], "the attempt of web-v2 is past it, in the phase postAnalysis")
+        self.check(
+            "phase=paused", [POST], "the attempt of web-v2 is past it, in the phase postAnalysis"
+        )
         self.check("phase=paused", [SCALING, ABORTED], "the attempt of web-v2 was aborted")
         self.check("phase=paused", [SCALING, STEADY], "no attempt runs")
-        self.check("phase=paused", [SCALING, REPLACED], "web-v3 took the place of the revision that it waits for")
+        self.check(
+            "phase=paused",
+            [SCALING, REPLACED],
+            "web-v3 took the place of the revision that it waits for",
+        )
         self.check("phase=steady", [POST], MAY_COME)
         self.check("phase=steady", [POST, ABORTED], "the attempt of web-v2 was aborted")
         self.check("phase=aborted", [SCALING], MAY_COME)
@@ -82,7 +104,11 @@ class Outlooks(unittest.TestCase):
         self.check("newest=web-v2 phase=paused stable=web-v2", [FIRST], MAY_COME)
         self.check("newest=web-v2 phase=paused", [FIRST, SCALING], MAY_COME)
         self.check("newest=web-v2 phase=paused", [FIRST, SCALING, PAUSED], HOLDS)
-        self.check("newest=web-v2 phase=paused", [FIRST, SCALING, REPLACED], "web-v3 took the place of web-v2")
+        self.check(
+            "newest=web-v2 phase=paused",
+            [FIRST, SCALING, REPLACED],
+            "web-v3 took the place of web-v2",
+        )
 
     def test_open_requests(self) -> None:
         self.check("open(web-v1)=0", [POST], MAY_COME)
@@ -98,8 +124,14 @@ class Outlooks(unittest.TestCase):
         self.check("scaled-down=web-v1", [STEADY, REMOVED], HOLDS)
         self.check("scaled-down=web-v1", [REMOVED], "no revision web-v1 exists")
         self.check("scaled-down=web-v1", [SCALING], MAY_COME)
-        self.check("scaled-down=web-v1", [FIRST], "no scale-down of web-v1 is due, and no attempt runs")
-        self.check("scaled-down=web-v1", [ABORTED], "no scale-down of web-v1 is due, and the attempt of web-v2 was aborted")
+        self.check(
+            "scaled-down=web-v1", [FIRST], "no scale-down of web-v1 is due, and no attempt runs"
+        )
+        self.check(
+            "scaled-down=web-v1",
+            [ABORTED],
+            "no scale-down of web-v1 is due, and the attempt of web-v2 was aborted",
+        )
 
     def test_settled(self) -> None:
         for at_rest in (FIRST, ABORTED, STEADY):
@@ -111,17 +143,26 @@ class Outlooks(unittest.TestCase):
         self.check("phase=steady stable=web-v2", [STEADY], HOLDS)
         self.check("settled scaled-down=web-v1", [STEADY], MAY_COME)
         self.check("settled stable=web-v1", [STEADY], "no attempt runs")
-        self.assertEqual(told("phase=steady stable=web-v2", ABORTED),
-                         "phase=steady cannot hold unless a line is sent: the attempt of web-v2 was aborted")
+        self.assertEqual(
+            told("phase=steady stable=web-v2", ABORTED),
+            "phase=steady cannot hold unless a line is sent: the attempt of web-v2 was aborted",
+        )
 
 
 class Wrong(unittest.TestCase):
     def test_what_is_expected_is_named(self) -> None:
-        for text, expected in (("phase=pause", "the nearest is paused"), ("phase", "a condition is needed"),
-                             ("live=web-v2", "a condition is needed"), ("active=", "the name of a revision is needed"),
-                             ("active=Web", "the name of a revision is needed"), ("open(web-v1)=x", "a number of open requests"),
-                             ("open(web-v1)", "a condition is needed"), ("open()=1", "the name of a revision"),
-                             ("settled=yes", "a condition is needed"), ("", "a condition is needed")):
+        for text, expected in (
+            ("phase=pause", "the nearest is paused"),
+            ("phase", "a condition is needed"),
+            ("live=web-v2", "a condition is needed"),
+            ("active=", "the name of a revision is needed"),
+            ("active=Web", "the name of a revision is needed"),
+            ("open(web-v1)=x", "a number of open requests"),
+            ("open(web-v1)", "a condition is needed"),
+            ("open()=1", "the name of a revision"),
+            ("settled=yes", "a condition is needed"),
+            ("", "a condition is needed"),
+        ):
             with self.subTest(text=text), self.assertRaisesRegex(WrongCondition, expected):
                 read_condition(text)
 

@@ -71,21 +71,31 @@ class Ask(unittest.TestCase):
         def slowly(line: str) -> Sequence[str]:
             time.sleep(0.15)
             return ["ok 0"]
+
         with FakePort(slowly) as port, Connection(port.port, 0.4) as connection:
             with self.assertRaises(Unreachable):
                 connection.answers([b"tick 1"] * 6)
 
     def test_a_peer_that_is_no_switch(self) -> None:
-        wrong_ones: list[list[str]] = [["x" * 70000], ["HTTP/1.1 400 Bad Request"], ["moment 0"] * 200]
+        wrong_ones: list[list[str]] = [
+            ["x" * 70000],
+            ["HTTP/1.1 400 Bad Request"],
+            ["moment 0"] * 200,
+        ]
         for reply in wrong_ones:
-            with FakePort(lambda line: reply) as port, self.assertRaisesRegex(Unreachable, "is not a switch"):
+            with FakePort(lambda line: reply) as port, self.assertRaisesRegex(
+                Unreachable, "is not a switch"
+            ):
                 ask(port.port, b"report", 5)
 
 
 class Lines(unittest.TestCase):
     def test_several_lines_in_one_piece(self) -> None:
         with FakePort(usual) as port, Connection(port.port, 5) as connection:
-            self.assertEqual(connection.answers([b"tick 1", b"report", b"tick 2"]), [["ok 0"], list(REPORT), ["ok 0"]])
+            self.assertEqual(
+                connection.answers([b"tick 1", b"report", b"tick 2"]),
+                [["ok 0"], list(REPORT), ["ok 0"]],
+            )
 
     def test_each_order_has_a_deadline_of_its_own(self) -> None:
         with FakePort(usual) as port, Connection(port.port, 0.3) as connection:
@@ -95,9 +105,13 @@ class Lines(unittest.TestCase):
 
     def test_orders_of_this_user_are_not_taken(self) -> None:
         for line in ("report", "abort", "quit"):
-            with FakePort(lambda line: ["refused NotAllowed"]) as port, self.assertRaisesRegex(Unreachable, "no lines of this user"):
+            with FakePort(lambda line: ["refused NotAllowed"]) as port, self.assertRaisesRegex(
+                Unreachable, "no lines of this user"
+            ):
                 ask(port.port, line.encode("ascii"), 5)
-        with FakePort(lambda line: ["refused NotAllowed"]) as port, Connection(port.port, 1) as connection:
+        with FakePort(lambda line: ["refused NotAllowed"]) as port, Connection(
+            port.port, 1
+        ) as connection:
             with self.assertRaisesRegex(Unreachable, "no lines of this user"):
                 connection.quit()
 

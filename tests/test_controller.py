@@ -24,7 +24,9 @@ NAMES = ("web-v1", "web-v2", "web-v3")
 
 
 class ControllerCase(unittest.TestCase):
-    """A switch, two endpoints for each of three revisions, and a controller that takes twenty turns a second."""
+    """A switch, two endpoints for each of three revisions, and a controller that takes twenty turns
+    a second."""
+
     steps: Sequence[str] = ("pause",)
     knows_down = False
 
@@ -46,7 +48,10 @@ class ControllerCase(unittest.TestCase):
         return " ".join([name, *(str(endpoint.port) for endpoint in self.endpoints[name])])
 
     def write(self, *names: str, **members: object) -> None:
-        self.plan.write([(name, [endpoint.port for endpoint in self.endpoints[name]]) for name in names], **members)
+        self.plan.write(
+            [(name, [endpoint.port for endpoint in self.endpoints[name]]) for name in names],
+            **members,
+        )
 
     def start(self, as_json: bool = False) -> Runner:
         file = PlanFile(self.plan.path)
@@ -66,13 +71,21 @@ class ControllerCase(unittest.TestCase):
             self.assertTrue(comes(lambda: text in self.log()), f"{text}\n{self.log()}")
 
     def await_book(self, phase: str, newest: int) -> None:
-        self.assertTrue(comes(lambda: (self.switch.book.phase, self.switch.book.newest) == (phase, newest)), self.log())
+        self.assertTrue(
+            comes(lambda: (self.switch.book.phase, self.switch.book.newest) == (phase, newest)),
+            self.log(),
+        )
         self.some_rounds()
 
     def some_rounds(self) -> None:
         """Waits for a few whole turns."""
         ticks = self.switch.lines.count("report")
-        self.assertTrue(comes(lambda: self.switch.lines.count("report") >= ticks + 8 or not self.switch.control.thread.is_alive()))
+        self.assertTrue(
+            comes(
+                lambda: self.switch.lines.count("report") >= ticks + 8
+                or not self.switch.control.thread.is_alive()
+            )
+        )
 
     def restart_switch(self) -> None:
         self.switch.kill()
@@ -100,8 +113,15 @@ class Openings(ControllerCase):
         self.write(*NAMES[:2])
         self.start()
         self.await_book("paused", 2)
-        self.assertEqual(self.switch.sent_lines(), [f"open {self.words('web-v1')}", "available 1 2", f"deploy {self.words('web-v2')}",
-                                                "available 2 2"])
+        self.assertEqual(
+            self.switch.sent_lines(),
+            [
+                f"open {self.words('web-v1')}",
+                "available 1 2",
+                f"deploy {self.words('web-v2')}",
+                "available 2 2",
+            ],
+        )
         self.await_log("no book is open: it is opened with web-v1, the plan's first revision")
 
     def test_an_aborted_attempt_is_not_begun_again(self) -> None:
@@ -109,7 +129,9 @@ class Openings(ControllerCase):
         self.by_hand("abort")
         self.some_rounds()
         self.restart_switch()
-        self.assertEqual(self.switch.sent_lines(), [f"open {self.words('web-v2')}", "available 1 2"])
+        self.assertEqual(
+            self.switch.sent_lines(), [f"open {self.words('web-v2')}", "available 1 2"]
+        )
         self.await_log("web-v3 is not deployed again: it was aborted or undone")
 
     def test_an_undone_attempt_is_not_begun_again(self) -> None:
@@ -117,13 +139,17 @@ class Openings(ControllerCase):
         self.by_hand(f"deploy {self.words('web-v1')}")
         self.some_rounds()
         self.restart_switch()
-        self.assertEqual(self.switch.sent_lines(), [f"open {self.words('web-v2')}", "available 1 2"])
+        self.assertEqual(
+            self.switch.sent_lines(), [f"open {self.words('web-v2')}", "available 1 2"]
+        )
 
     def test_an_attempt_is_begun_again_once_after_each_start(self) -> None:
         self.v3_is_paused()
         for _ in range(2):
             self.restart_switch()
-            self.assertEqual(self.switch.sent_lines()[2:], [f"deploy {self.words('web-v3')}", "available 2 2"])
+            self.assertEqual(
+                self.switch.sent_lines()[2:], [f"deploy {self.words('web-v3')}", "available 2 2"]
+            )
         self.by_hand("abort")
         self.some_rounds()
         self.assertEqual(len(self.switch.sent_lines()), 4)
@@ -136,7 +162,9 @@ class Openings(ControllerCase):
         self.switch.lines.clear()
         self.switch.start()
         self.await_book("steady", 1)
-        self.assertEqual(self.switch.sent_lines(), [f"open {self.words('web-v2')}", "available 1 2"])
+        self.assertEqual(
+            self.switch.sent_lines(), [f"open {self.words('web-v2')}", "available 1 2"]
+        )
 
     def test_the_plan_has_other_ports_by_then(self) -> None:
         """A new book takes the ports that were live, and not those that the plan has now."""
@@ -149,8 +177,10 @@ class Openings(ControllerCase):
         self.switch.lines.clear()
         self.switch.start()
         self.await_book("paused", 2)
-        self.assertEqual(self.switch.sent_lines(), [f"open {live}", "available 1 2", f"deploy {self.words('web-v3')}",
-                                                "available 2 2"])
+        self.assertEqual(
+            self.switch.sent_lines(),
+            [f"open {live}", "available 1 2", f"deploy {self.words('web-v3')}", "available 2 2"],
+        )
 
     def test_a_second_switch_is_opened_with_the_stable_revision(self) -> None:
         """An upgrade: the plan names the control port of another switch."""
@@ -161,7 +191,10 @@ class Openings(ControllerCase):
         self.stack.callback(second.kill)
         self.switch.lines.clear()
         self.write(*NAMES, control=second.port)
-        self.assertTrue(comes(lambda: len([line for line in second.lines if line.startswith("tick ")]) >= 2), self.log())
+        self.assertTrue(
+            comes(lambda: len([line for line in second.lines if line.startswith("tick ")]) >= 2),
+            self.log(),
+        )
         self.assertEqual(second.sent_lines(), [f"open {self.words('web-v2')}", "available 1 2"])
         self.assertEqual((self.switch.sent_lines(), "started again" in self.log()), ([], False))
 
@@ -186,8 +219,10 @@ class Openings(ControllerCase):
         self.switch.kill()
         self.switch.lines.clear()
         self.switch.start(f"open {self.words('web-v1')}")
-        self.await_log("the switch was started again: the book that was open is gone",
-                       "a book is open: phase steady, active revision 1 web-v1")
+        self.await_log(
+            "the switch was started again: the book that was open is gone",
+            "a book is open: phase steady, active revision 1 web-v1",
+        )
         self.some_rounds()
         self.assertEqual(self.switch.sent_lines(), ["available 1 2"])
 
@@ -206,6 +241,7 @@ class Openings(ControllerCase):
                 lost.append(line)
                 return None
             return reply
+
         self.switch.control.answer = loses
         self.await_book("paused", 2)
         self.assertEqual(lost, [f"open {self.words('web-v2')}"])
@@ -224,6 +260,7 @@ class Openings(ControllerCase):
             reply = None if deployed else answer(line)
             deployed.extend([line] if line.startswith("deploy ") else [])
             return reply
+
         self.switch.control.answer = ends
         self.write("web-v1", "web-v2")
         self.assertTrue(comes(lambda: deployed and "deploy web-v2" in self.log()), self.log())
@@ -235,22 +272,31 @@ class Openings(ControllerCase):
         self.plan.write([("web-v1", [1])])
         runner = self.start()
         self.assertTrue(comes(lambda: not runner.thread.is_alive()))
-        self.assertIn("the switch can't be opened with web-v1: open web-v1 1 => refused BadPorts: a revision has one port for each",
-                      runner.unfit)
-        self.assertIn("bgctl check PLAN --rollout FILE compares the plan with the Rollout of the switch, and says what to do", runner.unfit)
+        self.assertIn(
+            "the switch can't be opened with web-v1: open web-v1 1 => refused BadPorts: a revision has one port for each",
+            runner.unfit,
+        )
+        self.assertIn(
+            "bgctl check PLAN --rollout FILE compares the plan with the Rollout of the switch, and says what to do",
+            runner.unfit,
+        )
 
     def test_a_switch_that_is_started_again_with_other_replicas(self) -> None:
         """Clients hang: who operates it is told why, and what to do."""
         self.write("web-v1")
         self.start()
         self.await_book("steady", 1)
-        with mock.patch.object(FakeBook, "_open", lambda *_: ["refused BadPorts"]), mock.patch("sys.stderr", io.StringIO()) as told:
+        with mock.patch.object(FakeBook, "_open", lambda *_: ["refused BadPorts"]), mock.patch(
+            "sys.stderr", io.StringIO()
+        ) as told:
             self.switch.kill()
             self.switch.start()
             text = f"no book is open, and clients wait: the switch can't be opened with web-v1: open {self.words('web-v1')} => refused BadPorts: "
             self.await_log(text)
             self.some_rounds()
-        self.assertEqual((self.log().count(text), told.getvalue().count(f"controller: {text}")), (1, 1))
+        self.assertEqual(
+            (self.log().count(text), told.getvalue().count(f"controller: {text}")), (1, 1)
+        )
         self.assertIn("bgctl check PLAN --rollout FILE compares", told.getvalue())
 
     def test_a_number_of_ports_that_does_not_fit_an_open_book(self) -> None:
@@ -258,8 +304,13 @@ class Openings(ControllerCase):
         self.plan.write([("web-v1", [1]), ("web-v2", [2])])
         with mock.patch("sys.stderr", io.StringIO()) as told:
             self.start()
-            self.await_log("deploy web-v2 2 => refused BadPorts: a revision has one port for each replica")
-        self.assertIn("the number of ports of each revision of the plan is 1, and the switch needs one for each of 2 replicas", told.getvalue())
+            self.await_log(
+                "deploy web-v2 2 => refused BadPorts: a revision has one port for each replica"
+            )
+        self.assertIn(
+            "the number of ports of each revision of the plan is 1, and the switch needs one for each of 2 replicas",
+            told.getvalue(),
+        )
 
 
 class WithoutState(ControllerCase):
@@ -268,16 +319,27 @@ class WithoutState(ControllerCase):
         self.write(*NAMES[:2])
         self.start()
         self.await_book("paused", 2)
-        self.await_log("plan.json.state is not used, since there is none", "web-v2 does not exist yet, so it is deployed")
+        self.await_log(
+            "plan.json.state is not used, since there is none",
+            "web-v2 does not exist yet, so it is deployed",
+        )
 
     def test_what_exists_and_is_not_the_newest_is_taken_for_undone(self) -> None:
-        for line in (f"open {self.words('web-v1')}", f"deploy {self.words('web-v2')}", f"deploy {self.words('web-v1')}"):
+        for line in (
+            f"open {self.words('web-v1')}",
+            f"deploy {self.words('web-v2')}",
+            f"deploy {self.words('web-v1')}",
+        ):
             self.by_hand(line)
         self.write(*NAMES[:2])
         self.start()
-        self.await_log("web-v2 exists and is not the newest revision, so it counts as undone and not deployed")
+        self.await_log(
+            "web-v2 exists and is not the newest revision, so it counts as undone and not deployed"
+        )
         self.some_rounds()
-        self.assertEqual([line for line in self.switch.sent_lines() if line.startswith("deploy")], [])
+        self.assertEqual(
+            [line for line in self.switch.sent_lines() if line.startswith("deploy")], []
+        )
 
 
 class Deploys(ControllerCase):
@@ -287,7 +349,12 @@ class Deploys(ControllerCase):
             self.start()
             self.await_book("steady", 1)
             self.switch.book.refusals["deploy"] = "TooManyRevisions"
-            self.plan.write([("web-v1", [endpoint.port for endpoint in self.endpoints["web-v1"]]), ("web-v2", [1, 2])])
+            self.plan.write(
+                [
+                    ("web-v1", [endpoint.port for endpoint in self.endpoints["web-v1"]]),
+                    ("web-v2", [1, 2]),
+                ]
+            )
             self.await_log("deploy web-v2 1 2 => refused TooManyRevisions: 64 revisions exist")
             self.assertTrue(comes(lambda: self.switch.lines.count("deploy web-v2 1 2") >= 3))
             del self.switch.book.refusals["deploy"]
@@ -309,10 +376,18 @@ class Deploys(ControllerCase):
         self.await_log("revision 2 hotfix is not in the plan: its endpoints are not probed")
         self.by_hand("available 2 2")
         self.by_hand("promote")
-        self.await_log("revision 2 hotfix is stable and not in the plan, so its ports are not known: a switch that is started again "
-                       "would be opened with web-v1")
+        self.await_log(
+            "revision 2 hotfix is stable and not in the plan, so its ports are not known: a switch that is started again "
+            "would be opened with web-v1"
+        )
         self.some_rounds()
-        self.assertEqual((self.log().count("is not in the plan: "), self.log().count("stable and not in the plan")), (1, 1))
+        self.assertEqual(
+            (
+                self.log().count("is not in the plan: "),
+                self.log().count("stable and not in the plan"),
+            ),
+            (1, 1),
+        )
 
     def test_a_switch_that_ends_a_connection_in_the_middle(self) -> None:
         self.write(*NAMES[:2])
@@ -321,6 +396,7 @@ class Deploys(ControllerCase):
         def ends_now_and_then(line: str) -> Sequence[str] | None:
             counts[0] += 1
             return None if counts[0] % 7 == 0 else answer(line)
+
         self.switch.control.answer = ends_now_and_then
         self.start()
         self.await_book("paused", 2)
@@ -334,7 +410,10 @@ class Progress(ControllerCase):
         self.write("web-v1", "web-v2", progress={"seconds": 0.4, "abort": True})
         self.start()
         self.await_book("aborted", 2)
-        self.await_log("revision 2 web-v2 has made no progress for 0.4 seconds: 1 of 2 endpoints are up", "abort => ok 0")
+        self.await_log(
+            "revision 2 web-v2 has made no progress for 0.4 seconds: 1 of 2 endpoints are up",
+            "abort => ok 0",
+        )
         self.some_rounds()
         self.assertEqual(self.switch.sent_lines().count("abort"), 1)
 
@@ -342,7 +421,9 @@ class Progress(ControllerCase):
         self.endpoints["web-v2"][0].stop()
         self.write("web-v1", "web-v2", progress={"seconds": 0.3})
         self.start()
-        self.await_log("revision 2 web-v2 has made no progress for 0.3 seconds: 0 of 2 endpoints are up")
+        self.await_log(
+            "revision 2 web-v2 has made no progress for 0.3 seconds: 0 of 2 endpoints are up"
+        )
         self.some_rounds()
         self.assertEqual((self.switch.book.phase, self.log().count("no progress")), ("scaling", 1))
         self.endpoints["web-v2"][0].start()
@@ -353,21 +434,31 @@ class Analyses(ControllerCase):
     steps = ("pre", "pause", "post")
 
     def write_with(self, pre: str, post: str = "exit 0", seconds: float = 60) -> None:
-        self.write(*NAMES[:2], analyses={"pre": ["sh", "-c", pre], "post": ["sh", "-c", post], "seconds": seconds})
+        self.write(
+            *NAMES[:2],
+            analyses={"pre": ["sh", "-c", pre], "post": ["sh", "-c", post], "seconds": seconds},
+        )
 
     def test_verdicts(self) -> None:
         ports = self.words("web-v2").removeprefix("web-v2 ")
-        self.write_with(f'test "$BG_REVISION $BG_REVISION_NUMBER $BG_PORTS" = "web-v2 2 {ports}"', "exit 1")
+        self.write_with(
+            f'test "$BG_REVISION $BG_REVISION_NUMBER $BG_PORTS" = "web-v2 2 {ports}"', "exit 1"
+        )
         self.start()
         self.await_book("paused", 2)
         self.by_hand("promote")
         self.await_book("aborted", 2)
-        self.assertEqual([line for line in self.switch.sent_lines() if line.startswith("verdict")],
-                         ["verdict pre successful", "verdict post failed"])
+        self.assertEqual(
+            [line for line in self.switch.sent_lines() if line.startswith("verdict")],
+            ["verdict pre successful", "verdict post failed"],
+        )
 
     def test_errors(self) -> None:
-        for seconds, command, why in ((60, "exit 3", "its exit status is 3"), (0.3, "sleep 60", "it has not ended after 0.3 seconds"),
-                                      (60, "kill -9 $$", "its exit status is -9")):
+        for seconds, command, why in (
+            (60, "exit 3", "its exit status is 3"),
+            (0.3, "sleep 60", "it has not ended after 0.3 seconds"),
+            (60, "kill -9 $$", "its exit status is -9"),
+        ):
             with self.subTest(command=command):
                 self.write_with(command, seconds=seconds)
                 runner = self.start()
@@ -402,25 +493,38 @@ class Analyses(ControllerCase):
         self.await_log("analysis pre of web-v2 is stopped: its phase has ended")
         self.assertTrue(comes(lambda: not os.path.exists(f"/proc/{process}")))
         self.some_rounds()
-        self.assertEqual([line for line in self.switch.sent_lines() if line.startswith("verdict")], [])
+        self.assertEqual(
+            [line for line in self.switch.sent_lines() if line.startswith("verdict")], []
+        )
 
     def test_no_verdict_for_another_revision(self) -> None:
         """The analysis of web-v2 ends while web-v3, which took its place, is in the same phase."""
-        self.write(*NAMES, analyses={"pre": ["sh", "-c", "test $BG_REVISION = web-v2 && exec sleep 60"]})
+        self.write(
+            *NAMES, analyses={"pre": ["sh", "-c", "test $BG_REVISION = web-v2 && exec sleep 60"]}
+        )
         self.by_hand(f"open {self.words('web-v1')}")
         self.by_hand(f"deploy {self.words('web-v3')}")
         self.by_hand(f"deploy {self.words('web-v2')}")
         self.start()
         self.await_log("analysis pre of web-v2 begins")
         self.by_hand(f"deploy {self.words('web-v3')}")
-        self.await_log("analysis pre of web-v2 is stopped: its phase has ended", "analysis pre of web-v3 begins", "verdict pre failed")
+        self.await_log(
+            "analysis pre of web-v2 is stopped: its phase has ended",
+            "analysis pre of web-v3 begins",
+            "verdict pre failed",
+        )
         self.assertEqual(self.log().count("verdict pre"), 1)
 
     def test_one_without_a_command_is_told_once(self) -> None:
         self.write(*NAMES[:2])
         self.start()
         self.await_book("preAnalysis", 2)
-        self.assertEqual(self.log().count("revision 2 web-v2 waits for verdict pre by hand: the plan has no command for it"), 1)
+        self.assertEqual(
+            self.log().count(
+                "revision 2 web-v2 waits for verdict pre by hand: the plan has no command for it"
+            ),
+            1,
+        )
 
     def test_it_is_stopped_when_the_switch_is_started_again(self) -> None:
         self.write_with("exec sleep 60")
@@ -442,25 +546,40 @@ class Logs(ControllerCase):
             self.assertRegex(line["time"], r"^\d{4}-\d\d-\d\dT\d\d:\d\d:\d\d[+-]\d\d:\d\d$")
             self.assertTrue({"moment", "event", "text"} <= set(line), line)
         sent_lines = [line for line in lines if line["event"] == "order"]
-        self.assertEqual([(line["line"], line["reply"], line["carried_out"], line["meaning"]) for line in sent_lines][1:],
-                         [("available 1 2", "ok 0", True, None), (f"deploy {self.words('web-v2')}", "ok 0", True, None),
-                          ("available 2 2", "ok 1", True, None)])
+        self.assertEqual(
+            [
+                (line["line"], line["reply"], line["carried_out"], line["meaning"])
+                for line in sent_lines
+            ][1:],
+            [
+                ("available 1 2", "ok 0", True, None),
+                (f"deploy {self.words('web-v2')}", "ok 0", True, None),
+                ("available 2 2", "ok 1", True, None),
+            ],
+        )
         self.assertEqual(lines[-1]["event"], "end")
-        self.assertIn("phase: scaling -> paused", [line["text"] for line in lines if line["event"] == "change"])
+        self.assertIn(
+            "phase: scaling -> paused",
+            [line["text"] for line in lines if line["event"] == "change"],
+        )
 
     def test_a_tick_that_is_refused_is_told_once_a_minute(self) -> None:
         self.write("web-v1")
         self.start()
         self.await_book("steady", 1)
         self.switch.book.refusals["tick"] = "HistoryFull"
-        self.await_log("=> refused HistoryFull: the history has no room left; upgrade to a second switch (docs/OPERATING.md)")
+        self.await_log(
+            "=> refused HistoryFull: the history has no room left; upgrade to a second switch (docs/OPERATING.md)"
+        )
         self.some_rounds()
         self.assertEqual(self.log().count("HistoryFull"), 1)
 
     def test_each_minute_without_an_answer(self) -> None:
         self.write("web-v1")
         self.switch.kill()
-        with mock.patch.object(controller_cli, "MINUTE", 0.2), mock.patch.object(controller_cli, "CONNECT", 0.05):
+        with mock.patch.object(controller_cli, "MINUTE", 0.2), mock.patch.object(
+            controller_cli, "CONNECT", 0.05
+        ):
             self.start()
             self.assertTrue(comes(lambda: self.log().count("no answer for") >= 2))
         self.assertEqual(self.log().count("no answer: port"), 1)
@@ -486,6 +605,7 @@ class Ends(ControllerCase):
             asked.set()
             holds.wait(WAIT)
             return ["ok 0"]
+
         self.switch.control.answer = hang
         self.assertTrue(asked.wait(WAIT))
         begun = time.monotonic()

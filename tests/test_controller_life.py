@@ -1,4 +1,5 @@
-"""Whether a controller lives: by its lock, by the time of its latest round, and in what the tools tell of it."""
+"""Whether a controller lives: by its lock, by the time of its latest round, and in what the tools
+tell of it."""
 import fcntl
 import json
 import os
@@ -31,17 +32,24 @@ class Locks(unittest.TestCase):
         return lock
 
     def test_it_is_up_while_it_has_the_lock(self) -> None:
-        self.assertEqual(life_of(self.plan), (Life.DOWN, f"no controller runs the plan {self.plan}"))
+        self.assertEqual(
+            life_of(self.plan), (Life.DOWN, f"no controller runs the plan {self.plan}")
+        )
         lock = self.lock()
         self.assertEqual(life_of(self.plan), (Life.UP, ""))
         lock.release()
-        self.assertEqual(life_of(self.plan), (Life.DOWN, f"no controller runs the plan {self.plan}"))
+        self.assertEqual(
+            life_of(self.plan), (Life.DOWN, f"no controller runs the plan {self.plan}")
+        )
 
     def test_it_hangs_where_no_round_has_touched_the_file(self) -> None:
         lock = self.lock()
         for moved in (-100, 100):  # the clock may have been set back
             os.utime(lock.path, (time.time() + moved, time.time() + moved))
-            self.assertEqual((life_of(self.plan).life, "hangs: its last round was" in life_of(self.plan).text), (Life.HANGS, True))
+            self.assertEqual(
+                (life_of(self.plan).life, "hangs: its last round was" in life_of(self.plan).text),
+                (Life.HANGS, True),
+            )
         lock.touch()
         self.assertEqual(life_of(self.plan).life, Life.UP)
 
@@ -58,7 +66,10 @@ class Locks(unittest.TestCase):
     def test_what_is_not_known_is_not_wrong(self) -> None:
         with mock.patch("os.open", side_effect=PermissionError(13, "Permission denied")):
             told = life_of(self.plan)
-        self.assertEqual((told.life, told.is_wrong, told.text.endswith("can't be read: Permission denied")), (Life.UNKNOWN, False, True))
+        self.assertEqual(
+            (told.life, told.is_wrong, told.text.endswith("can't be read: Permission denied")),
+            (Life.UNKNOWN, False, True),
+        )
 
     def test_a_look_keeps_no_controller_from_its_start(self) -> None:
         self.lock().release()
@@ -86,7 +97,11 @@ class OnThePage(unittest.TestCase):
             self.assertEqual(page.look().life.life, Life.DOWN)
             StateLock(path).release()
             os.remove(path)
-            self.assertEqual((page.look().life.life, len(page.look().faults())), (Life.DOWN, 1), "a controller has run")
+            self.assertEqual(
+                (page.look().life.life, len(page.look().faults())),
+                (Life.DOWN, 1),
+                "a controller has run",
+            )
 
 
 class Killed(unittest.TestCase):
@@ -121,21 +136,42 @@ class Killed(unittest.TestCase):
         self.switch.book.answer("available 1 2")
         text = f"no controller runs the plan {self.plan.path}"
         status = self.bgctl("status")
-        self.assertEqual((status.status, status.printed[:7], status.told), (5, "steady:", f"bgctl: {text}\n"))
+        self.assertEqual(
+            (status.status, status.printed[:7], status.told), (5, "steady:", f"bgctl: {text}\n")
+        )
         self.assertEqual(json.loads(self.bgctl("status", "--json").printed)["controller"], "down")
         beside = operator(self.switch.port, "status", "--plan", self.plan.path)
         self.assertEqual((beside.status, beside.told), (5, f"operator: {text}\n"))
         for words in (("deploy", "web-v2", "3", "4"), ("pause",)):
             told = self.bgctl(*words)
-            self.assertEqual((told.status, f"bgctl: {text}; this takes effect once a controller runs the plan\n" in told.told), (0, True), told)
+            self.assertEqual(
+                (
+                    told.status,
+                    f"bgctl: {text}; this takes effect once a controller runs the plan\n"
+                    in told.told,
+                ),
+                (0, True),
+                told,
+            )
         waited = self.bgctl("deploy", "web-v2", "3", "4", "--wait", "--timeout", "1")
-        self.assertEqual((waited.status, waited.told.count(text), f"web-v2 by the plan yet; {text}" in waited.told), (2, 3, True), waited.told)
+        self.assertEqual(
+            (
+                waited.status,
+                waited.told.count(text),
+                f"web-v2 by the plan yet; {text}" in waited.told,
+            ),
+            (2, 3, True),
+            waited.told,
+        )
 
     def test_no_endpoint_comes_before_it(self) -> None:
         self.switch.book.answer("open web-v1 1 2")
         self.assertEqual(self.bgctl("status").status, 3)
         self.switch.book.answer("available 1 2")
-        self.assertEqual((self.bgctl("status").status, run("status", BG_CONTROL=str(self.switch.port)).status), (5, 0))
+        self.assertEqual(
+            (self.bgctl("status").status, run("status", BG_CONTROL=str(self.switch.port)).status),
+            (5, 0),
+        )
 
     def test_a_controller_that_is_stopped(self) -> None:
         controller = self.start()
@@ -160,7 +196,11 @@ class Killed(unittest.TestCase):
     def test_a_second_controller_is_refused_as_before(self) -> None:
         self.assertTrue(self.start().says("open web-v1"))
         second = self.start().wait()
-        self.assertEqual((second.status, "another controller runs this plan: process" in second.told), (1, True), second.told)
+        self.assertEqual(
+            (second.status, "another controller runs this plan: process" in second.told),
+            (1, True),
+            second.told,
+        )
 
 
 if __name__ == "__main__":

@@ -1,4 +1,5 @@
-"""crates.txt, the drawing of the crates in docs/ARCHITECTURE.md, and the first sentence of each crate tell the same."""
+"""crates.txt, the drawing of the crates in docs/ARCHITECTURE.md, and the first sentence of each
+crate tell the same."""
 import re
 import unittest
 
@@ -9,18 +10,26 @@ from tests.tool_runs import TOP
 CRATES = crates_in((TOP / "crates.txt").read_text(encoding="utf-8"))
 MEND = "run scripts/crate_map.py --write"
 MOST_LINES_DRAWN = 59
-SMALL = crates_in("bg_low: std\nbg_beside:\nbg_middle: bg_low std\nbg_top: bg_low bg_middle bg_beside\n")
+SMALL = crates_in(
+    "bg_low: std\nbg_beside:\nbg_middle: bg_low std\nbg_top: bg_low bg_middle bg_beside\n"
+)
 
 
 class Layers(unittest.TestCase):
     def test_a_small_repository(self) -> None:
-        self.assertEqual(layers_of(SMALL), {"bg_low": 0, "bg_beside": 0, "bg_middle": 1, "bg_top": 2})
+        self.assertEqual(
+            layers_of(SMALL), {"bg_low": 0, "bg_beside": 0, "bg_middle": 1, "bg_top": 2}
+        )
         self.assertEqual(nearest("bg_top", SMALL), ["bg_middle", "bg_beside"])
 
     def test_crates_txt_is_in_the_order_of_the_layers(self) -> None:
         layers = layers_of(CRATES)
         for before, after in zip(CRATES, list(CRATES)[1:]):
-            self.assertLessEqual(layers[before], layers[after], f"{after} stands lower than {before}, which is before it")
+            self.assertLessEqual(
+                layers[before],
+                layers[after],
+                f"{after} stands lower than {before}, which is before it",
+            )
 
 
 class Drawn(unittest.TestCase):

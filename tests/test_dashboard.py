@@ -1,4 +1,5 @@
-"""bin/dashboard before a fake switch, over HTTP: the page, its JSON and events, metrics, and orders that are refused."""
+"""bin/dashboard before a fake switch, over HTTP: the page, its JSON and events, metrics, and orders
+that are refused."""
 import json
 import os
 import pathlib
@@ -26,17 +27,22 @@ from tests.tool_runs import TOOLS, TOP, WAIT, comes
 PAGE = TOP / "lib" / "bg_switch_tools" / "dashboard" / "page"
 # Metrics by their names, each with the one that it had before; counters without `_total`.
 OLD_NAMES = {
-    "bg_switch_rollout_info": "rollout_info", "bg_switch_rollout_events": "rollout_events",
-    "bg_switch_replicas_desired": "rollout_info_replicas_desired", "bg_switch_replicas_available": "rollout_info_replicas_available",
-    "bg_switch_replicas_unavailable": "rollout_info_replicas_unavailable", "bg_switch_http_requests": "nginx_http_requests",
+    "bg_switch_rollout_info": "rollout_info",
+    "bg_switch_rollout_events": "rollout_events",
+    "bg_switch_replicas_desired": "rollout_info_replicas_desired",
+    "bg_switch_replicas_available": "rollout_info_replicas_available",
+    "bg_switch_replicas_unavailable": "rollout_info_replicas_unavailable",
+    "bg_switch_http_requests": "nginx_http_requests",
     "bg_switch_http_request_duration_seconds": "nginx_ingress_controller_request_duration_seconds",
-    "bg_switch_http_response_duration_seconds": "nginx_ingress_controller_response_duration_seconds"}
+    "bg_switch_http_response_duration_seconds": "nginx_ingress_controller_response_duration_seconds",
+}
 NO_COMMANDS = dict.fromkeys(("promote", "promote full", "abort", "retry"), False)
 HOSTILE = '/"><script>alert(1)</script><img src=x onerror=alert(2)>'
 
 
 class Dashboard(WithDashboard):
     """A fake switch that is paused at web-v2, a log, and a dashboard."""
+
     options: Sequence[str] = ()
 
     def setUp(self) -> None:
@@ -49,7 +55,15 @@ class Dashboard(WithDashboard):
         self.start([str(TOOLS / "dashboard")])
 
     def start(self, program: Sequence[str]) -> None:
-        words = [*program, str(self.switch.port), "--listen", str(self.port), "--log", str(self.log.path), *self.options]
+        words = [
+            *program,
+            str(self.switch.port),
+            "--listen",
+            str(self.port),
+            "--log",
+            str(self.log.path),
+            *self.options,
+        ]
         self.begin(words, "/api/state", "web-v1")
 
     def by_hand(self, *lines: str) -> None:
@@ -70,23 +84,40 @@ class Dashboard(WithDashboard):
         return found[1]
 
     def send_command(self, line: str = "promote", revision: int = 2, **changed: str) -> Answer:
-        """An order as the page sends it, but for the fields that are changed; an empty one is left out."""
-        headers = {"X_Token": self.token(), "Origin": f"http://127.0.0.1:{self.port}", "Content_Type": "application/json",
-                   **changed}
+        """An order as the page sends it, but for the fields that are changed; an empty one is left
+        out."""
+        headers = {
+            "X_Token": self.token(),
+            "Origin": f"http://127.0.0.1:{self.port}",
+            "Content_Type": "application/json",
+            **changed,
+        }
         kept = {name: value for name, value in headers.items() if value}
-        return self.get("/api/order", "POST", json.dumps({"order": line, "revision": revision}), **kept)
+        return self.get(
+            "/api/order", "POST", json.dumps({"order": line, "revision": revision}), **kept
+        )
 
 
 class Pages(Dashboard):
     def test_the_page_and_its_files(self) -> None:
         page = self.get("/")
-        self.assertEqual((page.status, "{{" in page.body, len(self.token()) >= 40), (200, False, True))
+        self.assertEqual(
+            (page.status, "{{" in page.body, len(self.token()) >= 40), (200, False, True)
+        )
         named = re.findall(r'(?:src|href)="([^"]+)"', page.body)
         self.assertIn("dashboard.js", named)
         for name in [*named, "charts.js", "parts.js", "frame.js"]:
             answer = self.get(f"/{name.removeprefix('/')}")
-            self.assertEqual((answer.status, answer.headers["X-Content-Type-Options"]), (200, "nosniff"), name)
-        for path in ("/nothing", "/../server.py", "/index.html", "/page/index.html", "/%2e%2e/server.py"):
+            self.assertEqual(
+                (answer.status, answer.headers["X-Content-Type-Options"]), (200, "nosniff"), name
+            )
+        for path in (
+            "/nothing",
+            "/../server.py",
+            "/index.html",
+            "/page/index.html",
+            "/%2e%2e/server.py",
+        ):
             self.assertEqual(self.get(path).status, 404, path)
 
     def test_each_answer_has_a_content_security_field(self) -> None:
@@ -98,23 +129,42 @@ class Pages(Dashboard):
     def test_the_page_names_no_other_address_and_puts_no_text_in_as_html(self) -> None:
         for path in PAGE.iterdir():
             text = path.read_text(encoding="utf-8")
-            addresses = [found for found in re.findall(r"https?://[^\s\"']+", text) if "www.w3.org/2000/svg" not in found]
+            addresses = [
+                found
+                for found in re.findall(r"https?://[^\s\"']+", text)
+                if "www.w3.org/2000/svg" not in found
+            ]
             self.assertEqual(addresses, [], path)
-            unsafe = r"innerHTML|outerHTML|insertAdjacentHTML|document\.write|eval\(| style=| on\w+="
+            unsafe = (
+                r"innerHTML|outerHTML|insertAdjacentHTML|document\.write|eval\(| style=| on\w+="
+            )
             self.assertEqual(re.findall(unsafe, text), [], path)
 
     def test_state(self) -> None:
         told = self.state()
         report = told["report"]
         assert isinstance(report, dict)
-        self.assertEqual((report["phase"], report["active"], told["waits_for"]),
-                         ("paused", {"number": 1, "name": "web-v1"}, "waits for: promote"))
-        self.assertEqual(told["orders"], {"promote": True, "promote full": True, "abort": True, "retry": False})
-        self.log.add([ANSWERED._replace(time=time.time(), revision=2, status=None, end="write_failed", target=HOSTILE)])
+        self.assertEqual(
+            (report["phase"], report["active"], told["waits_for"]),
+            ("paused", {"number": 1, "name": "web-v1"}, "waits for: promote"),
+        )
+        self.assertEqual(
+            told["orders"], {"promote": True, "promote full": True, "abort": True, "retry": False}
+        )
+        self.log.add(
+            [
+                ANSWERED._replace(
+                    time=time.time(), revision=2, status=None, end="write_failed", target=HOSTILE
+                )
+            ]
+        )
         self.assertTrue(comes(lambda: self.state()["failed"]))
         failed = self.state()["failed"]
         assert isinstance(failed, list)
-        self.assertEqual((failed[0]["target"], failed[0]["revision"], failed[0]["end"]), (HOSTILE, "web-v2", "write_failed"))
+        self.assertEqual(
+            (failed[0]["target"], failed[0]["revision"], failed[0]["end"]),
+            (HOSTILE, "web-v2", "write_failed"),
+        )
 
     def test_events(self) -> None:
         with self.events() as told:
@@ -129,7 +179,9 @@ class Pages(Dashboard):
                 happened, slots = update["happened"], update["slots"]
                 assert isinstance(happened, list) and isinstance(slots, list)
                 seen |= {each["text"] for each in happened}
-                counted += sum(cell["revision"] == "web-v2" for slot in slots for cell in slot["cells"])
+                counted += sum(
+                    cell["revision"] == "web-v2" for slot in slots for cell in slot["cells"]
+                )
                 if "active: revision 1 web-v1 -> revision 2 web-v2" in seen and counted:
                     break
         self.assertIn("phase: paused -> postAnalysis", seen)
@@ -143,7 +195,11 @@ class Pages(Dashboard):
             self.assertEqual((status, errors, is_within(seconds, 5) or seconds), (0, "", True))
 
     def test_malformed_requests_are_not_told(self) -> None:
-        for text in (b"GET /\x01 HTTP/1.1\r\nHost: localhost\r\n\r\n", b"\x16\x03\x01\r\n\r\n", b"GET / HTTP/1.1\r\nA\x00: b\r\n\r\n"):
+        for text in (
+            b"GET /\x01 HTTP/1.1\r\nHost: localhost\r\n\r\n",
+            b"\x16\x03\x01\r\n\r\n",
+            b"GET / HTTP/1.1\r\nA\x00: b\r\n\r\n",
+        ):
             with socket.create_connection(("127.0.0.1", self.port), timeout=WAIT) as client:
                 client.sendall(text)
                 self.assertRegex(client.recv(99), rb"^HTTP/1\.[01] 40[03] ")
@@ -173,11 +229,20 @@ class Streams(unittest.TestCase):
     def test_a_listener_that_reads_nothing_and_one_that_comes_after_an_order(self) -> None:
         if not HAS_LIBRARIES:
             self.skipTest(MISSING)
-        run = subprocess.run([PYTHON, "-B", "-m", "tests.streams_of_a_server", str(free_port())], cwd=TOP, capture_output=True,
-                             text=True, timeout=WAIT, check=False, env={**os.environ, "PYTHONPATH": "lib:scripts"})
-        expected = ("orders in the state and the update: 1, 0\nstreams 0, connections 0\n"
-                  "faults 3, said 2, traces 2: the dashboard could not look at the switch: KeyError: 'planted'; some requests may not "
-                  "be counted\n")
+        run = subprocess.run(
+            [PYTHON, "-B", "-m", "tests.streams_of_a_server", str(free_port())],
+            cwd=TOP,
+            capture_output=True,
+            text=True,
+            timeout=WAIT,
+            check=False,
+            env={**os.environ, "PYTHONPATH": "lib:scripts"},
+        )
+        expected = (
+            "orders in the state and the update: 1, 0\nstreams 0, connections 0\n"
+            "faults 3, said 2, traces 2: the dashboard could not look at the switch: KeyError: 'planted'; some requests may not "
+            "be counted\n"
+        )
         self.assertEqual((run.stdout, run.returncode), (expected, 0), run.stderr)
 
 
@@ -194,7 +259,10 @@ class Controllers(Dashboard):
         super().start(program)
 
     def write_plan(self, *ports: int) -> None:
-        told = {"control": self.switch.port, "revisions": [{"name": "web-v2", "ports": list(ports)}]}
+        told = {
+            "control": self.switch.port,
+            "revisions": [{"name": "web-v2", "ports": list(ports)}],
+        }
         pathlib.Path(self.plan).write_text(json.dumps(told), encoding="ascii")
 
     def controller(self) -> dict[str, object]:
@@ -210,18 +278,29 @@ class Controllers(Dashboard):
         self.assertEqual((self.controller()["life"], self.controller()["faults"]), ("up", []))
         os.utime(self.lock.path, (time.time() - 100, time.time() - 100))
         self.assertTrue(comes(lambda: "bg_controller_up 0.0" in self.get("/metrics").body))
-        self.assertEqual((self.controller()["life"], str(self.controller()["faults"]).count("hangs: its last round was 10")), ("hangs", 1))
+        self.assertEqual(
+            (
+                self.controller()["life"],
+                str(self.controller()["faults"]).count("hangs: its last round was 10"),
+            ),
+            ("hangs", 1),
+        )
         self.lock.release()
         text = f"No controller runs the plan {self.plan}."
         self.assertTrue(comes(lambda: self.controller()["faults"] == [text]))
-        self.assertEqual((self.controller()["life"], "bg_controller_up 0.0" in self.get("/metrics").body), ("down", True))
+        self.assertEqual(
+            (self.controller()["life"], "bg_controller_up 0.0" in self.get("/metrics").body),
+            ("down", True),
+        )
         self.lock = StateLock(self.plan)
         self.addCleanup(self.lock.release)
         self.assertTrue(comes(lambda: "bg_controller_up 1.0" in self.get("/metrics").body))
         told = self.state()["happened"]
         assert isinstance(told, list)
-        self.assertEqual([each["text"] for each in told if each["kind"] in ("controller", "answer")][-2:],
-                         [text, "the controller runs, and holds nothing back"])
+        self.assertEqual(
+            [each["text"] for each in told if each["kind"] in ("controller", "answer")][-2:],
+            [text, "the controller runs, and holds nothing back"],
+        )
 
     def test_whether_a_controller_runs_is_not_known(self) -> None:
         os.remove(self.lock.path)
@@ -231,22 +310,36 @@ class Controllers(Dashboard):
         self.assertNotIn("bg_controller_up", self.get("/metrics").body)
 
     def test_a_revision_that_is_held_back(self) -> None:
-        self.assertEqual((self.controller()["plan"], self.controller()["held_back"]), (self.plan, []))
+        self.assertEqual(
+            (self.controller()["plan"], self.controller()["held_back"]), (self.plan, [])
+        )
         self.assertIn("bg_controller_revisions_held_back 0.0", self.get("/metrics").body)
         self.write_plan(5, 6)
-        self.state_file.write(State(held=(HeldBack(PlannedRevision("web-v2", (5, 6)), "the switch refuses it"),)))
+        self.state_file.write(
+            State(held=(HeldBack(PlannedRevision("web-v2", (5, 6)), "the switch refuses it"),))
+        )
         self.assertTrue(comes(self.held_by_metric))
         told, text = self.state(), "The controller holds web-v2 back: the switch refuses it."
         assert isinstance(told["happened"], list)
-        self.assertEqual(self.controller()["held_back"], [{"name": "web-v2", "ports": [5, 6], "reason": "the switch refuses it"}])
+        self.assertEqual(
+            self.controller()["held_back"],
+            [{"name": "web-v2", "ports": [5, 6], "reason": "the switch refuses it"}],
+        )
         self.assertIn(text, str(self.controller()["faults"]))
-        self.assertEqual([each["text"] for each in told["happened"] if each["kind"] == "controller"].count(text), 1)
+        self.assertEqual(
+            [each["text"] for each in told["happened"] if each["kind"] == "controller"].count(text),
+            1,
+        )
         self.write_plan(3, 4)
         self.assertTrue(comes(lambda: not self.held_by_metric()))
         self.assertIn("the controller runs, and holds nothing back", self.get("/api/state").body)
 
     def test_a_plan_is_that_of_a_switch(self) -> None:
-        told = subprocess.run([str(TOOLS / "dashboard"), "--fleet", "x", "--listen", "1", "--plan", "y"], capture_output=True, text=True)
+        told = subprocess.run(
+            [str(TOOLS / "dashboard"), "--fleet", "x", "--listen", "1", "--plan", "y"],
+            capture_output=True,
+            text=True,
+        )
         self.assertEqual((told.returncode, "name its control port too" in told.stderr), (2, True))
 
 
@@ -257,40 +350,73 @@ class Metrics(Dashboard):
 
     def test_values(self) -> None:
         labels = '{revision="web-v2",service="active",status="5xx"}'
-        self.log.add([*self.now([Part(2, 20, 1.0)]), refused("no_preview")._replace(time=time.time())])
+        self.log.add(
+            [*self.now([Part(2, 20, 1.0)]), refused("no_preview")._replace(time=time.time())]
+        )
         self.assertTrue(comes(lambda: self.value(f"bg_switch_http_requests_total{labels}")))
         self.assertEqual(self.value(f"bg_switch_http_requests_total{labels}"), 20)
-        self.assertEqual(self.value('bg_switch_http_requests_total{revision="none",service="active",status="5xx"}'), 1)
+        self.assertEqual(
+            self.value(
+                'bg_switch_http_requests_total{revision="none",service="active",status="5xx"}'
+            ),
+            1,
+        )
         # these stood there before
-        self.assertEqual(self.value('bg_switch_http_requests_total{revision="web-v1",service="active",status="2xx"}'), 0)
+        self.assertEqual(
+            self.value(
+                'bg_switch_http_requests_total{revision="web-v1",service="active",status="2xx"}'
+            ),
+            0,
+        )
         self.assertEqual(self.value(f"bg_switch_http_request_duration_seconds_count{labels}"), 20)
-        for line, expected in (('bg_switch_phase{phase="paused"}', 1), ('bg_switch_phase{phase="steady"}', 0), ("bg_switch_up", 1),
-                             ('bg_switch_selected{revision="web-v2",service="preview"}', 1),
-                             ('bg_switch_open_requests{revision="web-v1"}', 0),
-                             ('bg_switch_rollout_info{phase="Paused",strategy="blueGreen"}', 1),
-                             ('bg_switch_replicas_desired{revision="web-v2"}', 2),
-                             ('bg_switch_replicas_available{revision="web-v2"}', 2),
-                             ('bg_switch_service_without_endpoint{service="active"}', 0), ("bg_switch_dashboard_faults_total", 0)):
+        for line, expected in (
+            ('bg_switch_phase{phase="paused"}', 1),
+            ('bg_switch_phase{phase="steady"}', 0),
+            ("bg_switch_up", 1),
+            ('bg_switch_selected{revision="web-v2",service="preview"}', 1),
+            ('bg_switch_open_requests{revision="web-v1"}', 0),
+            ('bg_switch_rollout_info{phase="Paused",strategy="blueGreen"}', 1),
+            ('bg_switch_replicas_desired{revision="web-v2"}', 2),
+            ('bg_switch_replicas_available{revision="web-v2"}', 2),
+            ('bg_switch_service_without_endpoint{service="active"}', 0),
+            ("bg_switch_dashboard_faults_total", 0),
+        ):
             self.assertEqual(self.value(line), expected, line)
         self.by_hand("promote")
-        self.assertTrue(comes(lambda: self.value('bg_switch_rollout_events_total{reason="SwitchService"}') == 1))
+        self.assertTrue(
+            comes(lambda: self.value('bg_switch_rollout_events_total{reason="SwitchService"}') == 1)
+        )
 
     def test_old_names_have_the_same_values(self) -> None:
         self.log.add(self.now([Part(2, 20, 0.5)]))
         self.by_hand("abort")
-        self.assertTrue(comes(lambda: "bg_switch_http_requests_total{" in self.get("/metrics").body))
+        self.assertTrue(
+            comes(lambda: "bg_switch_http_requests_total{" in self.get("/metrics").body)
+        )
         self.assertTrue(comes(lambda: "RolloutAborted" in self.get("/metrics").body))
-        lines = [line for line in self.get("/metrics").body.splitlines() if not line.startswith("#")]
+        lines = [
+            line for line in self.get("/metrics").body.splitlines() if not line.startswith("#")
+        ]
         for name, old in OLD_NAMES.items():
-            by_new = [line.removeprefix(name) for line in lines if re.match(rf"{name}(_total|_bucket|_sum|_count)?[{{ ]", line)]
-            by_old = [line.removeprefix(old) for line in lines if re.match(rf"{old}(_total|_bucket|_sum|_count)?[{{ ]", line)]
+            by_new = [
+                line.removeprefix(name)
+                for line in lines
+                if re.match(rf"{name}(_total|_bucket|_sum|_count)?[{{ ]", line)
+            ]
+            by_old = [
+                line.removeprefix(old)
+                for line in lines
+                if re.match(rf"{old}(_total|_bucket|_sum|_count)?[{{ ]", line)
+            ]
             self.assertEqual((by_new, len(by_new) > 0), (by_old, True), name)
         other = [line for line in lines if not line.startswith(("bg_switch_", *OLD_NAMES.values()))]
         self.assertEqual(other, [])
 
     def test_no_endpoint_is_up(self) -> None:
         self.by_hand("available 1 0")
-        self.assertTrue(comes(lambda: self.value('bg_switch_service_without_endpoint{service="active"}') == 1))
+        self.assertTrue(
+            comes(lambda: self.value('bg_switch_service_without_endpoint{service="active"}') == 1)
+        )
         self.assertEqual(self.value('bg_switch_service_without_endpoint{service="preview"}'), 0)
         self.log.add([refused("no_endpoint")._replace(time=time.time())] * 3)
         labels = '{revision="web-v1",service="active",status="5xx"}'
@@ -298,9 +424,13 @@ class Metrics(Dashboard):
         self.assertIn("No endpoint of web-v1 is up.", self.get("/api/state").body)
 
     def test_requests_that_were_sent_to_another_endpoint(self) -> None:
-        self.log.add([each._replace(port=9202, slot_port=9201, tries=3) for each in self.now([Part(2, 4)])])
+        self.log.add(
+            [each._replace(port=9202, slot_port=9201, tries=3) for each in self.now([Part(2, 4)])]
+        )
         labels = '{revision="web-v2",service="active",status="2xx"}'
-        self.assertTrue(comes(lambda: self.value(f"bg_switch_redispatched_requests_total{labels}") == 4))
+        self.assertTrue(
+            comes(lambda: self.value(f"bg_switch_redispatched_requests_total{labels}") == 4)
+        )
         self.assertEqual(self.value(f"bg_switch_connect_retries_total{labels}"), 8)
         recent = self.state()["recent"]
         assert isinstance(recent, dict)
@@ -311,37 +441,61 @@ class Metrics(Dashboard):
         if promtool is None:
             self.skipTest("promtool is not installed: apt-get install prometheus to run this test")
         self.log.add(self.now([Part(1, 20), Part(2, 20, 0.5)]))
-        self.assertTrue(comes(lambda: "bg_switch_http_requests_total{" in self.get("/metrics").body))
+        self.assertTrue(
+            comes(lambda: "bg_switch_http_requests_total{" in self.get("/metrics").body)
+        )
         self.by_hand("abort")
         self.assertTrue(comes(lambda: "RolloutAborted" in self.get("/metrics").body))
-        run = subprocess.run([promtool, "check", "metrics"], input=self.get("/metrics").body, capture_output=True, text=True,
-                             timeout=WAIT, check=False)
+        run = subprocess.run(
+            [promtool, "check", "metrics"],
+            input=self.get("/metrics").body,
+            capture_output=True,
+            text=True,
+            timeout=WAIT,
+            check=False,
+        )
         self.assertEqual((run.returncode, run.stdout, run.stderr), (0, "", ""))
 
 
 class Commanded(Dashboard):
     def check_refused(self, answer: Answer, status: int, why: str) -> None:
-        self.assertEqual((answer.status, why in str(answer.told()["fault"])), (status, True), answer)
+        self.assertEqual(
+            (answer.status, why in str(answer.told()["fault"])), (status, True), answer
+        )
         self.assertEqual(self.switch.sent_lines(), [])
 
     def test_an_order(self) -> None:
         answer = self.send_command()
-        self.assertEqual((answer.status, answer.told()),
-                         (200, {"line": "promote", "reply": "ok 1", "carried_out": True, "meaning": None}))
+        self.assertEqual(
+            (answer.status, answer.told()),
+            (200, {"line": "promote", "reply": "ok 1", "carried_out": True, "meaning": None}),
+        )
         again = self.send_command().told()
-        self.assertEqual((again["carried_out"], again["meaning"]), (False, "the rollout is not paused"))
+        self.assertEqual(
+            (again["carried_out"], again["meaning"]), (False, "the rollout is not paused")
+        )
         self.assertTrue(comes(lambda: "promote => ok 1" in self.get("/api/state").body))
         self.assertEqual(self.switch.sent_lines(), ["promote", "promote"])
 
     def test_what_is_refused(self) -> None:
         self.check_refused(self.send_command(X_Token=""), 403, "does not have the token")
         self.check_refused(self.send_command(X_Token="x" * 43), 403, "does not have the token")
-        self.check_refused(self.send_command(Origin="http://evil.example"), 403, "from another site")
-        self.check_refused(self.send_command(Origin="http://127.0.0.1:3000"), 403, "from another site")
+        self.check_refused(
+            self.send_command(Origin="http://evil.example"), 403, "from another site"
+        )
+        self.check_refused(
+            self.send_command(Origin="http://127.0.0.1:3000"), 403, "from another site"
+        )
         self.check_refused(self.send_command(Origin=""), 403, "from which site")
         self.check_refused(self.send_command(Origin="null"), 403, "from another site")
-        self.check_refused(self.send_command(Host="evil.example", Origin="http://evil.example"), 403, "by the name localhost")
-        self.check_refused(self.send_command(revision=1), 409, "the newest revision is revision 2 web-v2 by now")
+        self.check_refused(
+            self.send_command(Host="evil.example", Origin="http://evil.example"),
+            403,
+            "by the name localhost",
+        )
+        self.check_refused(
+            self.send_command(revision=1), 409, "the newest revision is revision 2 web-v2 by now"
+        )
         self.check_refused(self.send_command(line="quit"), 400, "one of promote")
         self.check_refused(self.send_command(line="promote" + " " * 5000), 413, "")
         self.check_refused(self.get("/api/order"), 405, "")
@@ -350,7 +504,11 @@ class Commanded(Dashboard):
     def test_nothing_is_read_by_another_name(self) -> None:
         for path in ("/", "/api/state", "/api/events", "/metrics", "/dashboard.js"):
             answer = self.get(path, Host=f"evil.example:{self.port}")
-            self.assertEqual((answer.status, self.token() in answer.body, "web-v1" in answer.body), (403, False, False), path)
+            self.assertEqual(
+                (answer.status, self.token() in answer.body, "web-v1" in answer.body),
+                (403, False, False),
+                path,
+            )
             self.assertEqual(self.get(path, Origin="http://evil.example").status, 403, path)
 
     def test_it_listens_on_loopback_alone(self) -> None:
@@ -358,8 +516,13 @@ class Commanded(Dashboard):
         for address in [each for each in own if not each.startswith("127.")]:
             with self.assertRaises(OSError):
                 socket.create_connection((address, self.port), timeout=2).close()
-        lines = [line.split() for line in pathlib.Path("/proc/net/tcp").read_text(encoding="ascii").splitlines()[1:]]
-        listening = [line[1] for line in lines if line[3] == "0A" and line[1].endswith(f":{self.port:04X}")]
+        lines = [
+            line.split()
+            for line in pathlib.Path("/proc/net/tcp").read_text(encoding="ascii").splitlines()[1:]
+        ]
+        listening = [
+            line[1] for line in lines if line[3] == "0A" and line[1].endswith(f":{self.port:04X}")
+        ]
         self.assertEqual(listening, [f"0100007F:{self.port:04X}"])
 
 
@@ -379,7 +542,10 @@ class Started(Dashboard):
     def test_a_port_that_is_taken(self) -> None:
         words = [str(TOOLS / "dashboard"), str(self.switch.port), "--listen", str(self.port)]
         run = subprocess.run(words, capture_output=True, text=True, timeout=WAIT, check=False)
-        self.assertEqual((run.returncode, run.stderr), (1, f"dashboard: port {self.port} cannot be used: Address already in use\n"))
+        self.assertEqual(
+            (run.returncode, run.stderr),
+            (1, f"dashboard: port {self.port} cannot be used: Address already in use\n"),
+        )
 
     def test_as_one_file(self) -> None:
         self.end()
@@ -392,11 +558,17 @@ class Started(Dashboard):
 class OldNames(unittest.TestCase):
     def test_the_pages_name_the_version_that_drops_them(self) -> None:
         """It is not released yet: with that version the old names and this test go."""
-        source = (TOP / "lib" / "bg_switch_tools" / "dashboard" / "metrics.py").read_text(encoding="utf-8")
+        source = (TOP / "lib" / "bg_switch_tools" / "dashboard" / "metrics.py").read_text(
+            encoding="utf-8"
+        )
         dropped = re.findall(r'^DROPPED_IN = "(.*)"', source, re.M)[0]
-        self.assertLess([int(part) for part in VERSION.split(".")], [int(part) for part in dropped.split(".")])
+        self.assertLess(
+            [int(part) for part in VERSION.split(".")], [int(part) for part in dropped.split(".")]
+        )
         for page in ("docs/DASHBOARD.md", "CHANGELOG.md"):
-            self.assertIn(f"version {dropped} drops them", (TOP / page).read_text(encoding="utf-8"), page)
+            self.assertIn(
+                f"version {dropped} drops them", (TOP / page).read_text(encoding="utf-8"), page
+            )
 
 
 class Libraries(unittest.TestCase):
@@ -408,11 +580,18 @@ class Libraries(unittest.TestCase):
         self.assertNotIn("Traceback", run.stderr)
 
     def test_the_other_tools_need_no_library(self) -> None:
-        code = ("import sys; sys.argv = ['x']; sys.path.insert(0, 'lib'); import __main__, runpy; "
-                "import bg_switch_tools.analysis.cli, bg_switch_tools.bgctl.cli, bg_switch_tools.controller.cli, "
-                "bg_switch_tools.dashboard.cli, bg_switch_tools.operator.cli; "
-                "sys.exit('aiohttp' in sys.modules or 'prometheus_client' in sys.modules)")
-        self.assertEqual(subprocess.run([sys.executable, "-B", "-c", code], cwd=TOP, timeout=WAIT, check=False).returncode, 0)
+        code = (
+            "import sys; sys.argv = ['x']; sys.path.insert(0, 'lib'); import __main__, runpy; "
+            "import bg_switch_tools.analysis.cli, bg_switch_tools.bgctl.cli, bg_switch_tools.controller.cli, "
+            "bg_switch_tools.dashboard.cli, bg_switch_tools.operator.cli; "
+            "sys.exit('aiohttp' in sys.modules or 'prometheus_client' in sys.modules)"
+        )
+        self.assertEqual(
+            subprocess.run(
+                [sys.executable, "-B", "-c", code], cwd=TOP, timeout=WAIT, check=False
+            ).returncode,
+            0,
+        )
 
 
 if __name__ == "__main__":

@@ -33,33 +33,62 @@ class Pipeline(unittest.TestCase):
 
     def begin(self, status: int) -> None:
         """Starts a controller, whose analysis ends with this status."""
-        self.plan.write([("web-v1", self.ports[:2])], analyses={"post": ["sh", "-c", f"exit {status}"]})
+        self.plan.write(
+            [("web-v1", self.ports[:2])], analyses={"post": ["sh", "-c", f"exit {status}"]}
+        )
         self.stack.enter_context(controlling(self.plan))
         self.assertTrue(comes(lambda: "available 1 2" in self.switch.lines))
 
     def release(self) -> "subprocess.CompletedProcess[str]":
-        words = [str(RELEASE), str(self.switch.port), self.plan.path, "web-v2", *map(str, self.ports[2:])]
+        words = [
+            str(RELEASE),
+            str(self.switch.port),
+            self.plan.path,
+            "web-v2",
+            *map(str, self.ports[2:]),
+        ]
         return subprocess.run(words, capture_output=True, text=True, timeout=WAIT, check=False)
 
     def test_it_is_short(self) -> None:
         self.assertLessEqual(len(RELEASE.read_text(encoding="ascii").splitlines()), MOST_LINES)
 
     def test_a_release(self) -> None:
-        """The revision stands in the plan, so the controller probes its endpoints, and keeps its name over a crash."""
+        """The revision stands in the plan, so the controller probes its endpoints, and keeps its
+        name over a crash."""
         self.begin(0)
         told = self.release()
         self.assertEqual(told.returncode, 0, told.stderr)
-        self.assertEqual(self.switch.sent_lines()[2:], [f"deploy web-v2 {self.ports[2]} {self.ports[3]}", "available 2 2", "promote",
-                                                    "verdict post successful"])
-        self.assertEqual([revision.name for revision in read_plan(pathlib.Path(self.plan.path).read_bytes()).revisions], ["web-v1", "web-v2"])
+        self.assertEqual(
+            self.switch.sent_lines()[2:],
+            [
+                f"deploy web-v2 {self.ports[2]} {self.ports[3]}",
+                "available 2 2",
+                "promote",
+                "verdict post successful",
+            ],
+        )
+        self.assertEqual(
+            [
+                revision.name
+                for revision in read_plan(pathlib.Path(self.plan.path).read_bytes()).revisions
+            ],
+            ["web-v1", "web-v2"],
+        )
         again = self.release()
-        self.assertEqual((again.returncode, "web-v2 is the last revision of" in again.stdout), (0, True), again.stderr)
+        self.assertEqual(
+            (again.returncode, "web-v2 is the last revision of" in again.stdout),
+            (0, True),
+            again.stderr,
+        )
 
     def test_one_that_fails(self) -> None:
         self.begin(1)
         told = self.release()
         self.assertEqual(told.returncode, 1)
-        self.assertIn("stable=web-v2 cannot hold unless a line is sent: the attempt of web-v2 was aborted", told.stderr)
+        self.assertIn(
+            "stable=web-v2 cannot hold unless a line is sent: the attempt of web-v2 was aborted",
+            told.stderr,
+        )
 
 
 class OneFile(unittest.TestCase):
@@ -67,25 +96,54 @@ class OneFile(unittest.TestCase):
         with tempfile.TemporaryDirectory() as folder:
             archive = os.path.join(folder, "tools.pyz")
             zipapp.create_archive(TOP / "lib", archive, "/usr/bin/env python3")
-            run = subprocess.run([archive, "operator", "1", "help"], cwd=folder, capture_output=True, text=True, timeout=WAIT, check=False)
+            run = subprocess.run(
+                [archive, "operator", "1", "help"],
+                cwd=folder,
+                capture_output=True,
+                text=True,
+                timeout=WAIT,
+                check=False,
+            )
             self.assertEqual((run.returncode, "deploy NAME" in run.stdout), (0, True), run.stderr)
             pathlib.Path(folder, "plan.json").write_text("{}", encoding="ascii")
-            run = subprocess.run([archive, "controller", "check", "plan.json"], cwd=folder, capture_output=True, text=True, timeout=WAIT,
-                                 check=False)
-            self.assertEqual((run.returncode, run.stdout), (1, "control: is missing\nrevisions: is missing\n"))
-            self.assertEqual(subprocess.run([archive], capture_output=True, check=False).returncode, 2)
+            run = subprocess.run(
+                [archive, "controller", "check", "plan.json"],
+                cwd=folder,
+                capture_output=True,
+                text=True,
+                timeout=WAIT,
+                check=False,
+            )
+            self.assertEqual(
+                (run.returncode, run.stdout), (1, "control: is missing\nrevisions: is missing\n")
+            )
+            self.assertEqual(
+                subprocess.run([archive], capture_output=True, check=False).returncode, 2
+            )
 
 
 class Example(unittest.TestCase):
     def test_the_plan_of_the_example(self) -> None:
-        self.assertEqual(len(read_plan((TOP / "examples" / "controller" / "plan.json").read_bytes()).revisions), 2)
+        self.assertEqual(
+            len(read_plan((TOP / "examples" / "controller" / "plan.json").read_bytes()).revisions),
+            2,
+        )
 
     def test_the_plan_of_the_controllers_help(self) -> None:
-        told = subprocess.run([str(TOP / "bin" / "controller"), "-h"], capture_output=True, text=True, timeout=WAIT, check=False).stdout
+        told = subprocess.run(
+            [str(TOP / "bin" / "controller"), "-h"],
+            capture_output=True,
+            text=True,
+            timeout=WAIT,
+            check=False,
+        ).stdout
         block = told.split("\nA plan:\n")[1].split("\nWhat ")[0]
         column = block.index("the control port")
         *described, last = block.split("\n")
-        self.assertEqual(read_plan("\n".join([*(line[:column] for line in described), last]).encode()).control, 8082)
+        self.assertEqual(
+            read_plan("\n".join([*(line[:column] for line in described), last]).encode()).control,
+            8082,
+        )
 
 
 if __name__ == "__main__":

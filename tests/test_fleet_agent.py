@@ -12,8 +12,19 @@ from bg_switch_tools.fleet.fleet_plan import MachineSettings
 from bg_switch_tools.fleet.machine import FRESH, RETRY, Machine
 from bg_switch_tools.fleet.machine_state import MachineState
 from bg_switch_tools.fleet.next_line import Joined
-from bg_switch_tools.fleet.record import (ABORTED, DEPLOYING, FAILED, PROMOTING, READY, SUCCESSFUL, WORKING, MachineReport, Record,
-                                          View, read_machine_report)
+from bg_switch_tools.fleet.record import (
+    ABORTED,
+    DEPLOYING,
+    FAILED,
+    PROMOTING,
+    READY,
+    SUCCESSFUL,
+    WORKING,
+    MachineReport,
+    Record,
+    View,
+    read_machine_report,
+)
 from bg_switch_tools.fleet.store import Compare, Snapshot, StoreFault
 from bg_switch_tools.switch.reports import Report
 from tests.memory_store import Keys, MemoryStore
@@ -25,7 +36,13 @@ PAUSED = report("paused", "web-v1", "web-v2")
 
 
 def plan_text(**members: object) -> str:
-    return json.dumps({"revisions": [{"name": one.name, "ports": list(one.ports)} for one in (V1, V2)], "analyses": {"post": "errors"}, **members})
+    return json.dumps(
+        {
+            "revisions": [{"name": one.name, "ports": list(one.ports)} for one in (V1, V2)],
+            "analyses": {"post": "errors"},
+            **members,
+        }
+    )
 
 
 class SlowStore(MemoryStore):
@@ -41,7 +58,8 @@ class SlowStore(MemoryStore):
 
 
 class FleetCase(unittest.TestCase):
-    """A store with a plan and a record that runs, and the machine a, on a clock that a test sets."""
+    """A store with a plan and a record that runs, and the machine a, on a clock that a test
+    sets."""
 
     def setUp(self) -> None:
         self.time = 100.0
@@ -65,12 +83,19 @@ class FleetCase(unittest.TestCase):
 
     def new_agent(self, machine: str = "m1", settings: MachineSettings = SETTINGS) -> FleetAgent:
         made = Machine("a", machine, settings, self.keep, self.kept)
-        return FleetAgent(made, MemoryStore(self.keys, f"a on {machine}"), lambda _, text: self.said.append(text), lambda: self.time)
+        return FleetAgent(
+            made,
+            MemoryStore(self.keys, f"a on {machine}"),
+            lambda _, text: self.said.append(text),
+            lambda: self.time,
+        )
 
     def join(self, agent: FleetAgent) -> None:
         """The switch has carried out the deploy of the record's revision."""
         agent.read()
-        agent.machine.take_reply("deploy web-v2 9201", True, "ok 0", report("steady", "web-v1", "web-v1"), self.time)
+        agent.machine.take_reply(
+            "deploy web-v2 9201", True, "ok 0", report("steady", "web-v1", "web-v1"), self.time
+        )
 
     def told(self) -> MachineReport:
         return read_machine_report(self.keys.keys["machines/a"].value)
@@ -117,7 +142,9 @@ class Freshness(FleetCase):
         self.time += 60
         self.agent.read()
         self.assertEqual(self.line(report("postAnalysis", "web-v1", "web-v2")), "abort")
-        self.assertIsNone(self.line(report("paused", "web-v1", "web-v3")))  # a person's, who may have no other way
+        self.assertIsNone(
+            self.line(report("paused", "web-v1", "web-v3"))
+        )  # a person's, who may have no other way
 
     def test_the_store_is_told_once(self) -> None:
         self.agent.read()
@@ -127,9 +154,14 @@ class Freshness(FleetCase):
             self.agent.read()
         self.cut(self.agent, False)
         self.agent.read()
-        self.assertEqual(self.said, ["the store gives no answer, so nothing is switched here: it is away",
-                                     "the lease of the machine had ended: the fleet has taken it as away",
-                                     "the store answers again, after 10 seconds"])
+        self.assertEqual(
+            self.said,
+            [
+                "the store gives no answer, so nothing is switched here: it is away",
+                "the lease of the machine had ended: the fleet has taken it as away",
+                "the store answers again, after 10 seconds",
+            ],
+        )
 
 
 class Kept(FleetCase):
@@ -152,14 +184,26 @@ class Kept(FleetCase):
         self.join(self.agent)
         self.agent.machine.lose_book()
         self.assertEqual(self.kept.joined, Joined())
-        self.assertEqual(self.agent.machine.next_line(report("steady", "web-v1", "web-v1"), self.time), "deploy web-v2 9201")
+        self.assertEqual(
+            self.agent.machine.next_line(report("steady", "web-v1", "web-v1"), self.time),
+            "deploy web-v2 9201",
+        )
 
     def test_a_refused_line_joins_nothing(self) -> None:
         self.agent.read()
-        self.agent.machine.take_reply("deploy web-v2 9201", False, "refused PortsDiffer", report("steady", "web-v1", "web-v1"), self.time)
+        self.agent.machine.take_reply(
+            "deploy web-v2 9201",
+            False,
+            "refused PortsDiffer",
+            report("steady", "web-v1", "web-v1"),
+            self.time,
+        )
         self.assertEqual(self.kept.joined, Joined())
         self.agent.tell(report("steady", "web-v1", "web-v1"))
-        self.assertEqual((self.told().state, self.told().reason), (WORKING, "deploy web-v2 9201: refused PortsDiffer"))
+        self.assertEqual(
+            (self.told().state, self.told().reason),
+            (WORKING, "deploy web-v2 9201: refused PortsDiffer"),
+        )
 
     def test_what_has_passed_is_kept_for_its_phase(self) -> None:
         self.join(self.agent)
@@ -195,7 +239,10 @@ class Kept(FleetCase):
         self.person.write([], {"plan": "{"})
         self.put(ABORTED)
         self.agent.read()
-        self.assertEqual((self.agent.machine.plan(), self.kept.record), (before, Record(self.plan_id, V2, V1, ABORTED)))
+        self.assertEqual(
+            (self.agent.machine.plan(), self.kept.record),
+            (before, Record(self.plan_id, V2, V1, ABORTED)),
+        )
         self.assertIn("the plan is wrong, so the one before is used", self.said[-1])
 
     def test_a_record_of_another_version_is_not_acted_on(self) -> None:
@@ -214,13 +261,22 @@ class KnowsNothing(FleetCase):
 
     def check(self, machine: Machine) -> None:
         machine.take_report(PAUSED, self.time)
-        self.assertEqual((machine.plan(), machine.fleet_plan, machine.record, machine.to_open()), (None, None, None, None))
-        self.assertEqual((machine.next_line(PAUSED, self.time), machine.coming(PAUSED, self.time)), (None, None))
-        self.assertEqual(machine.why_not_judged(PAUSED, self.time), "the record of the fleet is not known yet")
+        self.assertEqual(
+            (machine.plan(), machine.fleet_plan, machine.record, machine.to_open()),
+            (None, None, None, None),
+        )
+        self.assertEqual(
+            (machine.next_line(PAUSED, self.time), machine.coming(PAUSED, self.time)), (None, None)
+        )
+        self.assertEqual(
+            machine.why_not_judged(PAUSED, self.time), "the record of the fleet is not known yet"
+        )
         machine.take_reply("retry", True, "ok 0", PAUSED, self.time)
         self.assertEqual((machine.joined, self.kept), (Joined(), MachineState()))
         told = machine.report(PAUSED, self.time)
-        self.assertEqual((told.attempt, told.state, told.phase, told.stable), (0, WORKING, "paused", "web-v1"))
+        self.assertEqual(
+            (told.attempt, told.state, told.phase, told.stable), (0, WORKING, "paused", "web-v1")
+        )
 
     def test_without_a_read(self) -> None:
         self.check(self.machine())
@@ -237,7 +293,10 @@ class KnowsNothing(FleetCase):
         machine = self.machine()
         machine.take_read(self.person.read(), self.time)
         plan = machine.plan()
-        self.assertEqual((plan and plan.last, plan and plan.control, machine.to_open(), machine.fault), (V2, 8082, V1, ""))
+        self.assertEqual(
+            (plan and plan.last, plan and plan.control, machine.to_open(), machine.fault),
+            (V2, 8082, V1, ""),
+        )
         self.assertEqual(machine.coming(report("steady", "web-v1", "web-v1"), self.time), V2)
         self.assertIsNone(machine.coming(PAUSED, self.time))
         self.put(SUCCESSFUL)
@@ -245,7 +304,14 @@ class KnowsNothing(FleetCase):
         self.assertEqual(machine.coming(report("steady", "web-v1", "web-v1"), self.time), V2)
 
     def test_what_comes_is_the_stable_revision_while_the_machine_is_behind(self) -> None:
-        self.person.write([], {"attempt": Record(self.plan_id, PlannedRevision("web-v3", (9301,)), V2, DEPLOYING).text()})
+        self.person.write(
+            [],
+            {
+                "attempt": Record(
+                    self.plan_id, PlannedRevision("web-v3", (9301,)), V2, DEPLOYING
+                ).text()
+            },
+        )
         machine = self.machine()
         machine.take_read(self.person.read(), self.time)
         self.assertEqual(machine.coming(report("steady", "web-v1", "web-v1"), self.time), V2)
@@ -254,7 +320,9 @@ class KnowsNothing(FleetCase):
 class Judging(FleetCase):
     def test_an_attempt_that_is_not_of_the_fleet_is_not_judged(self) -> None:
         self.agent.read()
-        self.assertEqual(self.agent.machine.why_not_judged(PAUSED, self.time), "its attempt is not of the fleet")
+        self.assertEqual(
+            self.agent.machine.why_not_judged(PAUSED, self.time), "its attempt is not of the fleet"
+        )
         self.join(self.agent)
         self.assertEqual(self.agent.machine.why_not_judged(PAUSED, self.time), "")
 
@@ -270,7 +338,9 @@ class Judging(FleetCase):
         machine, steady = self.agent.machine, report("steady", "web-v1", "web-v1")
         machine.take_reply("deploy web-v2 9201", False, "refused PortsDiffer", steady, self.time)
         self.agent.read()
-        self.assertEqual(machine.report(steady, self.time).reason, "deploy web-v2 9201: refused PortsDiffer")
+        self.assertEqual(
+            machine.report(steady, self.time).reason, "deploy web-v2 9201: refused PortsDiffer"
+        )
         self.put(ABORTED)
         self.agent.read()
         self.assertEqual(machine.report(steady, self.time).reason, "")
@@ -278,7 +348,11 @@ class Judging(FleetCase):
     def test_only_what_has_failed_while_it_catches_up_begins_again(self) -> None:
         self.join(self.agent)
         machine = self.agent.machine
-        for stage, phase, is_failed in ((PROMOTING, "aborted", False), (SUCCESSFUL, "scaling", False), (SUCCESSFUL, "aborted", True)):
+        for stage, phase, is_failed in (
+            (PROMOTING, "aborted", False),
+            (SUCCESSFUL, "scaling", False),
+            (SUCCESSFUL, "aborted", True),
+        ):
             self.put(stage)
             self.agent.read()
             machine.take_report(report(phase, "web-v1", "web-v2"), self.time)
@@ -306,7 +380,12 @@ class Telling(FleetCase):
     def test_what_has_changed_is_told(self) -> None:
         self.join(self.agent)
         self.agent.tell(PAUSED)
-        self.assertEqual(self.told(), MachineReport("m1", self.plan_id, READY, "", "paused", "web-v1", "web-v2", "web-v1", "web-v2", 1))
+        self.assertEqual(
+            self.told(),
+            MachineReport(
+                "m1", self.plan_id, READY, "", "paused", "web-v1", "web-v2", "web-v1", "web-v2", 1
+            ),
+        )
         revision = self.keys.revision
         self.agent.read()
         self.agent.tell(PAUSED)
@@ -315,7 +394,10 @@ class Telling(FleetCase):
     def test_a_switch_that_gives_no_report(self) -> None:
         self.agent.read()
         self.agent.tell(None)
-        self.assertEqual((self.told().attempt, self.told().state, self.told().reason), (0, WORKING, "the switch gives no report"))
+        self.assertEqual(
+            (self.told().attempt, self.told().state, self.told().reason),
+            (0, WORKING, "the switch gives no report"),
+        )
 
     def test_the_report_is_gone_with_the_lease(self) -> None:
         self.agent.read()
@@ -326,7 +408,9 @@ class Telling(FleetCase):
         self.agent.read()
         self.agent.tell(None)
         self.assertIn("machines/a", self.keys.keys)
-        self.assertEqual(self.said, ["the lease of the machine had ended: the fleet has taken it as away"])
+        self.assertEqual(
+            self.said, ["the lease of the machine had ended: the fleet has taken it as away"]
+        )
 
     def test_each_round_keeps_the_lease(self) -> None:
         for _ in range(30):
@@ -340,13 +424,26 @@ class Telling(FleetCase):
         self.agent = self.new_agent(settings=MachineSettings(8082))
         self.join(self.agent)
         self.agent.tell(PAUSED)
-        self.assertEqual((self.told().state, self.told().reason), (FAILED, "this machine has no command for the analysis errors"))
+        self.assertEqual(
+            (self.told().state, self.told().reason),
+            (FAILED, "this machine has no command for the analysis errors"),
+        )
 
     def test_a_machine_that_catches_up_reports_for_no_attempt(self) -> None:
-        self.person.write([], {"attempt": Record(self.plan_id, PlannedRevision("web-v3", (9301,)), V2, DEPLOYING).text()})
+        self.person.write(
+            [],
+            {
+                "attempt": Record(
+                    self.plan_id, PlannedRevision("web-v3", (9301,)), V2, DEPLOYING
+                ).text()
+            },
+        )
         self.join(self.agent)
         self.agent.tell(PAUSED)
-        self.assertEqual((self.told().attempt, self.told().state, self.told().reason), (0, WORKING, "catches up with web-v2"))
+        self.assertEqual(
+            (self.told().attempt, self.told().state, self.told().reason),
+            (0, WORKING, "catches up with web-v2"),
+        )
 
     def test_nothing_is_told_without_a_read(self) -> None:
         self.agent.tell(None)
@@ -358,12 +455,16 @@ class Telling(FleetCase):
         self.agent.read()
         self.cut(self.agent)
         self.agent.tell(None)
-        self.assertEqual(self.said, ["the store does not take the report of this machine: it is away"])
+        self.assertEqual(
+            self.said, ["the store does not take the report of this machine: it is away"]
+        )
         self.cut(self.agent, False)
         for _ in range(2):
             self.agent.read()
             self.agent.tell(None)
-        self.assertEqual(self.said[1:], ["the store takes the report of this machine again, after 0 seconds"])
+        self.assertEqual(
+            self.said[1:], ["the store takes the report of this machine again, after 0 seconds"]
+        )
 
     def test_a_store_that_takes_no_write_is_told_each_minute(self) -> None:
         """As an etcd that is full: it is read, and each write is refused."""
@@ -372,8 +473,13 @@ class Telling(FleetCase):
                 self.agent.read()
                 self.agent.tell(None)
                 self.time += 0.3
-        self.assertEqual(self.said, ["the store does not take the report of this machine: etcd is full",
-                                     "the store does not take the report of this machine, for 60 seconds now: etcd is full"])
+        self.assertEqual(
+            self.said,
+            [
+                "the store does not take the report of this machine: etcd is full",
+                "the store does not take the report of this machine, for 60 seconds now: etcd is full",
+            ],
+        )
 
     def test_the_lease_is_refreshed_in_each_quarter_of_its_time(self) -> None:
         refreshed: list[float] = []
@@ -382,6 +488,7 @@ class Telling(FleetCase):
         def note(lease: int) -> int:
             refreshed.append(self.time)
             return refresh(lease)
+
         with mock.patch.object(self.agent.store, "refresh", note):
             for _ in range(11):
                 self.agent.read()
@@ -404,7 +511,9 @@ class TwoOfOneHost(FleetCase):
         second.tell(PAUSED)
         self.assertEqual(self.told().machine, "m1")
         self.assertIsNone(second.machine.next_line(PAUSED, self.time))
-        self.assertEqual(self.said, ["another machine reports as a: machines/a is of the machine m1"])
+        self.assertEqual(
+            self.said, ["another machine reports as a: machines/a is of the machine m1"]
+        )
 
     def test_it_may_once_the_first_one_is_gone(self) -> None:
         self.join(self.agent)
@@ -421,17 +530,25 @@ class TwoOfOneHost(FleetCase):
         again = self.new_agent()
         again.read()
         again.tell(PAUSED)
-        self.assertEqual((self.told().machine, self.keys.keys["machines/a"].lease), ("m1", again.lease.number))
+        self.assertEqual(
+            (self.told().machine, self.keys.keys["machines/a"].lease), ("m1", again.lease.number)
+        )
 
 
 class Leading(FleetCase):
     def setUp(self) -> None:
         super().setUp()
-        self.person.write([], {"members/a": "", "machines/a": MachineReport("m1", self.plan_id, "passed").text()})
+        self.person.write(
+            [], {"members/a": "", "machines/a": MachineReport("m1", self.plan_id, "passed").text()}
+        )
 
     def candidate(self, host: str) -> Candidate:
-        return Candidate(host, MemoryStore(self.keys, host), lambda _, text: self.said.append(text),
-                         Clocks(lambda: self.time, lambda: 5.0))
+        return Candidate(
+            host,
+            MemoryStore(self.keys, host),
+            lambda _, text: self.said.append(text),
+            Clocks(lambda: self.time, lambda: 5.0),
+        )
 
     def record(self) -> Record:
         record = View(self.person.read()).record
@@ -440,10 +557,17 @@ class Leading(FleetCase):
 
     def test_the_first_one_leads_and_decides(self) -> None:
         first, second = self.candidate("a"), self.candidate("b")
-        self.assertEqual((first.do_round(), second.do_round(), first.do_round(), first.do_round()), (True, False, True, False))
-        self.assertEqual((self.keys.keys["leader"].value, first.leads, second.leads), ("a", True, False))
+        self.assertEqual(
+            (first.do_round(), second.do_round(), first.do_round(), first.do_round()),
+            (True, False, True, False),
+        )
+        self.assertEqual(
+            (self.keys.keys["leader"].value, first.leads, second.leads), ("a", True, False)
+        )
         created = self.keys.keys["leader"].created
-        self.assertEqual(self.record(), Record(self.plan_id, V2, V1, SUCCESSFUL, by=created, time=5))
+        self.assertEqual(
+            self.record(), Record(self.plan_id, V2, V1, SUCCESSFUL, by=created, time=5)
+        )
         self.assertEqual(self.said, ["a leads", f"attempt {self.plan_id} of web-v2: successful"])
 
     def test_another_one_leads_once_the_lease_has_ended(self) -> None:
@@ -476,8 +600,12 @@ class Leading(FleetCase):
         self.assertTrue(again.do_round())
 
     def test_what_has_changed_since_the_read_stops_the_write(self) -> None:
-        for name, value in (("plan", plan_text()), ("attempt", Record(self.plan_id, V2, V1, PROMOTING, "x").text()), ("members/b", ""),
-                            ("machines/a", MachineReport("m1", self.plan_id, FAILED).text())):
+        for name, value in (
+            ("plan", plan_text()),
+            ("attempt", Record(self.plan_id, V2, V1, PROMOTING, "x").text()),
+            ("members/b", ""),
+            ("machines/a", MachineReport("m1", self.plan_id, FAILED).text()),
+        ):
             with self.subTest(name):
                 self.setUp()
                 first = self.candidate("a")
@@ -505,7 +633,9 @@ class Leading(FleetCase):
         assert pending is not None and isinstance(first.store, MemoryStore)
         first.store.is_cut = True
         self.assertFalse(first.send(pending))
-        self.assertEqual(self.said[-1], "the store does not take what the candidate writes: it is away")
+        self.assertEqual(
+            self.said[-1], "the store does not take what the candidate writes: it is away"
+        )
         self.assertFalse(first.do_round())
         first.store.is_cut = False
         first.do_round()
@@ -521,7 +651,9 @@ class Leading(FleetCase):
                 self.assertFalse(first.do_round())
         self.assertEqual(sum("etcd is full" in text for text in self.said), 1)
         self.assertTrue(first.do_round())
-        self.assertEqual(sum("takes what the candidate writes, after" in text for text in self.said), 1)
+        self.assertEqual(
+            sum("takes what the candidate writes, after" in text for text in self.said), 1
+        )
 
     def test_what_was_not_written_is_told(self) -> None:
         first = self.candidate("a")
@@ -530,9 +662,14 @@ class Leading(FleetCase):
         assert pending is not None
         self.put(ABORTED)
         first.send(pending)
-        self.assertEqual(self.said[-1], f"not written, since something has changed: attempt {self.plan_id} of web-v2: successful")
+        self.assertEqual(
+            self.said[-1],
+            f"not written, since something has changed: attempt {self.plan_id} of web-v2: successful",
+        )
         self.put(PROMOTING)
-        self.person.write([], {"machines/a": MachineReport("m1", self.plan_id, FAILED, "why").text()})
+        self.person.write(
+            [], {"machines/a": MachineReport("m1", self.plan_id, FAILED, "why").text()}
+        )
         first.do_round()
         self.assertEqual(self.said[-1], f"attempt {self.plan_id} of web-v2: aborted, a: why")
 
@@ -557,7 +694,9 @@ class Leading(FleetCase):
     def test_a_new_leader_waits_anew(self) -> None:
         self.person.write([], {"plan": plan_text(fleet={"seconds": 5})})
         self.put(DEPLOYING, self.keys.revision)
-        self.person.write([], {"machines/a": MachineReport("m1", self.keys.keys["plan"].changed, READY).text()})
+        self.person.write(
+            [], {"machines/a": MachineReport("m1", self.keys.keys["plan"].changed, READY).text()}
+        )
         first = self.candidate("a")
         first.do_round()
         self.assertIsNone(first.look())
@@ -578,11 +717,15 @@ class Leading(FleetCase):
             self.assertEqual((first.do_round(), first.do_round()), (False, False))
             self.person.write([], {"plan": plan_text()})
             first.do_round()
-        self.assertEqual(len([text for text in self.said if "nothing is decided: the plan is wrong" in text]), 2)
+        self.assertEqual(
+            len([text for text in self.said if "nothing is decided: the plan is wrong" in text]), 2
+        )
         self.said.clear()
         self.person.write([], {"plan": "{"})
         self.assertEqual((first.do_round(), first.do_round()), (False, False))
-        self.assertEqual(len([text for text in self.said if "nothing is decided: the plan is wrong" in text]), 1)
+        self.assertEqual(
+            len([text for text in self.said if "nothing is decided: the plan is wrong" in text]), 1
+        )
 
 
 class InMemory(unittest.TestCase):
@@ -597,15 +740,24 @@ class InMemory(unittest.TestCase):
         self.assertEqual(self.store.write([], {"a": "1", "m/b": "2"}), 2)
         self.assertEqual(self.store.write([], {"a": "3"}), 3)
         snapshot = self.store.read()
-        self.assertEqual((snapshot.revision, snapshot.keys["a"][:3], snapshot.keys["m/b"][:3]), (3, ("3", 2, 3), ("2", 2, 2)))
+        self.assertEqual(
+            (snapshot.revision, snapshot.keys["a"][:3], snapshot.keys["m/b"][:3]),
+            (3, ("3", 2, 3), ("2", 2, 2)),
+        )
         self.assertEqual(self.store.write([], {}, ["a"]), 4)
         self.assertEqual(self.store.write([], {"a": "4"}), 5)
         self.assertEqual(self.store.read().keys["a"].created, 5)
 
     def test_compares(self) -> None:
         self.store.write([], {"a": "1", "m/b": "2"})
-        for compare, holds in ((Compare("a", "changed", 2), True), (Compare("a", "changed", 0), False), (Compare("c", "created", 0), True),
-                               (Compare("m/", "changed", 2), True), (Compare("m/", "changed", 1), False), (Compare("n/", "changed", 0), True)):
+        for compare, holds in (
+            (Compare("a", "changed", 2), True),
+            (Compare("a", "changed", 0), False),
+            (Compare("c", "created", 0), True),
+            (Compare("m/", "changed", 2), True),
+            (Compare("m/", "changed", 1), False),
+            (Compare("n/", "changed", 0), True),
+        ):
             self.assertEqual(self.keys.holds(compare), holds, compare)
         revision = self.keys.revision
         self.assertIsNone(self.store.write([Compare("a", "changed", 1)], {"a": "9"}))
@@ -634,7 +786,10 @@ class Unchanged(FleetCase):
         self.agent.read()
         self.agent.read()
         self.assertEqual(len(kept), 1)
-        self.assertEqual(dataclasses.replace(kept[0], plan=""), MachineState("c1", "", Record(self.plan_id, V2, V1, PROMOTING)))
+        self.assertEqual(
+            dataclasses.replace(kept[0], plan=""),
+            MachineState("c1", "", Record(self.plan_id, V2, V1, PROMOTING)),
+        )
 
 
 if __name__ == "__main__":

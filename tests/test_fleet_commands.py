@@ -1,4 +1,5 @@
-"""bin/fleet as a whole: its words, its exit statuses, what docs/FLEET.md says of both, and a session over a real etcd."""
+"""bin/fleet as a whole: its words, its exit statuses, what docs/FLEET.md says of both, and a
+session over a real etcd."""
 import json
 import pathlib
 import re
@@ -13,7 +14,18 @@ from bg_switch_tools.fleet.candidate import Candidate
 from bg_switch_tools.fleet.exit_statuses import TABLE
 from bg_switch_tools.fleet.fleet_file import FleetFile
 from bg_switch_tools.fleet.person_members import MOST_MEMBERS
-from bg_switch_tools.fleet.record import ABORT, ATTEMPT, LEADER, MACHINES, ORDER, PLAN, PROMOTE, MachineReport, Record, View
+from bg_switch_tools.fleet.record import (
+    ABORT,
+    ATTEMPT,
+    LEADER,
+    MACHINES,
+    ORDER,
+    PLAN,
+    PROMOTE,
+    MachineReport,
+    Record,
+    View,
+)
 from bg_switch_tools.fleet.store import StoreFault
 from support.processes import Run, run_to_end
 from tests.fleet_people import HOSTS, V1, V2, WithFleet, plan_text
@@ -50,7 +62,11 @@ class Page(WithFleet):
         self.report("follows", "web-9")
         self.put_order(ABORT)
         told = json.loads(self.fleet("status", "--json").printed)
-        parts = {"": told, **{f"{key}.": told[key] for key in ("attempt", "plan", "order")}, "members[].": told["members"][0]}
+        parts = {
+            "": told,
+            **{f"{key}.": told[key] for key in ("attempt", "plan", "order")},
+            "members[].": told["members"][0],
+        }
         for prefix, members in parts.items():
             for key in members:
                 self.assertIn(f"`{prefix}{key}`", section("Commands"))
@@ -58,30 +74,65 @@ class Page(WithFleet):
 
 class Words(WithFleet):
     def test_what_is_wrong(self) -> None:
-        for words, told in ((("jump",), "argument COMMAND: invalid choice: 'jump' (choose from 'agent', 'status', 'watch', 'check', 'plan', "
-                                       "'promote', 'abort', 'retry', 'undo', 'members', 'wait')"),
-                            ((), "the following arguments are required: COMMAND"), (("plan",), "the following arguments are required: PLAN"),
-                            (("promote", "--attempt", "x"), "argument --attempt: the id of an attempt is expected, as `status` shows it, and not 'x'"),
-                            (("undo", "--to", "W"), "argument --to: 'W' is not a name: a name is 1 to 63 lower-case letters, digits and "
-                                                    "hyphens, with no hyphen at its ends"),
-                            (("status", "--jso"), "unrecognized arguments: --jso"),
-                            (("agent", "--round", "3"), "argument --round: a number of seconds from 0.05 to 0.9 is expected, and not '3'")):
+        for words, told in (
+            (
+                ("jump",),
+                "argument COMMAND: invalid choice: 'jump' (choose from 'agent', 'status', 'watch', 'check', 'plan', "
+                "'promote', 'abort', 'retry', 'undo', 'members', 'wait')",
+            ),
+            ((), "the following arguments are required: COMMAND"),
+            (("plan",), "the following arguments are required: PLAN"),
+            (
+                ("promote", "--attempt", "x"),
+                "argument --attempt: the id of an attempt is expected, as `status` shows it, and not 'x'",
+            ),
+            (
+                ("undo", "--to", "W"),
+                "argument --to: 'W' is not a name: a name is 1 to 63 lower-case letters, digits and "
+                "hyphens, with no hyphen at its ends",
+            ),
+            (("status", "--jso"), "unrecognized arguments: --jso"),
+            (
+                ("agent", "--round", "3"),
+                "argument --round: a number of seconds from 0.05 to 0.9 is expected, and not '3'",
+            ),
+        ):
             run = self.fleet(*words)
-            self.assertEqual((run.printed, run.told.splitlines()[-1].partition("error: ")[2], run.status), ("", told, 2))
+            self.assertEqual(
+                (run.printed, run.told.splitlines()[-1].partition("error: ")[2], run.status),
+                ("", told, 2),
+            )
 
     def test_the_fleet_file_comes_first(self) -> None:
-        self.assertEqual(run_in_process(cli.main, "status").told.splitlines()[-1],
-                         "fleet: error: the fleet file stands before the command: fleet FLEET.json status")
+        self.assertEqual(
+            run_in_process(cli.main, "status").told.splitlines()[-1],
+            "fleet: error: the fleet file stands before the command: fleet FLEET.json status",
+        )
         run = run_in_process(cli.main, "plan", "wait", "settled")
-        self.assertEqual((run.told.splitlines(), run.status), (
-            ["fleet: plan is not a fleet file:", "  it can't be read: No such file or directory",
-             "fleet: the fleet file stands before the command: fleet FLEET.json plan"], 2))
+        self.assertEqual(
+            (run.told.splitlines(), run.status),
+            (
+                [
+                    "fleet: plan is not a fleet file:",
+                    "  it can't be read: No such file or directory",
+                    "fleet: the fleet file stands before the command: fleet FLEET.json plan",
+                ],
+                2,
+            ),
+        )
 
     def test_a_fleet_file_that_is_wrong(self) -> None:
         self.file = self.write_file("fleet.json", '{"fleet": "Web", "etcd": []}')
-        self.assertEqual(self.fleet("status"), ("", f"fleet: {self.file} is not a fleet file:\n"
-                         "  etcd: it is not a list of 1 to 16 endpoints\n  fleet: \"Web\" is not a name: a name is 1 to 63 lower-case letters, "
-                         "digits and hyphens, with no hyphen at its ends\n", 2))
+        self.assertEqual(
+            self.fleet("status"),
+            (
+                "",
+                f"fleet: {self.file} is not a fleet file:\n"
+                '  etcd: it is not a list of 1 to 16 endpoints\n  fleet: "Web" is not a name: a name is 1 to 63 lower-case letters, '
+                "digits and hyphens, with no hyphen at its ends\n",
+                2,
+            ),
+        )
 
     def test_the_help_has_all(self) -> None:
         told = parser().format_help()
@@ -93,7 +144,15 @@ class Words(WithFleet):
 
 class Faults(WithFleet):
     """A store that gives no answer is one line, and a status of its own."""
-    WRITING = ("promote", "abort", "retry", "undo", ("members", "add", "web-4"), ("members", "remove", "web-1"))
+
+    WRITING = (
+        "promote",
+        "abort",
+        "retry",
+        "undo",
+        ("members", "add", "web-4"),
+        ("members", "remove", "web-1"),
+    )
 
     def test_at_the_read(self) -> None:
         self.store.is_cut = True
@@ -105,8 +164,12 @@ class Faults(WithFleet):
         for command in (("plan", self.plan_file(V2)), *self.WRITING):
             words = (command,) if isinstance(command, str) else command
             self.begin("aborted" if command == "retry" else "deploying", "ready")
-            with mock.patch.object(self.store, "write", side_effect=StoreFault("etcd is full: free its space")):
-                self.assertEqual(self.fleet(*words), ("", "fleet: etcd is full: free its space\n", 4))
+            with mock.patch.object(
+                self.store, "write", side_effect=StoreFault("etcd is full: free its space")
+            ):
+                self.assertEqual(
+                    self.fleet(*words), ("", "fleet: etcd is full: free its space\n", 4)
+                )
 
     def test_ctrl_c(self) -> None:
         with mock.patch.object(self.store, "read", side_effect=KeyboardInterrupt):
@@ -114,7 +177,8 @@ class Faults(WithFleet):
 
 
 class Agent(WithFleet):
-    """The command hands the fleet file and its options to the process of the agent, and gives its exit status."""
+    """The command hands the fleet file and its options to the process of the agent, and gives its
+    exit status."""
 
     def run_with(self, *words: str) -> tuple[Run, list[tuple[str, AgentArguments]]]:
         given: list[tuple[str, AgentArguments]] = []
@@ -122,59 +186,108 @@ class Agent(WithFleet):
         def run_agent(file: FleetFile, arguments: AgentArguments) -> int:
             given.append((file.host, arguments))
             return 5
+
         with mock.patch.object(agent_process, "run_agent", run_agent):
             return self.fleet("agent", *words), given
 
     def test_what_it_is_given(self) -> None:
         told = {"fleet": "web", "etcd": ["127.0.0.1:2379"], "host": "web-1", "control": 8082}
         self.file = self.write_file("fleet.json", json.dumps(told))
-        self.assertEqual(self.run_with("--state", "/var/lib/bg", "--round", "0.5", "--json"),
-                         (Run("", "", 5), [("web-1", AgentArguments(pathlib.Path("/var/lib/bg"), 0.5, True))]))
+        self.assertEqual(
+            self.run_with("--state", "/var/lib/bg", "--round", "0.5", "--json"),
+            (Run("", "", 5), [("web-1", AgentArguments(pathlib.Path("/var/lib/bg"), 0.5, True))]),
+        )
         self.assertEqual(self.run_with(), (Run("", "", 5), [("web-1", AgentArguments())]))
 
 
 def check_whole_session(case: unittest.TestCase, fleet: "Person", agents: "Agents") -> None:
     """A session of a person with each command, while agents do what they are asked."""
+
     def check(words: str, printed: str, status: int = 0, told: str = "") -> None:
         run = fleet.run(*words.split())
-        case.assertEqual((re.sub(r"plan \d+:", "plan N:", run.printed), run.told, run.status), (printed, told, status), words)
+        case.assertEqual(
+            (re.sub(r"plan \d+:", "plan N:", run.printed), run.told, run.status),
+            (printed, told, status),
+            words,
+        )
+
     no_leader = "fleet: no agent leads now: the plan waits until one does\n"
-    check("members add web-1 web-2", "web-1 is a member\nweb-2 is a member\n", 0,
-          "".join(f"fleet: {host} is away: no agent reports as {host} yet\n" for host in HOSTS[:2]))
+    check(
+        "members add web-1 web-2",
+        "web-1 is a member\nweb-2 is a member\n",
+        0,
+        "".join(f"fleet: {host} is away: no agent reports as {host} yet\n" for host in HOSTS[:2]),
+    )
     fleet.write_plan("plan.json", V1)
-    check("plan plan.json", "plan N: the fleet begins: its stable revision is the one that is live, and web-v1 is deployed unless it is that "
-          "one\n", 0, no_leader)
+    check(
+        "plan plan.json",
+        "plan N: the fleet begins: its stable revision is the one that is live, and web-v1 is deployed unless it is that "
+        "one\n",
+        0,
+        no_leader,
+    )
     agents.put("successful", V1, V1)
-    check("wait web-v1=successful settled --timeout 20", f"attempt {agents.plan_id} of web-v1: successful\n")
+    check(
+        "wait web-v1=successful settled --timeout 20",
+        f"attempt {agents.plan_id} of web-v1: successful\n",
+    )
     fleet.write_plan("plan.json", V1, V2, fleet={"by_hand": True})
     check("check plan.json", "plan.json is a plan of a fleet: it deploys web-v2\n")
     check("plan plan.json", "plan N: web-v2 is deployed\n")
     agents.put("deploying", V2, V1, "ready")
-    check("wait web-v2=ready", f"attempt {agents.plan_id} of web-v2: deploying; waits for a person's promote\n")
+    check(
+        "wait web-v2=ready",
+        f"attempt {agents.plan_id} of web-v2: deploying; waits for a person's promote\n",
+    )
     attempt = f"attempt {agents.plan_id} of web-v2"
     check(f"promote --attempt {agents.plan_id}", f"promote is ordered for {attempt}\n")
     case.assertEqual(json.loads(fleet.run("status", "--json").printed)["order"]["order"], PROMOTE)
-    check("promote", "", 1, agents.told_by(f"the order promote for {attempt}, by NAME, stands already; no leader has answered it"))
+    check(
+        "promote",
+        "",
+        1,
+        agents.told_by(
+            f"the order promote for {attempt}, by NAME, stands already; no leader has answered it"
+        ),
+    )
     check("abort", f"abort is ordered for {attempt}\n")
     agents.put("aborted", V2, V1)
-    check("wait web-v2=successful", "", 1, f"fleet: web-v2=successful cannot hold unless another plan is put: {attempt} is over: aborted\n")
+    check(
+        "wait web-v2=successful",
+        "",
+        1,
+        f"fleet: web-v2=successful cannot hold unless another plan is put: {attempt} is over: aborted\n",
+    )
     check("retry", "plan N: the attempt of web-v2, which was aborted, begins again\n")
     agents.put("successful", V2, V1)
-    check("undo", "plan N: web-v1 is deployed again: the plan before names it too\n", 0,
-          "fleet: the file of your plan still names web-v2 last: put it again only after an edit\n")
+    check(
+        "undo",
+        "plan N: web-v1 is deployed again: the plan before names it too\n",
+        0,
+        "fleet: the file of your plan still names web-v2 last: put it again only after an edit\n",
+    )
     agents.put("deploying", V1, V2)
-    case.assertEqual(fleet.run("status").printed.splitlines()[-1], "└─ web-2   working  steady  web-v2  web-v2   web-v2  ready")
+    case.assertEqual(
+        fleet.run("status").printed.splitlines()[-1],
+        "└─ web-2   working  steady  web-v2  web-v2   web-v2  ready",
+    )
     agents.put("successful", V1, V2)
     check("members remove web-2", "web-2 is no member any more\n")
     check("members", "web-1\n")
 
 
 class Person:
-    """Runs bin/fleet in this process, with a fleet file of its own. Its plans are in the folder of the cluster."""
+    """Runs bin/fleet in this process, with a fleet file of its own. Its plans are in the folder of
+    the cluster."""
 
     def __init__(self, cluster: Cluster, **members: object) -> None:
         self.cluster = cluster
-        told = {"fleet": FLEET, "etcd": [str(endpoint) for endpoint in cluster.endpoints], "timeout_seconds": 5, **members}
+        told = {
+            "fleet": FLEET,
+            "etcd": [str(endpoint) for endpoint in cluster.endpoints],
+            "timeout_seconds": 5,
+            **members,
+        }
         self.file = cluster.folder / f"fleet-{id(self)}.json"
         self.file.write_text(json.dumps(told), encoding="ascii")
 
@@ -183,7 +296,11 @@ class Person:
 
     def run(self, *words: str) -> Run:
         folder = f"{self.cluster.folder}/"
-        run = run_in_process(cli.main, str(self.file), *(folder + word if word.endswith(".json") else word for word in words))
+        run = run_in_process(
+            cli.main,
+            str(self.file),
+            *(folder + word if word.endswith(".json") else word for word in words),
+        )
         return run._replace(printed=run.printed.replace(folder, ""))
 
 
@@ -204,8 +321,19 @@ class Agents:
         record = Record(self.plan_id, revision, stable, stage)  # type: ignore[arg-type]
         state = state or ("working" if record.is_running else "follows")
         name = record.stable.name
-        report = MachineReport("m", self.plan_id, state, "", "steady", name, name, name, name, 2).text()
-        self.store.write([], {ATTEMPT: record.text(), LEADER: "web-1", MACHINES + "web-1": report, MACHINES + "web-2": report}, [ORDER])
+        report = MachineReport(
+            "m", self.plan_id, state, "", "steady", name, name, name, name, 2
+        ).text()
+        self.store.write(
+            [],
+            {
+                ATTEMPT: record.text(),
+                LEADER: "web-1",
+                MACHINES + "web-1": report,
+                MACHINES + "web-2": report,
+            },
+            [ORDER],
+        )
 
 
 class OverEtcd(WithCluster):
@@ -221,7 +349,13 @@ class WithAllMembers(WithCluster):
         self.assertEqual(person.run("members", "add", *hosts).status, 0)
         person.write_plan("plan.json", V1, V2)
         self.assertEqual(person.run("plan", "plan.json").status, 0)
-        store.write([], {MACHINES + host: MachineReport("m", 0, "working", stable="web-v1").text() for host in hosts})
+        store.write(
+            [],
+            {
+                MACHINES + host: MachineReport("m", 0, "working", stable="web-v1").text()
+                for host in hosts
+            },
+        )
         leader = Candidate("host-0", store, lambda *_: None)
         self.assertTrue(leader.do_round())  # it leads
         for name in ("web-v1", "web-v2"):
@@ -229,15 +363,24 @@ class WithAllMembers(WithCluster):
             record = View(store.read()).record
             self.assertEqual(record and record.revision.name, name)
         plan_id = View(store.read()).changed(PLAN)
-        store.write([], {MACHINES + host: MachineReport("m", plan_id, "ready", stable="web-v1").text() for host in hosts})
+        store.write(
+            [],
+            {
+                MACHINES + host: MachineReport("m", plan_id, "ready", stable="web-v1").text()
+                for host in hosts
+            },
+        )
         self.assertEqual(person.run("promote").status, 0)
         self.assertTrue(leader.do_round())
-        self.assertEqual(json.loads(person.run("status", "--json").printed)["attempt"]["stage"], "promoting")
+        self.assertEqual(
+            json.loads(person.run("status", "--json").printed)["attempt"]["stage"], "promoting"
+        )
         self.assertEqual(person.run("members", "remove", *hosts[1:]).status, 0)
 
 
 class ByRole(WithCluster):
     """People may write `plan`, `members/` and `order`, and read all keys of the fleet."""
+
     WORDS = ("--bcrypt-cost=4",)
 
     def setUp(self) -> None:
@@ -245,12 +388,21 @@ class ByRole(WithCluster):
 
         def below(name: str, kind: str) -> dict[str, str]:
             key = PREFIX + name
-            end = {"range_end": in_base64(key[:-1] + chr(ord(key[-1]) + 1))} if key.endswith("/") else {}
+            end = (
+                {"range_end": in_base64(key[:-1] + chr(ord(key[-1]) + 1))}
+                if key.endswith("/")
+                else {}
+            )
             return {"permType": kind, "key": in_base64(key), **end}
+
         calls: list[tuple[str, dict[str, object]]] = [
-            ("user/add", {"name": "root", "password": "secret"}), ("user/grant", {"user": "root", "role": "root"}),
-            ("user/add", {"name": "person", "password": "hidden"}), ("user/add", {"name": "guest", "password": "hidden"}),
-            ("role/add", {"name": "people"}), ("user/grant", {"user": "person", "role": "people"})]
+            ("user/add", {"name": "root", "password": "secret"}),
+            ("user/grant", {"user": "root", "role": "root"}),
+            ("user/add", {"name": "person", "password": "hidden"}),
+            ("user/add", {"name": "guest", "password": "hidden"}),
+            ("role/add", {"name": "people"}),
+            ("user/grant", {"user": "person", "role": "people"}),
+        ]
         for perm in (("", "READ"), ("plan", "WRITE"), ("order", "WRITE"), ("members/", "WRITE")):
             calls.append(("role/grant", {"name": "people", "perm": below(*perm)}))
         calls.append(("enable", {}))
@@ -261,17 +413,42 @@ class ByRole(WithCluster):
             (self.cluster.folder / name).write_text(name, encoding="ascii")
 
     def test_a_whole_session_and_who_is_refused(self) -> None:
-        agents = Agents(self.cluster, user="root", password_file=str(self.cluster.folder / "secret"))
-        check_whole_session(self, Person(self.cluster, user="person", password_file="hidden"), agents)
-        for user, file, told in (("guest", "hidden", "etcd denies this to the user guest: etcdserver: permission denied"),
-                                 ("person", "wrong", "etcd refuses this: etcdserver: authentication failed, invalid user ID or password"),
-                                 ("person", "none", f"the password of etcd's user can't be read from {self.cluster.folder}/none: No such "
-                                                    "file or directory")):
+        agents = Agents(
+            self.cluster, user="root", password_file=str(self.cluster.folder / "secret")
+        )
+        check_whole_session(
+            self, Person(self.cluster, user="person", password_file="hidden"), agents
+        )
+        for user, file, told in (
+            (
+                "guest",
+                "hidden",
+                "etcd denies this to the user guest: etcdserver: permission denied",
+            ),
+            (
+                "person",
+                "wrong",
+                "etcd refuses this: etcdserver: authentication failed, invalid user ID or password",
+            ),
+            (
+                "person",
+                "none",
+                f"the password of etcd's user can't be read from {self.cluster.folder}/none: No such "
+                "file or directory",
+            ),
+        ):
             person = Person(self.cluster, user=user, password_file=file)
-            for words in (("status",), ("wait", "settled", "--timeout", "0"), ("members", "add", "web-1")):
+            for words in (
+                ("status",),
+                ("wait", "settled", "--timeout", "0"),
+                ("members", "add", "web-1"),
+            ):
                 self.assertIn(f"fleet: {told}\n", person.run(*words).told)
                 self.assertEqual(person.run(*words)[::2], ("", 4))
-        self.assertEqual(Person(self.cluster).run("status"), ("", "fleet: etcd asks for a user and a password, and none are set\n", 4))
+        self.assertEqual(
+            Person(self.cluster).run("status"),
+            ("", "fleet: etcd asks for a user and a password, and none are set\n", 4),
+        )
 
 
 class WithoutSpace(WithCluster):
@@ -284,7 +461,10 @@ class WithoutSpace(WithCluster):
                 store.write([], {f"waste{number}": "x" * 1000000})
         run = person.run("members", "add", "web-1")
         self.assertEqual((run.printed, run.status), ("", 4))
-        self.assertRegex(run.told, r"^fleet: etcd is full: etcdserver: mvcc: database space exceeded; free its space, then disarm its alarm\n$")
+        self.assertRegex(
+            run.told,
+            r"^fleet: etcd is full: etcdserver: mvcc: database space exceeded; free its space, then disarm its alarm\n$",
+        )
         self.assertEqual(person.run("status").status, 1)  # reads go on
 
 
@@ -300,11 +480,17 @@ class WithoutQuorum(WithCluster):
         self.assertEqual(run, ("web-1\n", "", 0))
         for member in self.cluster.members[1:]:
             member.kill()
-        for words in (("status",), ("members", "add", "web-2"), ("wait", "settled", "--timeout", "1")):
+        for words in (
+            ("status",),
+            ("members", "add", "web-2"),
+            ("wait", "settled", "--timeout", "1"),
+        ):
             run = person.run(*words)
             self.assertEqual((run.printed, run.status), ("", 4))
             self.assertNotIn("Traceback", run.told)
-            self.assertTrue(all(line.startswith("fleet: ") for line in run.told.splitlines()), run.told)
+            self.assertTrue(
+                all(line.startswith("fleet: ") for line in run.told.splitlines()), run.told
+            )
 
 
 class Away(unittest.TestCase):
@@ -313,8 +499,14 @@ class Away(unittest.TestCase):
         cluster.folder.mkdir(exist_ok=True)
         person = Person(cluster)  # type: ignore[arg-type]
         self.addCleanup(person.file.unlink)
-        self.assertEqual(run_to_end([str(TOOLS / "fleet"), str(person.file), "status"], "", WAIT), (
-            "", f"fleet: no endpoint of etcd gives an answer: {HOST}:{cluster.endpoints[0].port}: Connection refused\n", 4))
+        self.assertEqual(
+            run_to_end([str(TOOLS / "fleet"), str(person.file), "status"], "", WAIT),
+            (
+                "",
+                f"fleet: no endpoint of etcd gives an answer: {HOST}:{cluster.endpoints[0].port}: Connection refused\n",
+                4,
+            ),
+        )
 
 
 if __name__ == "__main__":

@@ -1,4 +1,5 @@
-"""What drills of a fleet choose at random, what they read off the keys, and how they judge a run: without a fleet."""
+"""What drills of a fleet choose at random, what they read off the keys, and how they judge a run:
+without a fleet."""
 import collections
 import json
 import os
@@ -22,7 +23,17 @@ from support.fleet.aimed_abort import is_promoting
 from support.fleet.analysis import bad_file, hold_file
 from support.fleet.lab import Lab
 from support.fleet.planted import PLANTED
-from support.fleet.random_drill import BAD_AFTER, BAD_BEFORE, GOOD, KINDS, LONGEST_ATTEMPT, Due, Outcome, PlanChoice, next_plan
+from support.fleet.random_drill import (
+    BAD_AFTER,
+    BAD_BEFORE,
+    GOOD,
+    KINDS,
+    LONGEST_ATTEMPT,
+    Due,
+    Outcome,
+    PlanChoice,
+    next_plan,
+)
 from support.fleet.random_faults import Fault, Faults, next_fault
 from support.fleet.programs import Programs
 from support.fleet.recording import Answered, Event, Promote
@@ -36,7 +47,8 @@ HOSTS = ("a", "b", "c")
 
 
 def faults_in_turn(seed: int, count: int = 4000) -> list[list[Fault]]:
-    """Faults at random: each that comes, and those before it that last. Each lasts for some of those that follow."""
+    """Faults at random: each that comes, and those before it that last. Each lasts for some of
+    those that follow."""
     chance, lasting = random.Random(seed), list[Fault]()
     found = []
     for _ in range(count):
@@ -77,12 +89,15 @@ class RandomFaults(unittest.TestCase):
     def test_the_leader_is_hit_more_often(self) -> None:
         chance = random.Random(6)
         faults = [next_fault(chance, HOSTS, "b", []) for _ in range(4000)]
-        hit = collections.Counter(fault.hosts for fault in faults if fault and fault.kind == random_faults.AGENT_KILLED)
+        hit = collections.Counter(
+            fault.hosts for fault in faults if fault and fault.kind == random_faults.AGENT_KILLED
+        )
         self.assertGreater(hit["b",], 1.1 * hit["a",])
 
 
 class LabOfCalls:
     """What faults do to a lab."""
+
     hosts = HOSTS
 
     def __init__(self) -> None:
@@ -111,14 +126,20 @@ class RunningFaults(unittest.TestCase):
             self.faults.begin_some("a")
         self.faults.end_all()
         self.assertEqual((self.faults.lasting, self.faults.broken), ([], []))
-        begun = [call for call in self.lab.calls if call.split()[0] in ("kill", "stop", "cut", "delay_switch")]
+        begun = [
+            call
+            for call in self.lab.calls
+            if call.split()[0] in ("kill", "stop", "cut", "delay_switch")
+        ]
         self.assertEqual(len(self.lab.calls), 2 * len(begun))
         self.assertFalse(self.faults.delay_some_switch(0.1))
 
     def test_a_fault_that_does_not_end(self) -> None:
         """The drill then ends with the reason."""
+
         def fail(_: object, host: str) -> None:
             raise ValueError(f"switch-{host} runs already")
+
         with mock.patch.object(LabOfCalls, "let_switch_go_on", fail, create=True):
             self.assertTrue(self.faults.delay_some_switch(0.1))
             self.assertTrue(comes(lambda: self.faults.error))
@@ -126,13 +147,20 @@ class RunningFaults(unittest.TestCase):
             self.faults.begin_some("a")
 
     def test_what_ends_is_what_began(self) -> None:
-        ends = {"kill": "restart", "stop": "wake", "cut": "mend", "delay_switch": "let_switch_go_on"}
+        ends = {
+            "kill": "restart",
+            "stop": "wake",
+            "cut": "mend",
+            "delay_switch": "let_switch_go_on",
+        }
         for _ in range(300):
             self.faults.begin_some("a")
         self.faults.end_all()
         calls = [call.split(" ", 1) for call in self.lab.calls]
         begun = collections.Counter((ends[what], words) for what, words in calls if what in ends)
-        self.assertEqual(begun, collections.Counter((what, words) for what, words in calls if what not in ends))
+        self.assertEqual(
+            begun, collections.Counter((what, words) for what, words in calls if what not in ends)
+        )
 
 
 class Plans(unittest.TestCase):
@@ -144,7 +172,9 @@ class Plans(unittest.TestCase):
         self.assertGreater(counts[GOOD], 4 * max(counts[BAD_BEFORE], counts[BAD_AFTER]))
         self.assertTrue(all(plan.kind == GOOD for plan in plans if plan.is_aimed))
         self.assertGreater(sum(plan.is_aimed for plan in plans), len(plans) / 10)
-        self.assertEqual({key for plan in plans for key in plan.fleet}, {"by_hand", "seconds", "max_missing"})
+        self.assertEqual(
+            {key for plan in plans for key in plan.fleet}, {"by_hand", "seconds", "max_missing"}
+        )
 
     def test_the_next_one_awaits_the_end(self) -> None:
         due = Due(random.Random(1))
@@ -171,12 +201,23 @@ class Plans(unittest.TestCase):
         self.assertTrue(due.is_due(seen_at("deploying"), 105.1))
 
 
-def keys_at(stage: str, plan: int = 20, states: Sequence[str] = ("ready", "ready", "ready"), attempt: int = 20) -> dict[str, Event]:
+def keys_at(
+    stage: str,
+    plan: int = 20,
+    states: Sequence[str] = ("ready", "ready", "ready"),
+    attempt: int = 20,
+) -> dict[str, Event]:
     found = [Event(2, f"members/{host}", "", 2) for host in HOSTS]
-    found += [Event(30, f"machines/{host}", json.dumps({"attempt": attempt, "state": state}), 3)
-              for host, state in zip(HOSTS, states) if state]
-    found += [Event(plan, "plan", json.dumps({"fleet": {"by_hand": True}}), 5), Event(6, "leader", "b", 6),
-              Event(31, "attempt", record(20, "web-2", "web-1", stage), 7)]
+    found += [
+        Event(30, f"machines/{host}", json.dumps({"attempt": attempt, "state": state}), 3)
+        for host, state in zip(HOSTS, states)
+        if state
+    ]
+    found += [
+        Event(plan, "plan", json.dumps({"fleet": {"by_hand": True}}), 5),
+        Event(6, "leader", "b", 6),
+        Event(31, "attempt", record(20, "web-2", "web-1", stage), 7),
+    ]
     return {event.name: event for event in found}
 
 
@@ -187,18 +228,40 @@ def seen_at(stage: str, plan: int = 20) -> Seen:
 class Keys(unittest.TestCase):
     def test_without_any(self) -> None:
         seen = Seen({})
-        self.assertEqual((seen.id, seen.revision, seen.stage, seen.stable, seen.leader, seen.members), (0, "", "", "", "", []))
-        self.assertEqual((seen.is_running, seen.is_of_the_plan, seen.is_settled, seen.is_by_hand, seen.are_all("ready")), (False,) * 5)
+        self.assertEqual(
+            (seen.id, seen.revision, seen.stage, seen.stable, seen.leader, seen.members),
+            (0, "", "", "", "", []),
+        )
+        self.assertEqual(
+            (
+                seen.is_running,
+                seen.is_of_the_plan,
+                seen.is_settled,
+                seen.is_by_hand,
+                seen.are_all("ready"),
+            ),
+            (False,) * 5,
+        )
         self.assertTrue(seen.is_away("a"))
 
     def test_a_running_attempt(self) -> None:
         seen = seen_at("deploying")
-        self.assertEqual((seen.id, seen.revision, seen.stage, seen.stable, seen.leader), (20, "web-2", "deploying", "web-1", "b"))
-        self.assertEqual((seen.is_running, seen.is_of_the_plan, seen.is_settled, seen.is_by_hand), (True, True, False, True))
-        self.assertEqual((seen.are_all("ready"), seen.are_all("passed"), seen.is_away("c")), (True, False, False))
+        self.assertEqual(
+            (seen.id, seen.revision, seen.stage, seen.stable, seen.leader),
+            (20, "web-2", "deploying", "web-1", "b"),
+        )
+        self.assertEqual(
+            (seen.is_running, seen.is_of_the_plan, seen.is_settled, seen.is_by_hand),
+            (True, True, False, True),
+        )
+        self.assertEqual(
+            (seen.are_all("ready"), seen.are_all("passed"), seen.is_away("c")), (True, False, False)
+        )
 
     def test_reports(self) -> None:
-        self.assertFalse(Seen(keys_at("deploying", states=("ready", "working", "ready"))).are_all("ready"))
+        self.assertFalse(
+            Seen(keys_at("deploying", states=("ready", "working", "ready"))).are_all("ready")
+        )
         self.assertFalse(Seen(keys_at("deploying", states=("ready", "ready", ""))).are_all("ready"))
         self.assertFalse(Seen(keys_at("deploying", attempt=10)).are_all("ready"))
 
@@ -206,7 +269,9 @@ class Keys(unittest.TestCase):
         follow = ("follows", "follows", "follows")
         self.assertTrue(Seen(keys_at("aborted", states=follow)).is_settled)
         self.assertTrue(Seen(keys_at("successful", states=follow, attempt=0)).is_settled)
-        self.assertFalse(Seen(keys_at("successful", states=("follows", "follows", "working"))).is_settled)
+        self.assertFalse(
+            Seen(keys_at("successful", states=("follows", "follows", "working"))).is_settled
+        )
         self.assertFalse(Seen(keys_at("successful", states=("follows", "follows", ""))).is_settled)
         self.assertFalse(Seen(keys_at("successful", plan=21, states=follow)).is_settled)
         self.assertFalse(Seen(keys_at("promoting", states=follow)).is_settled)
@@ -217,7 +282,9 @@ class Keys(unittest.TestCase):
         self.assertFalse(is_promoting(attempt, "web-3"))
         self.assertFalse(is_promoting(attempt._replace(name="machines/a"), "web-2"))
         self.assertFalse(is_promoting(attempt._replace(value=None), "web-2"))
-        self.assertFalse(is_promoting(attempt._replace(value=record(20, "web-2", "web-1", "deploying")), "web-2"))
+        self.assertFalse(
+            is_promoting(attempt._replace(value=record(20, "web-2", "web-1", "deploying")), "web-2")
+        )
 
 
 class Verdicts(unittest.TestCase):
@@ -226,40 +293,74 @@ class Verdicts(unittest.TestCase):
 
     def test_a_mix_that_shows_too_little(self) -> None:
         self.assertEqual(Mix(30, 10, 1).faults(), [])
-        self.assertEqual(Mix(30, 9, 1).faults(), ["9 of 30 attempts were promoted, which is below a third"])
+        self.assertEqual(
+            Mix(30, 9, 1).faults(), ["9 of 30 attempts were promoted, which is below a third"]
+        )
         self.assertEqual(Mix(30, 10, 0).faults(), ["no promote met an abort on its way"])
-        self.assertEqual(Mix(19, 19, 5).faults(), ["19 attempts are too few to judge the mix: 20 are needed"])
+        self.assertEqual(
+            Mix(19, 19, 5).faults(), ["19 attempts are too few to judge the mix: 20 are needed"]
+        )
 
     def test_the_mix_of_a_run(self) -> None:
         run = good()
         self.assertEqual(mix_of(Run(run)), Mix(2, 2, 0))
-        late = [*run.promotes, Promote("c", 47.9, "web-3", SECOND, 0.9), Promote("b", 46.9, "web-3", SECOND, 0.1)]
+        late = [
+            *run.promotes,
+            Promote("c", 47.9, "web-3", SECOND, 0.9),
+            Promote("b", 46.9, "web-3", SECOND, 0.1),
+        ]
         self.assertEqual(mix_of(Run(run._replace(promotes=late))), Mix(2, 2, 1))
 
     def test_the_table(self) -> None:
         rows = list(table(self.outcome()))
         self.assertIn("| plans good / bad before / bad after | 2 / 0 / 0 |", rows)
         self.assertIn("| settled after the last fault | 1.5 s |", rows)
-        self.assertIn("| requests | 25, 0 failed, 0 of these at a machine whose switch was killed |", rows)
-        self.assertIn("| settled after the last fault | no |", list(table(self.outcome()._replace(settled=None))))
+        self.assertIn(
+            "| requests | 25, 0 failed, 0 of these at a machine whose switch was killed |", rows
+        )
+        self.assertIn(
+            "| settled after the last fault | no |",
+            list(table(self.outcome()._replace(settled=None))),
+        )
 
     def test_the_lines(self) -> None:
         lines, holds = verdict(self.outcome())
-        self.assertEqual(lines[:7], [*(f"rule {number}: holds" for number in range(1, 7)), "no program has failed"])
+        self.assertEqual(
+            lines[:7],
+            [*(f"rule {number}: holds" for number in range(1, 7)), "no program has failed"],
+        )
         self.assertFalse(holds)  # its attempts are too few
-        lines, _ = verdict(self.outcome(requests=[*good().requests, *good().requests[:1], good().requests[0]._replace(status=502)]))
+        lines, _ = verdict(
+            self.outcome(
+                requests=[
+                    *good().requests,
+                    *good().requests[:1],
+                    good().requests[0]._replace(status=502),
+                ]
+            )
+        )
         self.assertEqual(lines[4], "rule 5: BROKEN, 1 times")
 
     def test_a_program_that_has_failed(self) -> None:
-        self.assertIn("FAILED agent-a: status 70", verdict(self.outcome()._replace(failures=["agent-a: status 70"]))[0])
+        self.assertIn(
+            "FAILED agent-a: status 70",
+            verdict(self.outcome()._replace(failures=["agent-a: status 70"]))[0],
+        )
 
     def test_what_holds_only_together(self) -> None:
         """A drill has passed where nothing is wrong with it, and fails by each thing that is."""
         outcome = self.outcome()
         with mock.patch("support.fleet.verdict.mix_of", return_value=Mix(30, 20, 1)):
             self.assertTrue(verdict(outcome)[1])
-            for wrong in (outcome._replace(settled=None), outcome._replace(failures=["agent-a: status 70"]),
-                          outcome._replace(recording=outcome.recording._replace(requests=[Answered(35.0, 0.01, 502, "", "b")]))):
+            for wrong in (
+                outcome._replace(settled=None),
+                outcome._replace(failures=["agent-a: status 70"]),
+                outcome._replace(
+                    recording=outcome.recording._replace(
+                        requests=[Answered(35.0, 0.01, 502, "", "b")]
+                    )
+                ),
+            ):
                 self.assertFalse(verdict(wrong)[1])
         with mock.patch("support.fleet.verdict.mix_of", return_value=Mix(30, 20, 0)):
             self.assertFalse(verdict(outcome)[1])
@@ -270,22 +371,52 @@ class Verdicts(unittest.TestCase):
 
 class PlantedFaults(unittest.TestCase):
     def test_each_of_the_design(self) -> None:
-        self.assertEqual(list(PLANTED), ["without-one-member", "alone", "without-compares", "no-catch-up", "old-reads", "changes",
-                                         "back-by-permission"])
+        self.assertEqual(
+            list(PLANTED),
+            [
+                "without-one-member",
+                "alone",
+                "without-compares",
+                "no-catch-up",
+                "old-reads",
+                "changes",
+                "back-by-permission",
+            ],
+        )
         self.assertEqual({planted.rule for planted in PLANTED.values()}, {1, 2, 3, 4, 6})
 
     def test_it_is_found_by_its_own_rule_alone(self) -> None:
         planted = PLANTED["old-reads"]
-        self.assertTrue(planted.is_found([Broken(2, "a promoted web-2 by a read 3.000 seconds old")]))
-        self.assertFalse(planted.is_found([Broken(1, "a promoted web-2 by a read 3.000 seconds old"), Broken(2, "attempt 3 went on")]))
+        self.assertTrue(
+            planted.is_found([Broken(2, "a promoted web-2 by a read 3.000 seconds old")])
+        )
+        self.assertFalse(
+            planted.is_found(
+                [
+                    Broken(1, "a promoted web-2 by a read 3.000 seconds old"),
+                    Broken(2, "attempt 3 went on"),
+                ]
+            )
+        )
         self.assertFalse(planted.is_found([]))
 
     def test_it_is_planted_and_taken_out(self) -> None:
         """Each patch changes the code of the agents, and leaves nothing behind."""
+
         def parts() -> list[object]:
-            return [vars(place)[name] for place, name in (
-                (Votes, "are_enough"), (Machine, "next_line"), (Machine, "is_fresh"), (leader, "compares_of"), (next_line, "_catch_up"),
-                (FleetLines, "may_hand_in"), (Candidate, "send"))]
+            return [
+                vars(place)[name]
+                for place, name in (
+                    (Votes, "are_enough"),
+                    (Machine, "next_line"),
+                    (Machine, "is_fresh"),
+                    (leader, "compares_of"),
+                    (next_line, "_catch_up"),
+                    (FleetLines, "may_hand_in"),
+                    (Candidate, "send"),
+                )
+            ]
+
         before = parts()
         for name, planted in PLANTED.items():
             with self.subTest(name):
@@ -296,13 +427,18 @@ class PlantedFaults(unittest.TestCase):
 
 class Analyses(unittest.TestCase):
     def test_files(self) -> None:
-        self.assertEqual((bad_file("a", "pre", "web-2"), hold_file("b", "post", "web-3")), ("bad-a-pre-web-2", "hold-b-post-web-3"))
+        self.assertEqual(
+            (bad_file("a", "pre", "web-2"), hold_file("b", "post", "web-3")),
+            ("bad-a-pre-web-2", "hold-b-post-web-3"),
+        )
 
     def test_one_that_goes_on(self) -> None:
         with tempfile.TemporaryDirectory() as name:
             lab = Lab(pathlib.Path(name), HOSTS, agent=None, is_quiet=True)
             with lab.held_analysis("a", "post", 2):
-                self.assertEqual([path.name for path in pathlib.Path(name).iterdir()], ["hold-a-post-web-2"])
+                self.assertEqual(
+                    [path.name for path in pathlib.Path(name).iterdir()], ["hold-a-post-web-2"]
+                )
             self.assertEqual(list(pathlib.Path(name).iterdir()), [])
             lab.fail_analysis("a", "pre", 2)
             lab.pass_analysis("a", "pre", 2)
@@ -319,7 +455,9 @@ class Failures(unittest.TestCase):
             programs.start("raises", [sys.executable, "-c", "1 / 0"])
             programs.start("is-ended", ["sleep", "60"])
             self.assertEqual(programs.end("is-ended"), -15)
-            self.assertTrue(comes(lambda: not programs.is_running("ends") and not programs.is_running("raises")))
+            self.assertTrue(
+                comes(lambda: not programs.is_running("ends") and not programs.is_running("raises"))
+            )
             expected = ["ends: status 3", "raises: status 1", "raises.err has a traceback"]
             self.assertEqual(programs.failures(), expected)
             programs.kill("ends")
@@ -329,23 +467,46 @@ class Failures(unittest.TestCase):
 
 
 class Scripts(unittest.TestCase):
-    def run_script(self, *words: str, path: str = os.environ["PATH"]) -> "subprocess.CompletedProcess[str]":
-        return subprocess.run([sys.executable, "-B", *words], cwd=TOP, capture_output=True, text=True, timeout=WAIT, check=False,
-                              env={"PATH": path})
+    def run_script(
+        self, *words: str, path: str = os.environ["PATH"]
+    ) -> "subprocess.CompletedProcess[str]":
+        return subprocess.run(
+            [sys.executable, "-B", *words],
+            cwd=TOP,
+            capture_output=True,
+            text=True,
+            timeout=WAIT,
+            check=False,
+            env={"PATH": path},
+        )
 
     def test_without_the_programs(self) -> None:
         """The gate says what it has left out, and a person who asks for a drill gets none."""
         with tempfile.TemporaryDirectory() as empty:
             ran = self.run_script("scripts/live_fleet.py", path=empty)
-            self.assertEqual((ran.returncode, ran.stdout), (0, "live_fleet: skipped, since etcd and haproxy and nginx can't be found here: "
-                                                            "apt-get install etcd-server haproxy nginx\n"), ran.stderr)
-            ran = self.run_script("scripts/fleet_drill.py", "--seed", "1", "--seconds", "10", path=empty)
+            self.assertEqual(
+                (ran.returncode, ran.stdout),
+                (
+                    0,
+                    "live_fleet: skipped, since etcd and haproxy and nginx can't be found here: "
+                    "apt-get install etcd-server haproxy nginx\n",
+                ),
+                ran.stderr,
+            )
+            ran = self.run_script(
+                "scripts/fleet_drill.py", "--seed", "1", "--seconds", "10", path=empty
+            )
             self.assertEqual((ran.returncode, ran.stdout), (2, ""))
             self.assertIn("etcd and haproxy and nginx can't be found here", ran.stderr)
 
     def test_words(self) -> None:
-        for words in ((), ("--seed", "1"), ("--seed", "1", "--seconds", "1"), ("--fault", "none"),
-                      ("--seed", "1", "--seconds", "20", "--fault", "all")):
+        for words in (
+            (),
+            ("--seed", "1"),
+            ("--seed", "1", "--seconds", "1"),
+            ("--fault", "none"),
+            ("--seed", "1", "--seconds", "20", "--fault", "all"),
+        ):
             ran = self.run_script("scripts/fleet_drill.py", *words)
             self.assertEqual((ran.returncode, ran.stdout), (2, ""), words)
             self.assertIn("usage: ", ran.stderr)

@@ -1,4 +1,5 @@
-"""The store of a fleet on a real etcd: its reads, writes, leases and waits, and what it says where etcd has a fault."""
+"""The store of a fleet on a real etcd: its reads, writes, leases and waits, and what it says where
+etcd has a fault."""
 import shutil
 import threading
 import unittest
@@ -7,7 +8,16 @@ from collections.abc import Callable
 
 from bg_switch_tools.fleet.store import Compare, Key, Store, StoreFault
 from support.pace import is_within
-from tests.real_etcd import MISSING, PROGRAM, Cluster, WithCluster, asked, in_base64, port_that_refuses, put
+from tests.real_etcd import (
+    MISSING,
+    PROGRAM,
+    Cluster,
+    WithCluster,
+    asked,
+    in_base64,
+    port_that_refuses,
+    put,
+)
 from tests.store_checks import PREFIX, TIMEOUT, fault_of, seconds_of, store_at
 from tests.tool_runs import comes
 
@@ -20,7 +30,11 @@ class OnOne(WithCluster):
 
     def setUp(self) -> None:
         self.endpoint = self.cluster.endpoints[0]
-        asked(self.endpoint, "/v3/kv/deleterange", {"key": in_base64("\0"), "range_end": in_base64("\0")})
+        asked(
+            self.endpoint,
+            "/v3/kv/deleterange",
+            {"key": in_base64("\0"), "range_end": in_base64("\0")},
+        )
         self.store: Store = store_at(self.endpoint)
 
     def value(self, key: str) -> str | None:
@@ -34,8 +48,17 @@ class OnOne(WithCluster):
 
 class Reads(OnOne):
     def test_all_keys_below_the_prefix_and_no_other(self) -> None:
-        outside = ["/bg-switch/web", "/bg-switch/web-2/a", "/bg-switch/web.", "/bg-switch/web0", "/bg-switch/web00", "/bg-switch/x/a",
-                   "/bg-switch/we/a", "a", "z"]
+        outside = [
+            "/bg-switch/web",
+            "/bg-switch/web-2/a",
+            "/bg-switch/web.",
+            "/bg-switch/web0",
+            "/bg-switch/web00",
+            "/bg-switch/x/a",
+            "/bg-switch/we/a",
+            "a",
+            "z",
+        ]
         inside = ["!", "attempt", "members/web-1", "members/web-2", "plan", "~", "é", ""]
         for key in [*outside, *(PREFIX + name for name in inside)]:
             put(self.endpoint, key, "v")
@@ -47,10 +70,18 @@ class Reads(OnOne):
         self.store.write([], {"a": "one", "b": ""}, (), 0)
         self.store.write([], {"a": "two é \n"}, (), lease)
         snapshot = self.store.read()
-        self.assertEqual(snapshot.keys, {"a": Key("two é \n", before + 1, before + 2, lease), "b": Key("", before + 1, before + 1, 0)})
+        self.assertEqual(
+            snapshot.keys,
+            {
+                "a": Key("two é \n", before + 1, before + 2, lease),
+                "b": Key("", before + 1, before + 1, 0),
+            },
+        )
         self.assertEqual(snapshot.revision, before + 2)
         header = asked(self.endpoint, "/v3/kv/range", {"key": in_base64("x")})["header"]
-        self.assertEqual(snapshot.cluster, header["cluster_id"] if isinstance(header, dict) else None)
+        self.assertEqual(
+            snapshot.cluster, header["cluster_id"] if isinstance(header, dict) else None
+        )
 
     def test_bytes_that_are_no_text_end_nothing(self) -> None:
         asked(self.endpoint, "/v3/kv/put", {"key": in_base64(PREFIX + "a"), "value": "/w=="})
@@ -77,7 +108,9 @@ class Writes(OnOne):
         if revision is None:
             self.assertEqual(after, before)
         else:
-            self.assertEqual((after.keys["result"].changed, after.revision), (revision, before.revision + 1))
+            self.assertEqual(
+                (after.keys["result"].changed, after.revision), (revision, before.revision + 1)
+            )
         return revision is not None
 
     def test_puts_and_deletes_are_one_step(self) -> None:
@@ -85,8 +118,10 @@ class Writes(OnOne):
         before = self.revision()
         revision = self.store.write([], {"a": "2", "b": "3"}, ["gone", "absent"])
         self.assertEqual(revision, before + 1)
-        self.assertEqual({name: (key.value, key.changed) for name, key in self.store.read().keys.items()},
-                         {"a": ("2", revision), "b": ("3", revision)})
+        self.assertEqual(
+            {name: (key.value, key.changed) for name, key in self.store.read().keys.items()},
+            {"a": ("2", revision), "b": ("3", revision)},
+        )
 
     def test_a_compare_of_the_creation(self) -> None:
         self.assertTrue(self.written(Compare("leader", "created", 0)))
@@ -118,20 +153,35 @@ class Writes(OnOne):
         one = self.store.write([], {"members/a": ""}) or 0
         two = self.store.write([], {"members/b": ""}) or 0
         three = self.store.write([], {"members/a": "again"}) or 0
-        for newest, holds in ((0, False), (one, False), (two, False), (three - 1, False), (three, True), (three + 9, True)):
+        for newest, holds in (
+            (0, False),
+            (one, False),
+            (two, False),
+            (three - 1, False),
+            (three, True),
+            (three + 9, True),
+        ):
             self.assertEqual(self.written(Compare("members/", "changed", newest)), holds, newest)
         self.assertFalse(self.written(Compare("members/", "created", one)))
         self.assertTrue(self.written(Compare("members/", "created", two)))
         self.store.write([], {}, ["members/a"])
-        self.assertTrue(self.written(Compare("members/", "changed", two)), "a deletion does not count")
+        self.assertTrue(
+            self.written(Compare("members/", "changed", two)), "a deletion does not count"
+        )
 
     def test_two_writers_of_one_revision(self) -> None:
         """Of many that write at once with the same compare, one does."""
         won: list[int] = []
 
         def write(number: int) -> None:
-            if store_at(self.endpoint).write([Compare("leader", "created", 0)], {"leader": str(number)}) is not None:
+            if (
+                store_at(self.endpoint).write(
+                    [Compare("leader", "created", 0)], {"leader": str(number)}
+                )
+                is not None
+            ):
                 won.append(number)
+
         threads = [threading.Thread(target=write, args=(number,)) for number in range(8)]
         for thread in threads:
             thread.start()
@@ -145,7 +195,10 @@ class Leases(OnOne):
         lease = self.store.grant(60)
         self.store.write([], {"leader": "a"}, (), lease)
         self.store.write([], {"attempt": "b"})
-        self.assertEqual({name: key.lease for name, key in self.store.read().keys.items()}, {"leader": lease, "attempt": 0})
+        self.assertEqual(
+            {name: key.lease for name, key in self.store.read().keys.items()},
+            {"leader": lease, "attempt": 0},
+        )
         self.store.revoke(lease)
         self.assertEqual(list(self.store.read().keys), ["attempt"])
 
@@ -164,6 +217,7 @@ class Leases(OnOne):
         def refreshed() -> bool:
             self.assertGreaterEqual(self.store.refresh(kept), 2)
             return "left" not in self.store.read().keys
+
         self.assertTrue(comes(refreshed))
         self.assertEqual(list(self.store.read().keys), ["kept"])
         self.assertEqual(self.store.refresh(left), 0)
@@ -173,8 +227,10 @@ class Leases(OnOne):
         self.store.revoke(lease)
         self.store.revoke(lease)
         self.assertEqual(self.store.refresh(lease), 0)
-        self.assertEqual(fault_of(lambda: self.store.write([], {"a": ""}, (), lease)),
-                         "etcd refuses this: etcdserver: requested lease not found")
+        self.assertEqual(
+            fault_of(lambda: self.store.write([], {"a": ""}, (), lease)),
+            "etcd refuses this: etcdserver: requested lease not found",
+        )
         self.assertEqual(self.store.read().keys, {})
 
 
@@ -191,8 +247,16 @@ class Waits(OnOne):
 
     def test_a_change_wakes(self) -> None:
         self.store.write([], {"a": ""})
-        for name, change in (("put", lambda: put(self.endpoint, PREFIX + "b")), ("again", lambda: put(self.endpoint, PREFIX + "b")),
-                             ("delete", lambda: asked(self.endpoint, "/v3/kv/deleterange", {"key": in_base64(PREFIX + "a")}))):
+        for name, change in (
+            ("put", lambda: put(self.endpoint, PREFIX + "b")),
+            ("again", lambda: put(self.endpoint, PREFIX + "b")),
+            (
+                "delete",
+                lambda: asked(
+                    self.endpoint, "/v3/kv/deleterange", {"key": in_base64(PREFIX + "a")}
+                ),
+            ),
+        ):
             with self.subTest(name):
                 after = self.revision()
                 self.after(0.4, change)
@@ -216,7 +280,8 @@ class Waits(OnOne):
         self.assertTrue(is_within(seconds, 1.2 + SOON), seconds)
 
     def test_what_can_have_been_missed_wakes(self) -> None:
-        """Changes that etcd has compacted, and a revision that etcd has not reached: it was restored."""
+        """Changes that etcd has compacted, and a revision that etcd has not reached: it was
+        restored."""
         after = self.revision()
         put(self.endpoint, PREFIX + "a")
         newest = self.revision()
@@ -231,9 +296,18 @@ class Waits(OnOne):
             self.store.wait(after, 0.2)
 
         def watchers() -> float:
-            with urllib.request.urlopen(f"http://{self.endpoint}/metrics", timeout=TIMEOUT) as response:
+            with urllib.request.urlopen(
+                f"http://{self.endpoint}/metrics", timeout=TIMEOUT
+            ) as response:
                 lines = response.read().decode().splitlines()
-            return float(next(line.split()[1] for line in lines if line.startswith("etcd_debugging_mvcc_watcher_total ")))
+            return float(
+                next(
+                    line.split()[1]
+                    for line in lines
+                    if line.startswith("etcd_debugging_mvcc_watcher_total ")
+                )
+            )
+
         self.assertTrue(comes(lambda: watchers() == 0, 10), watchers())
 
 
@@ -253,10 +327,17 @@ class Away(unittest.TestCase):
     def test_a_crash_is_a_fault_and_no_end(self) -> None:
         lease = self.store.grant(60)
         self.cluster.members[0].kill()
-        for call in (self.store.read, lambda: self.store.write([], {"a": "2"}), lambda: self.store.grant(3),
-                     lambda: self.store.refresh(lease), lambda: self.store.revoke(lease)):
+        for call in (
+            self.store.read,
+            lambda: self.store.write([], {"a": "2"}),
+            lambda: self.store.grant(3),
+            lambda: self.store.refresh(lease),
+            lambda: self.store.revoke(lease),
+        ):
             self.assertIn(f"{self.endpoint}: Connection refused", fault_of(call))
-        seconds = seconds_of(lambda: self.assertIn("Connection refused", fault_of(lambda: self.store.wait(1, 0.7))))
+        seconds = seconds_of(
+            lambda: self.assertIn("Connection refused", fault_of(lambda: self.store.wait(1, 0.7)))
+        )
         self.assertGreaterEqual(seconds, 0.7)
         self.cluster.start()
         self.assertEqual(self.store.read().keys["a"].value, "1")
@@ -274,8 +355,11 @@ class Away(unittest.TestCase):
         shutil.rmtree(self.data)
         (self.cluster.folder / "backup").rename(self.data)
         self.cluster.start()
-        self.assertEqual(fault_of(self.store.read), "etcd was restored from a backup: its revision was "
-                         f"{before.revision}, and is {before.revision - 5} now")
+        self.assertEqual(
+            fault_of(self.store.read),
+            "etcd was restored from a backup: its revision was "
+            f"{before.revision}, and is {before.revision - 5} now",
+        )
         after = self.store.read()
         self.assertEqual((after.keys["a"].value, after.cluster), ("1", before.cluster))
         self.assertIsNotNone(self.store.write([], {"a": "2"}))
@@ -297,18 +381,31 @@ class Away(unittest.TestCase):
         self.cluster.end()
         shutil.rmtree(self.data)
         self.cluster.start("another")
-        self.assertIn("it answers for the cluster", fault_of(lambda: self.store.write([], {"a": "2"})))
+        self.assertIn(
+            "it answers for the cluster", fault_of(lambda: self.store.write([], {"a": "2"}))
+        )
         self.assertIn("etcd is another cluster than before", fault_of(self.store.read))
 
     def test_a_full_etcd(self) -> None:
         for number in range(40):
             if "error" in put(self.endpoint, f"/fill/{number}", "x" * 1_000_000):
                 break
-        self.assertEqual(fault_of(lambda: self.store.write([], {"a": "2"})), "etcd is full: etcdserver: mvcc: database space exceeded; "
-                         "free its space, then disarm its alarm")
+        self.assertEqual(
+            fault_of(lambda: self.store.write([], {"a": "2"})),
+            "etcd is full: etcdserver: mvcc: database space exceeded; "
+            "free its space, then disarm its alarm",
+        )
         self.assertEqual(self.store.read().keys["a"].value, "1")
-        asked(self.endpoint, "/v3/kv/deleterange", {"key": in_base64("/fill/"), "range_end": in_base64("/fill0")})
-        asked(self.endpoint, "/v3/kv/compaction", {"revision": str(self.store.read().revision), "physical": True})
+        asked(
+            self.endpoint,
+            "/v3/kv/deleterange",
+            {"key": in_base64("/fill/"), "range_end": in_base64("/fill0")},
+        )
+        asked(
+            self.endpoint,
+            "/v3/kv/compaction",
+            {"revision": str(self.store.read().revision), "physical": True},
+        )
         asked(self.endpoint, "/v3/maintenance/defragment", {})
         listed = asked(self.endpoint, "/v3/maintenance/alarm", {"action": "GET"})["alarms"]
         for alarm in listed if isinstance(listed, list) else []:
@@ -317,17 +414,21 @@ class Away(unittest.TestCase):
 
 
 def write_in_time(store: Store, value: str) -> bool:
-    """Whether a write is carried out at a time that comes soon: members that have lost their leader elect another one first."""
+    """Whether a write is carried out at a time that comes soon: members that have lost their leader
+    elect another one first."""
+
     def is_written() -> bool:
         try:
             return store.write([], {"a": value}) is not None
         except StoreFault:
             return False
+
     return comes(is_written)
 
 
 class OnThree(WithCluster):
     """A store on three members. Each test leaves all of them running."""
+
     COUNT = 3
 
     def setUp(self) -> None:
@@ -351,7 +452,9 @@ class OnThree(WithCluster):
         self.assertTrue(comes(lambda: seconds_of(store.read) < 1.0))
         self.assertIsNotNone(store.write([], {"a": "2"}))
         after = store.read().revision
-        timer = threading.Timer(0.3, lambda: write_in_time(store_at(*self.cluster.endpoints[1:]), "3"))
+        timer = threading.Timer(
+            0.3, lambda: write_in_time(store_at(*self.cluster.endpoints[1:]), "3")
+        )
         timer.start()
         seconds = seconds_of(lambda: store.wait(after, LONG))
         self.assertTrue(is_within(seconds, 0.3 + SOON), seconds)
@@ -362,8 +465,11 @@ class OnThree(WithCluster):
         before = store.read().revision
         self.cluster.members[0].stop()
         told = fault_of(lambda: store.write([], {"a": "4"}))
-        self.assertEqual(told, f"etcd gives no answer: {self.cluster.endpoints[0]}: it gives no answer in time; "
-                         "what was asked may have been done")
+        self.assertEqual(
+            told,
+            f"etcd gives no answer: {self.cluster.endpoints[0]}: it gives no answer in time; "
+            "what was asked may have been done",
+        )
         self.assertEqual(store_at(*self.cluster.endpoints[1:]).read().revision, before)
         self.assertTrue(write_in_time(store, "5"))
 
@@ -378,7 +484,9 @@ class OnThree(WithCluster):
         alone = store_at(self.cluster.endpoints[0], timeout=20.0)
         self.assertTrue(comes(lambda: "etcdserver: no leader" in fault_of(alone.read)))
         seconds = seconds_of(lambda: fault_of(alone.read))
-        self.assertTrue(is_within(seconds, 5.0), f"it says so at once, and not after {seconds} seconds")
+        self.assertTrue(
+            is_within(seconds, 5.0), f"it says so at once, and not after {seconds} seconds"
+        )
         self.assertIn("no leader", fault_of(lambda: alone.wait(1, 0.2)))
         for number in (1, 2):
             self.cluster.start_member(number)
@@ -387,11 +495,14 @@ class OnThree(WithCluster):
         self.assertIsNotNone(store.write([], {"a": "7"}))
 
     def test_a_member_alone_is_passed_over(self) -> None:
-        """A wait, too, goes on at a member that has a leader, after the one that it watched at was lost."""
+        """A wait, too, goes on at a member that has a leader, after the one that it watched at was
+        lost."""
         store = store_at(*self.cluster.endpoints)
         after = store.read().revision
         self.cluster.members[0].kill()
-        timer = threading.Timer(0.5, lambda: write_in_time(store_at(*self.cluster.endpoints[1:], timeout=20.0), "8"))
+        timer = threading.Timer(
+            0.5, lambda: write_in_time(store_at(*self.cluster.endpoints[1:], timeout=20.0), "8")
+        )
         timer.start()
         seconds = seconds_of(lambda: store.wait(after, LONG))
         self.assertTrue(is_within(seconds, 20.0), seconds)

@@ -11,7 +11,17 @@ from bg_switch_tools.fleet.store import Compare
 from bg_switch_tools.fleet.store_endpoints import StoreEndpoint
 from bg_switch_tools.fleet.tls_files import TlsFiles
 from support.pace import is_within
-from tests.real_etcd import MISSING, NO_OPENSSL, OPENSSL, PROGRAM, Certificates, Cluster, WithCluster, asked, in_base64
+from tests.real_etcd import (
+    MISSING,
+    NO_OPENSSL,
+    OPENSSL,
+    PROGRAM,
+    Certificates,
+    Cluster,
+    WithCluster,
+    asked,
+    in_base64,
+)
 from tests.store_checks import PREFIX, fault_of, seconds_of, store_at
 from tests.tool_runs import comes
 
@@ -20,12 +30,22 @@ LONG = 30.0  # seconds of a wait that is woken
 
 
 def ask_for_users(endpoint: StoreEndpoint, context: ssl.SSLContext | None = None) -> None:
-    """Lets an etcd ask for users from now on: `agent` may write below the prefix alone. Its password is `hidden`."""
-    below = {"permType": "READWRITE", "key": in_base64(PREFIX), "range_end": in_base64("/bg-switch/web0")}
+    """Lets an etcd ask for users from now on: `agent` may write below the prefix alone. Its
+    password is `hidden`."""
+    below = {
+        "permType": "READWRITE",
+        "key": in_base64(PREFIX),
+        "range_end": in_base64("/bg-switch/web0"),
+    }
     calls: list[tuple[str, dict[str, object]]] = [
-        ("user/add", {"name": "root", "password": "secret"}), ("user/grant", {"user": "root", "role": "root"}),
-        ("user/add", {"name": "agent", "password": "hidden"}), ("role/add", {"name": "fleet"}),
-        ("role/grant", {"name": "fleet", "perm": below}), ("user/grant", {"user": "agent", "role": "fleet"}), ("enable", {})]
+        ("user/add", {"name": "root", "password": "secret"}),
+        ("user/grant", {"user": "root", "role": "root"}),
+        ("user/add", {"name": "agent", "password": "hidden"}),
+        ("role/add", {"name": "fleet"}),
+        ("role/grant", {"name": "fleet", "perm": below}),
+        ("user/grant", {"user": "agent", "role": "fleet"}),
+        ("enable", {}),
+    ]
     for path, message in calls:
         answer = asked(endpoint, f"/v3/auth/{path}", message, context)
         if "error" in answer:
@@ -34,6 +54,7 @@ def ask_for_users(endpoint: StoreEndpoint, context: ssl.SSLContext | None = None
 
 class WithUsers(WithCluster):
     """An etcd that asks for users."""
+
     WORDS = ("--auth-token-ttl=2", "--bcrypt-cost=4")
 
     @classmethod
@@ -72,11 +93,18 @@ class WithUsers(WithCluster):
 
     def test_wrong_users(self) -> None:
         for user, path, told in (
-                ("", "", "etcd asks for a user and a password, and none are set"),
-                ("agent", "/absent/file", "the password of etcd's user can't be read from /absent/file: No such file"),
-                ("nobody", str(self.password), "etcd refuses this: etcdserver: authentication failed")):
+            ("", "", "etcd asks for a user and a password, and none are set"),
+            (
+                "agent",
+                "/absent/file",
+                "the password of etcd's user can't be read from /absent/file: No such file",
+            ),
+            ("nobody", str(self.password), "etcd refuses this: etcdserver: authentication failed"),
+        ):
             with self.subTest(told):
-                self.assertIn(told, fault_of(store_at(self.endpoint, user=user, password_file=path).read))
+                self.assertIn(
+                    told, fault_of(store_at(self.endpoint, user=user, password_file=path).read)
+                )
         self.password.write_text("wrong", encoding="ascii")
         self.assertIn("authentication failed", fault_of(self.store.read))
         self.assertNotIn("wrong", fault_of(self.store.read))
@@ -84,14 +112,19 @@ class WithUsers(WithCluster):
         self.assertIsNotNone(self.store.read())
 
     def test_what_the_user_may_not_do(self) -> None:
-        other = store_at(self.endpoint, user="agent", password_file=str(self.password), fleet="other")
+        other = store_at(
+            self.endpoint, user="agent", password_file=str(self.password), fleet="other"
+        )
         for call in (other.read, lambda: other.write([], {"a": "1"})):
-            self.assertEqual(fault_of(call), "etcd denies this to the user agent: etcdserver: permission denied")
+            self.assertEqual(
+                fault_of(call), "etcd denies this to the user agent: etcdserver: permission denied"
+            )
         self.assertIn("it ends the watch", fault_of(lambda: other.wait(0, 0.3)))
 
 
 class WithTls(unittest.TestCase):
     """An etcd that takes only clients with a certificate of its authority."""
+
     folder: pathlib.Path
     good: Certificates
     other: Certificates
@@ -114,13 +147,27 @@ class WithTls(unittest.TestCase):
         cls.other.sign("client", "DNS:client")
         context = ssl.create_default_context(cafile=cls.good.path("ca.pem"))
         context.load_cert_chain(cls.good.path("client.pem"), cls.good.path("client.key"))
-        cls.cluster = Cluster(1, ["--cert-file", cls.good.path("server.pem"), "--key-file", cls.good.path("server.key"),
-                                  "--client-cert-auth", "--trusted-ca-file", cls.good.path("ca.pem")], "https", context)
+        cls.cluster = Cluster(
+            1,
+            [
+                "--cert-file",
+                cls.good.path("server.pem"),
+                "--key-file",
+                cls.good.path("server.key"),
+                "--client-cert-auth",
+                "--trusted-ca-file",
+                cls.good.path("ca.pem"),
+            ],
+            "https",
+            context,
+        )
         cls.addClassCleanup(cls.cluster.remove)
         cls.endpoint = cls.cluster.endpoints[0]
 
     def files(self, authority: Certificates, client: Certificates) -> TlsFiles:
-        return TlsFiles(authority.path("ca.pem"), client.path("client.pem"), client.path("client.key"))
+        return TlsFiles(
+            authority.path("ca.pem"), client.path("client.pem"), client.path("client.key")
+        )
 
     def test_every_call(self) -> None:
         store = store_at(self.endpoint, tls=self.files(self.good, self.good))
@@ -136,27 +183,43 @@ class WithTls(unittest.TestCase):
 
     def test_who_is_refused(self) -> None:
         missing = TlsFiles(self.good.path("absent.pem"))
-        mixed = TlsFiles(self.good.path("ca.pem"), self.good.path("client.pem"), self.good.path("server.key"))
+        mixed = TlsFiles(
+            self.good.path("ca.pem"), self.good.path("client.pem"), self.good.path("server.key")
+        )
         for name, files, told in (
-                ("another authority", self.files(self.other, self.good), "its certificate is not accepted: unable to get local issuer"),
-                ("the system's authorities", TlsFiles(), "its certificate is not accepted"),
-                ("no certificate", TlsFiles(self.good.path("ca.pem")), "TLS fails: "),
-                ("another client", self.files(self.good, self.other), "TLS fails: "),
-                ("no TLS", None, "it closes the connection without an answer"),
-                ("a file that is not there", missing, f"{missing.ca} can't be read: No such file or directory"),
-                ("a certificate without its key", mixed, "are not a certificate and its key")):
+            (
+                "another authority",
+                self.files(self.other, self.good),
+                "its certificate is not accepted: unable to get local issuer",
+            ),
+            ("the system's authorities", TlsFiles(), "its certificate is not accepted"),
+            ("no certificate", TlsFiles(self.good.path("ca.pem")), "TLS fails: "),
+            ("another client", self.files(self.good, self.other), "TLS fails: "),
+            ("no TLS", None, "it closes the connection without an answer"),
+            (
+                "a file that is not there",
+                missing,
+                f"{missing.ca} can't be read: No such file or directory",
+            ),
+            ("a certificate without its key", mixed, "are not a certificate and its key"),
+        ):
             with self.subTest(name):
                 self.assertIn(told, fault_of(store_at(self.endpoint, tls=files).read))
 
     def test_another_host_is_refused(self) -> None:
         """The certificate is for the address alone."""
-        store = store_at(StoreEndpoint("localhost", self.endpoint.port), tls=self.files(self.good, self.good))
+        store = store_at(
+            StoreEndpoint("localhost", self.endpoint.port), tls=self.files(self.good, self.good)
+        )
         self.assertIn("its certificate is not accepted: Hostname mismatch", fault_of(store.read))
 
     def test_tls_to_a_server_without_it(self) -> None:
         plain = Cluster(1)
         self.addCleanup(plain.remove)
-        self.assertIn("TLS fails: ", fault_of(store_at(plain.endpoints[0], tls=self.files(self.good, self.good)).read))
+        self.assertIn(
+            "TLS fails: ",
+            fault_of(store_at(plain.endpoints[0], tls=self.files(self.good, self.good)).read),
+        )
 
     def test_files_that_are_replaced_are_read_again(self) -> None:
         files = TlsFiles(*(str(self.folder / name) for name in ("now.ca", "now.pem", "now.key")))
@@ -186,18 +249,37 @@ class WithTlsAndUsers(unittest.TestCase):
         self.password = pathlib.Path(folder.name, "password")
         self.password.write_text("hidden", encoding="ascii")
         context = ssl.create_default_context(cafile=self.certificates.path("ca.pem"))
-        context.load_cert_chain(self.certificates.path("unnamed.pem"), self.certificates.path("unnamed.key"))
-        self.cluster = Cluster(1, ["--cert-file", self.certificates.path("server.pem"), "--key-file", self.certificates.path("server.key"),
-                                   "--client-cert-auth", "--trusted-ca-file", self.certificates.path("ca.pem"), "--bcrypt-cost=4"],
-                               "https", context)
+        context.load_cert_chain(
+            self.certificates.path("unnamed.pem"), self.certificates.path("unnamed.key")
+        )
+        self.cluster = Cluster(
+            1,
+            [
+                "--cert-file",
+                self.certificates.path("server.pem"),
+                "--key-file",
+                self.certificates.path("server.key"),
+                "--client-cert-auth",
+                "--trusted-ca-file",
+                self.certificates.path("ca.pem"),
+                "--bcrypt-cost=4",
+            ],
+            "https",
+            context,
+        )
         self.addCleanup(self.cluster.remove)
         ask_for_users(self.cluster.endpoints[0], context)
 
     def store(self, name: str, user: str, fleet: str = "web") -> EtcdStore:
         """The store as the client with this certificate and this user has it."""
         path = self.certificates.path
-        return store_at(self.cluster.endpoints[0], tls=TlsFiles(path("ca.pem"), path(f"{name}.pem"), path(f"{name}.key")), user=user,
-                        password_file=str(self.password) if user else "", fleet=fleet)
+        return store_at(
+            self.cluster.endpoints[0],
+            tls=TlsFiles(path("ca.pem"), path(f"{name}.pem"), path(f"{name}.key")),
+            user=user,
+            password_file=str(self.password) if user else "",
+            fleet=fleet,
+        )
 
     def test_both_together(self) -> None:
         store = self.store("unnamed", "agent")
@@ -205,14 +287,24 @@ class WithTlsAndUsers(unittest.TestCase):
         self.assertEqual(store.read().keys["a"].changed, revision)
         seconds = seconds_of(lambda: store.wait(revision - 1, LONG))
         self.assertTrue(is_within(seconds, SOON), seconds)
-        self.assertIn("etcd denies this to the user agent", fault_of(self.store("unnamed", "agent", "other").read))
+        self.assertIn(
+            "etcd denies this to the user agent",
+            fault_of(self.store("unnamed", "agent", "other").read),
+        )
 
     def test_a_certificate_is_no_user(self) -> None:
-        """Neither that of the client nor that of etcd itself, which here has the name of a user who may do everything."""
-        self.assertEqual(fault_of(self.store("unnamed", "").read), "etcd asks for a user and a password, and none are set")
+        """Neither that of the client nor that of etcd itself, which here has the name of a user who
+        may do everything."""
+        self.assertEqual(
+            fault_of(self.store("unnamed", "").read),
+            "etcd asks for a user and a password, and none are set",
+        )
         for user in ("", "agent"):
-            self.assertEqual(fault_of(self.store("named", user).read), "etcd asks for users, and takes no client certificate with a common "
-                             "name then: use one without")
+            self.assertEqual(
+                fault_of(self.store("named", user).read),
+                "etcd asks for users, and takes no client certificate with a common "
+                "name then: use one without",
+            )
 
 
 if __name__ == "__main__":

@@ -1,4 +1,5 @@
-"""The store of a fleet before servers that are slow, silent, malformed, or no etcd at all: each is a fault, in time."""
+"""The store of a fleet before servers that are slow, silent, malformed, or no etcd at all: each is
+a fault, in time."""
 import json
 import socket
 import threading
@@ -17,8 +18,22 @@ from support.clients import received, reset, send_in_pieces
 from support.endpoints import full_backlog
 from support.messages import response
 from support.pace import is_within
-from tests.fake_etcd import (CHUNKED, CREATED, RANGE, TRANSACTION, WATCH, Answer, FakeEtcd, chunk, header, key, keys, of_json, refused,
-                             sending)
+from tests.fake_etcd import (
+    CHUNKED,
+    CREATED,
+    RANGE,
+    TRANSACTION,
+    WATCH,
+    Answer,
+    FakeEtcd,
+    chunk,
+    header,
+    key,
+    keys,
+    of_json,
+    refused,
+    sending,
+)
 from tests.real_etcd import port_that_refuses
 from tests.store_checks import fault_of, seconds_of, store_at
 from tests.tool_runs import comes
@@ -36,31 +51,37 @@ def silent(connection: socket.socket) -> None:
 
 def trickling(given: bytes, pause: float = 0.1) -> Answer:
     """Sends one byte after the other: each read gets one in time."""
+
     def send(connection: socket.socket) -> None:
         send_in_pieces(connection, [bytes([byte]) for byte in given], pause)
+
     return send
 
 
 def endless(first: bytes, piece: bytes) -> Answer:
     """Sends the same piece again and again, for longer than any call may take."""
+
     def send(connection: socket.socket) -> None:
         connection.sendall(first)
         end = time.monotonic() + ENDLESS
         while time.monotonic() < end:
             connection.sendall(piece)
+
     return send
 
 
 def then(given: bytes, after: Answer) -> Answer:
     """Sends these bytes, and then what another answer sends."""
+
     def send(connection: socket.socket) -> None:
         connection.sendall(given)
         after(connection)
+
     return send
 
 
 def half(given: bytes) -> bytes:
-    return given[:-len(given) // 4]
+    return given[: -len(given) // 4]
 
 
 def with_revision(revision: object) -> dict[str, object]:
@@ -73,7 +94,10 @@ LATE: dict[str, tuple[Answer, str]] = {
     "a head that trickles": (trickling(GOOD), "it gives no answer in time"),
     "a body that trickles": (then(GOOD[:-90], trickling(GOOD[-90:])), "it gives no answer in time"),
     "a head and silence": (then(GOOD[:60], silent), "it gives no answer in time"),
-    "interim responses without an end": (endless(b"", b"HTTP/1.1 100 Continue\r\n\r\n"), "it gives no answer in time"),
+    "interim responses without an end": (
+        endless(b"", b"HTTP/1.1 100 Continue\r\n\r\n"),
+        "it gives no answer in time",
+    ),
 }
 NUMBERS = "its answer has no number "
 # By its name: an answer to a read that is none, and what is said of it.
@@ -82,50 +106,129 @@ WRONG: dict[str, tuple[Answer, str]] = {
     "a reset": (reset, "it closes the connection without an answer"),
     "bytes that are not HTTP": (sending(bytes(3000)), "its answer is not HTTP"),
     "a body that is cut": (sending(half(GOOD)), "its answer is cut"),
-    "a body that is cut, where the JSON is whole": (sending(GOOD.replace(b"Length: ", b"Length: 1")), "its answer is cut"),
+    "a body that is cut, where the JSON is whole": (
+        sending(GOOD.replace(b"Length: ", b"Length: 1")),
+        "its answer is cut",
+    ),
     "a chunk that is cut": (sending(CHUNKED + b"ff\r\n{"), "its answer is cut"),
     "chunks without an end": (sending(CHUNKED + chunk(b"{}")), "its answer is cut"),
-    "a head that is cut": (sending(b"HTTP/1.1 200 OK\r\nContent-Len"), "its answer, with status 200, is not JSON"),
-    "a field that is too long": (endless(b"HTTP/1.1 200 OK\r\nA: ", b"a" * 65536), "its answer is not HTTP"),
-    "a body that is too large": (endless(b"HTTP/1.1 200 OK\r\nContent-Length: 9999999999\r\n\r\n", b" " * 65536),
-                                 f"its answer has more than {LARGEST} bytes"),
-    "chunks that are too many": (endless(CHUNKED, chunk(b" " * 65536)), f"its answer has more than {LARGEST} bytes"),
-    "a web page": (sending(response(b"<html>welcome</html>")), "its answer, with status 200, is not JSON"),
-    "an error of a proxy": (sending(response(b"<html>bad</html>").replace(b"200 OK", b"502 Bad Gateway")),
-                            "its answer, with status 502, is not JSON"),
-    "JSON that is cut": (sending(response(b'{"header":')), "its answer, with status 200, is not JSON"),
-    "JSON that is deep": (sending(response(b"[" * 100000)), "its answer, with status 200, is not JSON"),
+    "a head that is cut": (
+        sending(b"HTTP/1.1 200 OK\r\nContent-Len"),
+        "its answer, with status 200, is not JSON",
+    ),
+    "a field that is too long": (
+        endless(b"HTTP/1.1 200 OK\r\nA: ", b"a" * 65536),
+        "its answer is not HTTP",
+    ),
+    "a body that is too large": (
+        endless(b"HTTP/1.1 200 OK\r\nContent-Length: 9999999999\r\n\r\n", b" " * 65536),
+        f"its answer has more than {LARGEST} bytes",
+    ),
+    "chunks that are too many": (
+        endless(CHUNKED, chunk(b" " * 65536)),
+        f"its answer has more than {LARGEST} bytes",
+    ),
+    "a web page": (
+        sending(response(b"<html>welcome</html>")),
+        "its answer, with status 200, is not JSON",
+    ),
+    "an error of a proxy": (
+        sending(response(b"<html>bad</html>").replace(b"200 OK", b"502 Bad Gateway")),
+        "its answer, with status 502, is not JSON",
+    ),
+    "JSON that is cut": (
+        sending(response(b'{"header":')),
+        "its answer, with status 200, is not JSON",
+    ),
+    "JSON that is deep": (
+        sending(response(b"[" * 100000)),
+        "its answer, with status 200, is not JSON",
+    ),
     "a list": (sending(of_json([1])), "its answer, with status 200, is not an object"),
     "an empty object": (sending(of_json({})), "its answer names no cluster"),
-    "a status that is no success": (sending(of_json({"header": header()}, b"202 OK")), "it answers with status 202, and not as etcd does"),
-    "a header that is a text": (sending(of_json({"header": "x"})), "its answer has no object header"),
-    "a revision that is no number": (sending(of_json({"header": with_revision("1x")})), NUMBERS + "revision"),
-    "a revision that is below 0": (sending(of_json({"header": with_revision("-1")})), NUMBERS + "revision"),
-    "a revision that is too long": (sending(of_json({"header": with_revision("9" * 6000)})), NUMBERS + "revision"),
-    "a revision that is an object": (sending(of_json({"header": with_revision({})})), NUMBERS + "revision"),
-    "fewer keys than are counted": (sending(of_json({"header": header(), "kvs": [], "count": "1"})), "its answer does not have all keys"),
-    "keys that are no list": (sending(of_json({"header": header(), "kvs": {}, "count": "0"})), "its answer does not have all keys"),
-    "a key that is no object": (sending(of_json({"header": header(), "kvs": ["a"], "count": "1"})),
-                                "its answer has a key that is not an object"),
-    "a key that is no text": (sending(of_json({"header": header(), "kvs": [{"key": 1}], "count": "1"})), "its answer has no text key"),
-    "a key that is not base 64": (sending(of_json({"header": header(), "kvs": [{"key": "?"}], "count": "1"})),
-                                  "its answer has a key or a value that is not base 64"),
-    "a key that was not asked for": (sending(keys(key("/bg-switch/other/a"))), "its answer has a key that was not asked for"),
-    "an error without a code": (sending(of_json({"error": "no"}, b"500 No")), "it answers with status 500, and not as etcd does"),
-    "an error that is no text": (sending(of_json({"error": 5, "code": 1}, b"500 No")), "it answers with status 500, and not as etcd does"),
-    "a fault of one member": (sending(refused("etcdserver: request timed out", 14, b"503 No")),
-                              "etcd has a fault: etcdserver: request timed out"),
-    "a fault with control characters": (sending(refused("a\n\x1b[31mb", 14, b"503 No")), "etcd has a fault: a??[31mb"),
+    "a status that is no success": (
+        sending(of_json({"header": header()}, b"202 OK")),
+        "it answers with status 202, and not as etcd does",
+    ),
+    "a header that is a text": (
+        sending(of_json({"header": "x"})),
+        "its answer has no object header",
+    ),
+    "a revision that is no number": (
+        sending(of_json({"header": with_revision("1x")})),
+        NUMBERS + "revision",
+    ),
+    "a revision that is below 0": (
+        sending(of_json({"header": with_revision("-1")})),
+        NUMBERS + "revision",
+    ),
+    "a revision that is too long": (
+        sending(of_json({"header": with_revision("9" * 6000)})),
+        NUMBERS + "revision",
+    ),
+    "a revision that is an object": (
+        sending(of_json({"header": with_revision({})})),
+        NUMBERS + "revision",
+    ),
+    "fewer keys than are counted": (
+        sending(of_json({"header": header(), "kvs": [], "count": "1"})),
+        "its answer does not have all keys",
+    ),
+    "keys that are no list": (
+        sending(of_json({"header": header(), "kvs": {}, "count": "0"})),
+        "its answer does not have all keys",
+    ),
+    "a key that is no object": (
+        sending(of_json({"header": header(), "kvs": ["a"], "count": "1"})),
+        "its answer has a key that is not an object",
+    ),
+    "a key that is no text": (
+        sending(of_json({"header": header(), "kvs": [{"key": 1}], "count": "1"})),
+        "its answer has no text key",
+    ),
+    "a key that is not base 64": (
+        sending(of_json({"header": header(), "kvs": [{"key": "?"}], "count": "1"})),
+        "its answer has a key or a value that is not base 64",
+    ),
+    "a key that was not asked for": (
+        sending(keys(key("/bg-switch/other/a"))),
+        "its answer has a key that was not asked for",
+    ),
+    "an error without a code": (
+        sending(of_json({"error": "no"}, b"500 No")),
+        "it answers with status 500, and not as etcd does",
+    ),
+    "an error that is no text": (
+        sending(of_json({"error": 5, "code": 1}, b"500 No")),
+        "it answers with status 500, and not as etcd does",
+    ),
+    "a fault of one member": (
+        sending(refused("etcdserver: request timed out", 14, b"503 No")),
+        "etcd has a fault: etcdserver: request timed out",
+    ),
+    "a fault with control characters": (
+        sending(refused("a\n\x1b[31mb", 14, b"503 No")),
+        "etcd has a fault: a??[31mb",
+    ),
 }
 # By its name: how an answer to a call refuses it for the whole cluster, and what is said.
 REFUSED = {
-    "full": (refused("etcdserver: mvcc: database space exceeded", 8, b"429 No"),
-             "etcd is full: etcdserver: mvcc: database space exceeded; free its space, then disarm its alarm"),
-    "denied": (refused("etcdserver: permission denied", 7, b"403 No"),
-               "etcd denies this to the user (none): etcdserver: permission denied"),
-    "no user": (refused("etcdserver: user name is empty", 3, b"400 No"), "etcd asks for a user and a password, and none are set"),
-    "a lease that is gone": (refused("etcdserver: requested lease not found", 5, b"404 No"),
-                             "etcd refuses this: etcdserver: requested lease not found"),
+    "full": (
+        refused("etcdserver: mvcc: database space exceeded", 8, b"429 No"),
+        "etcd is full: etcdserver: mvcc: database space exceeded; free its space, then disarm its alarm",
+    ),
+    "denied": (
+        refused("etcdserver: permission denied", 7, b"403 No"),
+        "etcd denies this to the user (none): etcdserver: permission denied",
+    ),
+    "no user": (
+        refused("etcdserver: user name is empty", 3, b"400 No"),
+        "etcd asks for a user and a password, and none are set",
+    ),
+    "a lease that is gone": (
+        refused("etcdserver: requested lease not found", 5, b"404 No"),
+        "etcd refuses this: etcdserver: requested lease not found",
+    ),
 }
 
 
@@ -146,35 +249,76 @@ class Good(WithServers):
         server = self.server()
         store = store_at(server.endpoint)
         snapshot = store.read()
-        self.assertEqual((snapshot.revision, snapshot.cluster, snapshot.keys["a"].value), (7, "1001", "1"))
+        self.assertEqual(
+            (snapshot.revision, snapshot.cluster, snapshot.keys["a"].value), (7, "1001", "1")
+        )
         self.assertEqual((store.write([], {"a": "1"}), store.grant(3), store.refresh(9)), (8, 9, 3))
         store.revoke(9)
         self.in_time(lambda: store.wait(7, 30))
 
     def test_what_a_write_asks_for(self) -> None:
         server = self.server()
-        compares = [Compare("leader", "created", 0), Compare("a", "changed", 4), Compare("members/", "changed", 6)]
+        compares = [
+            Compare("leader", "created", 0),
+            Compare("a", "changed", 4),
+            Compare("members/", "changed", 6),
+        ]
         store_at(server.endpoint).write(compares, {"a": "1"}, ["b"], 9)
         [(path, message)] = server.asked
         self.assertEqual(path, TRANSACTION)
-        self.assertEqual(message, {
-            "compare": [{"key": "L2JnLXN3aXRjaC93ZWIvbGVhZGVy", "target": "CREATE", "result": "EQUAL", "create_revision": "0"},
-                        {"key": "L2JnLXN3aXRjaC93ZWIvYQ==", "target": "MOD", "result": "EQUAL", "mod_revision": "4"},
-                        {"key": "L2JnLXN3aXRjaC93ZWIvbWVtYmVycy8=", "range_end": "L2JnLXN3aXRjaC93ZWIvbWVtYmVyczA=", "target": "MOD",
-                         "result": "LESS", "mod_revision": "7"}],
-            "success": [{"request_put": {"key": "L2JnLXN3aXRjaC93ZWIvYQ==", "value": "MQ==", "lease": "9"}},
-                        {"request_delete_range": {"key": "L2JnLXN3aXRjaC93ZWIvYg=="}}]})
+        self.assertEqual(
+            message,
+            {
+                "compare": [
+                    {
+                        "key": "L2JnLXN3aXRjaC93ZWIvbGVhZGVy",
+                        "target": "CREATE",
+                        "result": "EQUAL",
+                        "create_revision": "0",
+                    },
+                    {
+                        "key": "L2JnLXN3aXRjaC93ZWIvYQ==",
+                        "target": "MOD",
+                        "result": "EQUAL",
+                        "mod_revision": "4",
+                    },
+                    {
+                        "key": "L2JnLXN3aXRjaC93ZWIvbWVtYmVycy8=",
+                        "range_end": "L2JnLXN3aXRjaC93ZWIvbWVtYmVyczA=",
+                        "target": "MOD",
+                        "result": "LESS",
+                        "mod_revision": "7",
+                    },
+                ],
+                "success": [
+                    {
+                        "request_put": {
+                            "key": "L2JnLXN3aXRjaC93ZWIvYQ==",
+                            "value": "MQ==",
+                            "lease": "9",
+                        }
+                    },
+                    {"request_delete_range": {"key": "L2JnLXN3aXRjaC93ZWIvYg=="}},
+                ],
+            },
+        )
 
     def test_what_a_read_asks_for(self) -> None:
         """All keys, by a read that is linearizable: etcd's `serializable` is not there."""
         server = self.server()
         store_at(server.endpoint).read()
-        self.assertEqual(server.asked, [(RANGE, {"key": "L2JnLXN3aXRjaC93ZWIv", "range_end": "L2JnLXN3aXRjaC93ZWIw"})])
+        self.assertEqual(
+            server.asked,
+            [(RANGE, {"key": "L2JnLXN3aXRjaC93ZWIv", "range_end": "L2JnLXN3aXRjaC93ZWIw"})],
+        )
 
     def test_threads_share_a_store(self) -> None:
         server = self.server()
         store, given = store_at(server.endpoint), list[int]()
-        threads = [threading.Thread(target=lambda: given.extend(store.read().revision for _ in range(20))) for _ in range(8)]
+        threads = [
+            threading.Thread(target=lambda: given.extend(store.read().revision for _ in range(20)))
+            for _ in range(8)
+        ]
         for thread in threads:
             thread.start()
         for thread in threads:
@@ -188,13 +332,22 @@ class Late(WithServers):
             with self.subTest(name):
                 server = self.server(read=answer)
                 store = store_at(server.endpoint, timeout=LIMIT)
-                self.in_time(lambda: self.assertEqual(fault_of(store.read), "no endpoint of etcd gives an answer: "
-                                                      f"{server.endpoint}: {told}"))
+                self.in_time(
+                    lambda: self.assertEqual(
+                        fault_of(store.read),
+                        "no endpoint of etcd gives an answer: " f"{server.endpoint}: {told}",
+                    )
+                )
 
     def test_each_call_has_the_limit(self) -> None:
         server = self.server(write=silent, grant=silent, refresh=silent, revoke=silent)
         store = store_at(server.endpoint, timeout=LIMIT)
-        for call in (lambda: store.write([], {"a": "1"}), lambda: store.grant(3), lambda: store.refresh(9), lambda: store.revoke(9)):
+        for call in (
+            lambda: store.write([], {"a": "1"}),
+            lambda: store.grant(3),
+            lambda: store.refresh(9),
+            lambda: store.revoke(9),
+        ):
             self.in_time(lambda call=call: self.assertIn("it gives no answer in time", fault_of(call)))  # type: ignore[misc]
 
     def test_the_limit_is_that_of_all_endpoints_together(self) -> None:
@@ -211,7 +364,12 @@ class Late(WithServers):
     def test_a_large_write_to_an_endpoint_that_does_not_read(self) -> None:
         with socket.create_server(("127.0.0.1", 0)) as listener:
             store = store_at(StoreEndpoint("127.0.0.1", listener.getsockname()[1]), timeout=LIMIT)
-            self.in_time(lambda: self.assertIn("it gives no answer in time", fault_of(lambda: store.write([], {"a": "x" * 30_000_000}))))
+            self.in_time(
+                lambda: self.assertIn(
+                    "it gives no answer in time",
+                    fault_of(lambda: store.write([], {"a": "x" * 30_000_000})),
+                )
+            )
 
 
 class Wrong(WithServers):
@@ -219,8 +377,10 @@ class Wrong(WithServers):
         for name, (answer, told) in WRONG.items():
             with self.subTest(name):
                 server = self.server(read=answer)
-                self.assertEqual(fault_of(store_at(server.endpoint).read),
-                                 f"no endpoint of etcd gives an answer: {server.endpoint}: {told}")
+                self.assertEqual(
+                    fault_of(store_at(server.endpoint).read),
+                    f"no endpoint of etcd gives an answer: {server.endpoint}: {told}",
+                )
                 self.assertEqual(server.calls(RANGE), 1, "it is asked once")
 
     def test_the_next_endpoint_is_asked(self) -> None:
@@ -230,7 +390,11 @@ class Wrong(WithServers):
                 store = store_at(one.endpoint, other.endpoint, timeout=2 * LIMIT)
                 self.assertEqual(store.read().keys["a"].value, "1")
                 store.read()
-                self.assertEqual((one.calls(RANGE), other.calls(RANGE)), (1, 2), "the endpoint that answered is asked first")
+                self.assertEqual(
+                    (one.calls(RANGE), other.calls(RANGE)),
+                    (1, 2),
+                    "the endpoint that answered is asked first",
+                )
 
     def test_a_write_is_sent_once(self) -> None:
         """It may have been carried out. The write after it goes to the next endpoint."""
@@ -240,17 +404,28 @@ class Wrong(WithServers):
             with self.subTest(name):
                 one, other = self.server(write=answer), self.server()
                 store = store_at(one.endpoint, other.endpoint, timeout=LIMIT)
-                self.assertIn("; what was asked may have been done", fault_of(lambda: store.write([], {"a": "1"})))
+                self.assertIn(
+                    "; what was asked may have been done",
+                    fault_of(lambda: store.write([], {"a": "1"})),
+                )
                 self.assertEqual((one.calls(TRANSACTION), other.calls(TRANSACTION)), (1, 0))
                 self.assertEqual(store.write([], {"a": "1"}), 8)
                 self.assertEqual((one.calls(TRANSACTION), other.calls(TRANSACTION)), (1, 1))
 
     def test_a_redirection_is_not_followed(self) -> None:
-        for status in (b"301 Moved", b"302 Found", b"307 Temporary Redirect", b"308 Permanent Redirect"):
+        for status in (
+            b"301 Moved",
+            b"302 Found",
+            b"307 Temporary Redirect",
+            b"308 Permanent Redirect",
+        ):
             with self.subTest(status):
                 target = self.server()
                 place = b"http://127.0.0.1:%d%s" % (target.port, RANGE.encode())
-                moved = b"HTTP/1.1 %s\r\nLocation: %s\r\nContent-Length: 2\r\n\r\n{}" % (status, place)
+                moved = b"HTTP/1.1 %s\r\nLocation: %s\r\nContent-Length: 2\r\n\r\n{}" % (
+                    status,
+                    place,
+                )
                 server = self.server(read=sending(moved))
                 told = f"it answers with status {status[:3].decode()}, and not as etcd does"
                 self.assertIn(told, fault_of(store_at(server.endpoint).read))
@@ -274,8 +449,12 @@ class Wrong(WithServers):
 
     def test_errors_as_each_version_writes_them(self) -> None:
         told = "etcdserver: permission denied"
-        for body in ({"error": told, "message": told, "code": 7}, {"code": 7, "message": told, "details": []},
-                     {"error": {"grpc_code": 7, "http_code": 403, "message": told}}, {"error": {"code": 7, "message": told}}):
+        for body in (
+            {"error": told, "message": told, "code": 7},
+            {"code": 7, "message": told, "details": []},
+            {"error": {"grpc_code": 7, "http_code": 403, "message": told}},
+            {"error": {"code": 7, "message": told}},
+        ):
             with self.subTest(body):
                 store = store_at(self.server(read=sending(of_json(body, b"403 No"))).endpoint)
                 self.assertEqual(fault_of(store.read), REFUSED["denied"][1])
@@ -296,7 +475,10 @@ class Wrong(WithServers):
         store = store_at(server.endpoint)
         store.read()
         server.answers[RANGE] = sending(keys(revision=6))
-        self.assertEqual(fault_of(store.read), "etcd was restored from a backup: its revision was 7, and is 6 now")
+        self.assertEqual(
+            fault_of(store.read),
+            "etcd was restored from a backup: its revision was 7, and is 6 now",
+        )
         self.assertEqual(store.read().revision, 6)
 
 
@@ -315,18 +497,37 @@ class Waits(WithServers):
         self.assert_after(taken, seconds)
 
     def test_a_watch_that_ends_at_once(self) -> None:
-        for name, answer in (("without a result", sending(CHUNKED + chunk(b""))), ("after its creation", sending(CHUNKED + chunk(CREATED))),
-                             ("with a whole body", sending(CHUNKED + chunk(CREATED) + chunk(b""))), ("no answer", sending())):
+        for name, answer in (
+            ("without a result", sending(CHUNKED + chunk(b""))),
+            ("after its creation", sending(CHUNKED + chunk(CREATED))),
+            ("with a whole body", sending(CHUNKED + chunk(CREATED) + chunk(b""))),
+            ("no answer", sending()),
+        ):
             with self.subTest(name):
                 server = self.server(wait=answer)
                 self.fault_after(store_at(server.endpoint), 0.6, f"{server.endpoint}: it")
                 self.assertEqual(server.calls(WATCH), 1)
 
     def test_a_watch_that_is_refused(self) -> None:
-        cancelled = json.dumps({"result": {"header": header(), "created": True, "canceled": True, "cancel_reason": "no"}}).encode()
-        error = json.dumps({"error": {"grpc_code": 14, "http_code": 503, "message": "etcdserver: no leader"}}).encode()
-        for body, told in ((cancelled, "it ends the watch: no"), (error, "etcd has a fault: etcdserver: no leader"),
-                           (b"[]\n", "is not an object"), (b'{"result":3}\n', "its answer has no object result")):
+        cancelled = json.dumps(
+            {
+                "result": {
+                    "header": header(),
+                    "created": True,
+                    "canceled": True,
+                    "cancel_reason": "no",
+                }
+            }
+        ).encode()
+        error = json.dumps(
+            {"error": {"grpc_code": 14, "http_code": 503, "message": "etcdserver: no leader"}}
+        ).encode()
+        for body, told in (
+            (cancelled, "it ends the watch: no"),
+            (error, "etcd has a fault: etcdserver: no leader"),
+            (b"[]\n", "is not an object"),
+            (b'{"result":3}\n', "its answer has no object result"),
+        ):
             with self.subTest(told):
                 server = self.server(wait=sending(CHUNKED + chunk(body) + chunk(b"")))
                 self.fault_after(store_at(server.endpoint), 0.4, told)
@@ -345,11 +546,16 @@ class Waits(WithServers):
 
     def test_a_line_that_is_too_long(self) -> None:
         server = self.server(wait=endless(CHUNKED, chunk(b" " * 65536)))
-        self.fault_after(store_at(server.endpoint), 2.0, f"a line of its answer has more than {LARGEST} bytes")
+        self.fault_after(
+            store_at(server.endpoint), 2.0, f"a line of its answer has more than {LARGEST} bytes"
+        )
 
     def test_the_next_endpoint_wakes(self) -> None:
-        for name, answer in (("silence", silent), ("no answer", sending()), ("another cluster", sending(CHUNKED + chunk(
-                CREATED.replace(b"1001", b"2002"))))):
+        for name, answer in (
+            ("silence", silent),
+            ("no answer", sending()),
+            ("another cluster", sending(CHUNKED + chunk(CREATED.replace(b"1001", b"2002")))),
+        ):
             with self.subTest(name):
                 one, other = self.server(wait=answer), self.server()
                 store = store_at(one.endpoint, other.endpoint, timeout=LIMIT)
@@ -359,20 +565,45 @@ class Waits(WithServers):
 
 class Places(WithServers):
     def test_endpoints(self) -> None:
-        for text, endpoint in (("10.0.0.1:2379", StoreEndpoint("10.0.0.1", 2379)),
-                               ("store-1.example:1", StoreEndpoint("store-1.example", 1)),
-                               ("[::1]:65535", StoreEndpoint("::1", 65535))):
+        for text, endpoint in (
+            ("10.0.0.1:2379", StoreEndpoint("10.0.0.1", 2379)),
+            ("store-1.example:1", StoreEndpoint("store-1.example", 1)),
+            ("[::1]:65535", StoreEndpoint("::1", 65535)),
+        ):
             self.assertEqual(store_endpoint_of(text), endpoint)
             self.assertEqual(str(endpoint), text)
-        for wrong in ("", "a", "a:", ":1", "a:0", "a:65536", "a:01", "a:1 ", " a:1", "http://a:1", "a/b:1", "::1:1", "[::1]", "[1.2.3.4]:1",
-                      "[:]:1", "a:1\n", "-a:1", "é:1", "a" * 254 + ":1", "a:999999"):
+        for wrong in (
+            "",
+            "a",
+            "a:",
+            ":1",
+            "a:0",
+            "a:65536",
+            "a:01",
+            "a:1 ",
+            " a:1",
+            "http://a:1",
+            "a/b:1",
+            "::1:1",
+            "[::1]",
+            "[1.2.3.4]:1",
+            "[:]:1",
+            "a:1\n",
+            "-a:1",
+            "é:1",
+            "a" * 254 + ":1",
+            "a:999999",
+        ):
             with self.subTest(wrong), self.assertRaises(ValueError):
                 store_endpoint_of(wrong)
 
     def test_a_name_that_is_not_known(self) -> None:
         for host in ("absent.invalid", "a" * 64 + ".invalid", "a..b"):
             with self.subTest(host):
-                self.assertIn(f"{host}:1: its address is not found", fault_of(store_at(StoreEndpoint(host, 1)).read))
+                self.assertIn(
+                    f"{host}:1: its address is not found",
+                    fault_of(store_at(StoreEndpoint(host, 1)).read),
+                )
 
     def test_a_name_with_an_address_that_refuses(self) -> None:
         """`localhost` may have one of each kind; the server listens at that of IPv4 alone."""
@@ -387,6 +618,7 @@ class Places(WithServers):
         def hang(*_: object, **__: object) -> object:
             ends.wait(60)
             raise socket.gaierror(-3, "Temporary failure in name resolution")
+
         self.addCleanup(ends.set)
         with mock.patch.object(socket, "getaddrinfo", hang):
             for _ in range(5):
@@ -402,9 +634,14 @@ class Places(WithServers):
 
     def test_all_that_refuse(self) -> None:
         one, other = port_that_refuses(), port_that_refuses()
-        self.assertEqual(fault_of(lambda: store_at(one).write([], {"a": "1"})), f"etcd gives no answer: {one}: Connection refused")
-        self.assertEqual(fault_of(store_at(one, other).read),
-                         f"no endpoint of etcd gives an answer: {one}: Connection refused; {other}: Connection refused")
+        self.assertEqual(
+            fault_of(lambda: store_at(one).write([], {"a": "1"})),
+            f"etcd gives no answer: {one}: Connection refused",
+        )
+        self.assertEqual(
+            fault_of(store_at(one, other).read),
+            f"no endpoint of etcd gives an answer: {one}: Connection refused; {other}: Connection refused",
+        )
 
 
 class Limits(unittest.TestCase):

@@ -1,4 +1,5 @@
-"""The files of examples/fleet: the tools read the JSON files, the schema takes them, and HAProxy, nginx, systemd and etcd take theirs."""
+"""The files of examples/fleet: the tools read the JSON files, the schema takes them, and HAProxy,
+nginx, systemd and etcd take theirs."""
 import contextlib
 import importlib.util
 import io
@@ -17,11 +18,25 @@ import fleet_schema
 from bg_switch_tools.controller.plan_edit import with_last
 from bg_switch_tools.fleet.etcd import EtcdStore
 from bg_switch_tools.fleet.fleet_file import FleetFile, read_whole_fleet_file
-from bg_switch_tools.fleet.fleet_plan import FleetPlan, machine_plan, missing_analyses, read_fleet_plan
+from bg_switch_tools.fleet.fleet_plan import (
+    FleetPlan,
+    machine_plan,
+    missing_analyses,
+    read_fleet_plan,
+)
 from bg_switch_tools.fleet.plan_change import plan_problems
 from bg_switch_tools.fleet.rollout_settings import rollout_faults
 from bg_switch_tools.fleet.store import StoreFault
-from support.fleet.demonstration import ACTIVE, MACHINES, PORTS, PREVIEW, Clients, missing_packages, place_of, placed
+from support.fleet.demonstration import (
+    ACTIVE,
+    MACHINES,
+    PORTS,
+    PREVIEW,
+    Clients,
+    missing_packages,
+    place_of,
+    placed,
+)
 from support.fleet.hosts import Address
 from support.fleet.recording import Answered
 from tests.fake_port import free_port
@@ -58,7 +73,14 @@ def fleet_file(name: str) -> FleetFile:
 
 def judged(*words: str) -> tuple[int, str]:
     """The status of a program that judges a file, and what it told."""
-    done = subprocess.run(words, capture_output=True, text=True, timeout=WAIT, check=False, env={**os.environ, "PATH": PLACES})
+    done = subprocess.run(
+        words,
+        capture_output=True,
+        text=True,
+        timeout=WAIT,
+        check=False,
+        env={**os.environ, "PATH": PLACES},
+    )
     return done.returncode, done.stderr
 
 
@@ -67,14 +89,18 @@ class Json(unittest.TestCase):
         machine, person = fleet_file("fleet.json"), fleet_file("person.json")
         self.assertIn(machine.host, MACHINES)
         self.assertIsNone(person.machine)
-        self.assertEqual((machine.fleet, machine.etcd.endpoints), (person.fleet, person.etcd.endpoints))
+        self.assertEqual(
+            (machine.fleet, machine.etcd.endpoints), (person.fleet, person.etcd.endpoints)
+        )
         self.assertNotEqual(machine.etcd.user, person.etcd.user)
 
     def test_the_schema_takes_the_fleet_files(self) -> None:
         jsonschema = library()
         if jsonschema is None:
             self.skipTest("python3-jsonschema is not installed")
-        judge = jsonschema.Draft7Validator(json.loads(fleet_schema.FILE.read_text(encoding="utf-8")))
+        judge = jsonschema.Draft7Validator(
+            json.loads(fleet_schema.FILE.read_text(encoding="utf-8"))
+        )
         for name in ("fleet.json", "person.json"):
             with self.subTest(name):
                 self.assertEqual([error.message for error in judge.iter_errors(told(name))], [])
@@ -103,10 +129,16 @@ class Json(unittest.TestCase):
 
     def test_the_rollout_fits_a_fleet(self) -> None:
         self.assertEqual(rollout_faults(text("rollout.json").encode(), has_pre=True), [])
-        self.assertEqual({len(ports) for ports in PORTS.values()}, {told("rollout.json")["spec"]["replicas"]})
+        self.assertEqual(
+            {len(ports) for ports in PORTS.values()}, {told("rollout.json")["spec"]["replicas"]}
+        )
 
     def test_the_ports_are_those_of_the_units(self) -> None:
-        start = next(line for line in text("bg-switch.service", PRODUCTION).splitlines() if line.startswith("ExecStart="))
+        start = next(
+            line
+            for line in text("bg-switch.service", PRODUCTION).splitlines()
+            if line.startswith("ExecStart=")
+        )
         machine = told("fleet.json")
         for key in ("active", "preview", "control"):
             self.assertIn(f" --{key} {machine[key]} ", start)
@@ -114,12 +146,19 @@ class Json(unittest.TestCase):
 
     def test_an_undo_of_the_last_plan_is_a_plan(self) -> None:
         last = told(PLANS[-1])
-        self.assertEqual(read_fleet_plan(json.dumps(with_last(last, "web-v2", PORTS["web-v2"]))).last.name, "web-v2")
+        self.assertEqual(
+            read_fleet_plan(json.dumps(with_last(last, "web-v2", PORTS["web-v2"]))).last.name,
+            "web-v2",
+        )
 
 
 class Page(unittest.TestCase):
     def test_the_readme_names_each_file(self) -> None:
-        named = set(re.findall(r"^\| `([\w.-]+)` \|", (EXAMPLE / "README.md").read_text(encoding="utf-8"), re.M))
+        named = set(
+            re.findall(
+                r"^\| `([\w.-]+)` \|", (EXAMPLE / "README.md").read_text(encoding="utf-8"), re.M
+            )
+        )
         there = {path.name for path in EXAMPLE.iterdir() if path.is_file()} - {"README.md"}
         self.assertEqual(named, there)
 
@@ -156,30 +195,49 @@ class Programs(unittest.TestCase):
         path.write_text(with_paths(text("haproxy.cfg"), self.folder), encoding="ascii")
         status, fault = judged("haproxy", "-c", "-q", "-f", str(path))
         self.assertEqual((status, fault), (0, ""))
-        path.write_text(path.read_text(encoding="ascii").replace("balance roundrobin", "balance roundrobins"), encoding="ascii")
+        path.write_text(
+            path.read_text(encoding="ascii").replace("balance roundrobin", "balance roundrobins"),
+            encoding="ascii",
+        )
         self.assertNotEqual(judged("haproxy", "-c", "-q", "-f", str(path))[0], 0)
 
     def test_nginx_takes_the_file_of_a_machine(self) -> None:
         """Beside those of a single machine."""
         self.need("nginx")
         (self.folder / "switch.conf").write_text(text("switch.conf", PRODUCTION), encoding="ascii")
-        web = with_paths(text("web.conf", PRODUCTION), self.folder).replace("/etc/nginx/", f"{self.folder}/")
+        web = with_paths(text("web.conf", PRODUCTION), self.folder).replace(
+            "/etc/nginx/", f"{self.folder}/"
+        )
         web = re.sub(r"listen 443", f"listen 127.0.0.1:{free_port()}", web)
         path = self.folder / "nginx.conf"
-        path.write_text(f"pid {self.folder}/pid; error_log {self.folder}/log; events {{}}\nhttp {{ access_log off;\n{web}\n"
-                        f"{text('balancer.conf')}\n}}\n", encoding="ascii")
-        status, fault = judged("nginx", "-t", "-q", "-e", f"{self.folder}/log", "-p", str(self.folder), "-c", str(path))
+        path.write_text(
+            f"pid {self.folder}/pid; error_log {self.folder}/log; events {{}}\nhttp {{ access_log off;\n{web}\n"
+            f"{text('balancer.conf')}\n}}\n",
+            encoding="ascii",
+        )
+        status, fault = judged(
+            "nginx", "-t", "-q", "-e", f"{self.folder}/log", "-p", str(self.folder), "-c", str(path)
+        )
         self.assertEqual((status, fault), (0, ""))
 
     def test_systemd_takes_the_unit(self) -> None:
         if not shutil.which("systemd-analyze"):
             self.skipTest("systemd-analyze is not installed")
         unit = self.folder / "bg-fleet.service"
-        unit.write_text(re.sub(r"/usr/bin/bg-\w+", "/bin/true", text("bg-fleet.service")), encoding="ascii")
+        unit.write_text(
+            re.sub(r"/usr/bin/bg-\w+", "/bin/true", text("bg-fleet.service")), encoding="ascii"
+        )
         self.assertEqual(judged("systemd-analyze", "verify", "--man=no", str(unit)), (0, ""))
-        done = subprocess.run(["systemd-analyze", "security", "--offline=true", "--no-pager", str(unit)], capture_output=True, text=True,
-                              timeout=WAIT, check=False)
-        self.assertLessEqual(float(done.stdout.rsplit("exposure level", 1)[1].split(":")[1].split()[0]), MOST_EXPOSED)
+        done = subprocess.run(
+            ["systemd-analyze", "security", "--offline=true", "--no-pager", str(unit)],
+            capture_output=True,
+            text=True,
+            timeout=WAIT,
+            check=False,
+        )
+        self.assertLessEqual(
+            float(done.stdout.rsplit("exposure level", 1)[1].split(":")[1].split()[0]), MOST_EXPOSED
+        )
 
     def test_etcd_starts_by_its_file(self) -> None:
         """As one member, at other ports; it takes only clients with a certificate."""
@@ -188,26 +246,49 @@ class Programs(unittest.TestCase):
         if not OPENSSL:
             self.skipTest(NO_OPENSSL)
         client, peer = free_port(), free_port()
-        places = {"10.0.0.11:2379": f"127.0.0.1:{client}", "10.0.0.11:2380": f"127.0.0.1:{peer}",
-                  ",etcd-2=https://10.0.0.12:2380,etcd-3=https://10.0.0.13:2380": "", "/var/lib/etcd/fleet": f"{self.folder}/data"}
+        places = {
+            "10.0.0.11:2379": f"127.0.0.1:{client}",
+            "10.0.0.11:2380": f"127.0.0.1:{peer}",
+            ",etcd-2=https://10.0.0.12:2380,etcd-3=https://10.0.0.13:2380": "",
+            "/var/lib/etcd/fleet": f"{self.folder}/data",
+        }
         given = with_paths(placed(text("etcd.conf"), places), self.folder)
-        variables = dict(line.split("=", 1) for line in given.splitlines() if line and not line.startswith("#"))
+        variables = dict(
+            line.split("=", 1) for line in given.splitlines() if line and not line.startswith("#")
+        )
         self.assertTrue(all(name.startswith("ETCD_") for name in variables))
         with open(self.folder / "etcd.log", "wb") as log:
-            process = subprocess.Popen([ETCD], env={**os.environ, **variables}, stdout=log, stderr=log)
+            process = subprocess.Popen(
+                [ETCD], env={**os.environ, **variables}, stdout=log, stderr=log
+            )
         self.addCleanup(process.wait, WAIT)
         self.addCleanup(process.kill)
         path = self.folder / "person.json"
-        path.write_text(json.dumps({"fleet": "web", "etcd": [f"127.0.0.1:{client}"], "tls": {
-            "ca": "ca.pem", "certificate": "client.pem", "key": "client.key"}}), encoding="ascii")
+        path.write_text(
+            json.dumps(
+                {
+                    "fleet": "web",
+                    "etcd": [f"127.0.0.1:{client}"],
+                    "tls": {"ca": "ca.pem", "certificate": "client.pem", "key": "client.key"},
+                }
+            ),
+            encoding="ascii",
+        )
         store = EtcdStore(read_whole_fleet_file(str(path)).etcd, "web")
 
         def answers() -> bool:
             with contextlib.suppress(StoreFault):
                 return store.read().revision > 0
             return False
-        self.assertTrue(comes(answers), (self.folder / "etcd.log").read_text(encoding="utf-8", errors="replace")[-2000:])
-        path.write_text(json.dumps({"fleet": "web", "etcd": [f"127.0.0.1:{client}"], "tls": {"ca": "ca.pem"}}), encoding="ascii")
+
+        self.assertTrue(
+            comes(answers),
+            (self.folder / "etcd.log").read_text(encoding="utf-8", errors="replace")[-2000:],
+        )
+        path.write_text(
+            json.dumps({"fleet": "web", "etcd": [f"127.0.0.1:{client}"], "tls": {"ca": "ca.pem"}}),
+            encoding="ascii",
+        )
         with self.assertRaisesRegex(StoreFault, "TLS fails"):
             EtcdStore(read_whole_fleet_file(str(path)).etcd, "web").read()
 
@@ -240,22 +321,36 @@ class Demonstration(unittest.TestCase):
     def test_each_request_that_no_revision_answers_has_failed(self) -> None:
         clients = Clients(Address("127.0.0.1", 1))
         good = Answered(0.0, 0.1, 200, "web-v1", "web-1")
-        bad = (good._replace(status=0), good._replace(status=503), good._replace(revision=""), good._replace(revision="<html><body>"),
-               good._replace(status=502, revision=""))
+        bad = (
+            good._replace(status=0),
+            good._replace(status=503),
+            good._replace(revision=""),
+            good._replace(revision="<html><body>"),
+            good._replace(status=502, revision=""),
+        )
         for answered in (good, *bad):
             clients.take(answered)
-        self.assertEqual((clients.count, clients.failed, clients.failures), (1 + len(bad), len(bad), list(bad)))
+        self.assertEqual(
+            (clients.count, clients.failed, clients.failures), (1 + len(bad), len(bad), list(bad))
+        )
         self.assertEqual(dict(clients.part()), {("web-1", "web-v1"): 1})
         self.assertEqual(dict(clients.part()), {})
 
     def test_it_names_the_packages_that_it_needs(self) -> None:
         told = io.StringIO()
-        with mock.patch.object(shutil, "which", return_value=None), contextlib.redirect_stderr(told):
+        with mock.patch.object(shutil, "which", return_value=None), contextlib.redirect_stderr(
+            told
+        ):
             self.assertEqual(demonstration().main(), 1)
-        self.assertEqual(told.getvalue(), "the demonstration needs these packages: apt-get install etcd-server haproxy curl\n")
+        self.assertEqual(
+            told.getvalue(),
+            "the demonstration needs these packages: apt-get install etcd-server haproxy curl\n",
+        )
 
     def test_a_program_that_is_not_on_the_path_of_users_is_found(self) -> None:
-        with tempfile.TemporaryDirectory() as folder, mock.patch.dict(os.environ, {"PATH": "/nowhere"}):
+        with tempfile.TemporaryDirectory() as folder, mock.patch.dict(
+            os.environ, {"PATH": "/nowhere"}
+        ):
             path = pathlib.Path(folder, "haproxy")
             path.touch(0o755)
             with mock.patch("support.fleet.demonstration.SYSTEM_FOLDERS", (folder,)):

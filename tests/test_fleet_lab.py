@@ -1,4 +1,5 @@
-"""The hosts and programs of a fleet's drill, before a stand-in for the switch: what they record, their faults, and that all ends."""
+"""The hosts and programs of a fleet's drill, before a stand-in for the switch: what they record,
+their faults, and that all ends."""
 import concurrent.futures
 import contextlib
 import os
@@ -27,12 +28,31 @@ MISSING = missing_programs()
 
 def switch_words(lab: Lab, host: str) -> Sequence[str]:
     places = lab.network.addresses(host)
-    return [sys.executable, "-B", "-m", "tests.stand_in_switch", "serve", "--active", str(places.active.port), "--control",
-            str(places.control.port), "--preview", str(places.preview.port)]
+    return [
+        sys.executable,
+        "-B",
+        "-m",
+        "tests.stand_in_switch",
+        "serve",
+        "--active",
+        str(places.active.port),
+        "--control",
+        str(places.control.port),
+        "--preview",
+        str(places.preview.port),
+    ]
 
 
 def lab_in(folder: str, network: Network) -> Lab:
-    return Lab(pathlib.Path(folder), HOSTS, revisions=3, network=network, switch=switch_words, agent=None, is_quiet=True)
+    return Lab(
+        pathlib.Path(folder),
+        HOSTS,
+        revisions=3,
+        network=network,
+        switch=switch_words,
+        agent=None,
+        is_quiet=True,
+    )
 
 
 def processes_in(folder: str) -> list[str]:
@@ -70,7 +90,9 @@ class Base(unittest.TestCase):
 
     def open(self, lab: Lab, host: str) -> None:
         first, second = lab.ports_of(1)
-        self.assertTrue(comes(lambda: lab.send(host, f"open web-1 {first} {second}").printed == "ok 0\n"))
+        self.assertTrue(
+            comes(lambda: lab.send(host, f"open web-1 {first} {second}").printed == "ok 0\n")
+        )
         self.assertEqual(lab.send(host, "available 1 2").printed, "ok 0\n")
 
     def check_seen(self, lab: Lab, host: str, active: str) -> None:
@@ -93,16 +115,35 @@ class Base(unittest.TestCase):
                 run = lab.record()
             self.assertEqual(processes_in(folder), [])
         first, second, deleted = run.events
-        self.assertEqual([first, second, deleted], [Event(first.revision, "plan", "first", first.revision),
-                                                    Event(second.revision, "plan", "second", first.revision),
-                                                    Event(deleted.revision, "plan", None)])
-        self.assertEqual([(outage.what, outage.host) for outage in run.outages], [("switch", "b"), ("etcd", "c"), *self.cut_outages()])
+        self.assertEqual(
+            [first, second, deleted],
+            [
+                Event(first.revision, "plan", "first", first.revision),
+                Event(second.revision, "plan", "second", first.revision),
+                Event(deleted.revision, "plan", None),
+            ],
+        )
+        self.assertEqual(
+            [(outage.what, outage.host) for outage in run.outages],
+            [("switch", "b"), ("etcd", "c"), *self.cut_outages()],
+        )
         self.assertGreater(len(run.polls), 20)
-        self.assertEqual({request.host for request in run.requests if request.status == 200}, set(HOSTS))
-        self.assertEqual({request.revision for request in run.requests if request.host == "a" and request.revision}, {"web-1", "web-2"})
+        self.assertEqual(
+            {request.host for request in run.requests if request.status == 200}, set(HOSTS)
+        )
+        self.assertEqual(
+            {
+                request.revision
+                for request in run.requests
+                if request.host == "a" and request.revision
+            },
+            {"web-1", "web-2"},
+        )
         self.assertEqual(list(rule_5(Run(run._replace(events=[])))), [])
         self.assertTrue([look for look in run.looks["b"] if not look.is_up])
-        pauses = [later.begun - look.begun for look, later in zip(run.looks["a"], run.looks["a"][1:])]
+        pauses = [
+            later.begun - look.begun for look, later in zip(run.looks["a"], run.looks["a"][1:])
+        ]
         self.assertTrue(is_within(statistics.median(pauses), 0.3), pauses)
 
     def cut_outages(self) -> list[tuple[str, str]]:
@@ -110,7 +151,12 @@ class Base(unittest.TestCase):
 
     def check_deploy(self, lab: Lab) -> None:
         first, second = lab.ports_of(2)
-        for line in (f"deploy web-2 {first} {second}", "available 2 2", "verdict pre successful", "promote"):
+        for line in (
+            f"deploy web-2 {first} {second}",
+            "available 2 2",
+            "verdict pre successful",
+            "promote",
+        ):
             self.assertRegex(lab.send("a", line).printed, r"^ok \d\n$")
         self.check_seen(lab, "a", "web-2")
         self.check_seen(lab, "b", "web-1")
@@ -183,12 +229,20 @@ class Ends(unittest.TestCase):
 class EndsWithItsScript(unittest.TestCase):
     def test_by_a_signal(self) -> None:
         # a shell without job control lets what it starts behind it ignore SIGINT
-        text = ("import signal, sys, time\nfrom support.fleet.hosts import OneHost\nfrom tests.test_fleet_lab import lab_in, HOSTS\n"
-                "signal.signal(signal.SIGINT, signal.default_int_handler)\nwith lab_in(sys.argv[1], OneHost(HOSTS)):\n    print('up', flush=True)\n    time.sleep(60)\n")
+        text = (
+            "import signal, sys, time\nfrom support.fleet.hosts import OneHost\nfrom tests.test_fleet_lab import lab_in, HOSTS\n"
+            "signal.signal(signal.SIGINT, signal.default_int_handler)\nwith lab_in(sys.argv[1], OneHost(HOSTS)):\n    print('up', flush=True)\n    time.sleep(60)\n"
+        )
         for number in (signal.SIGTERM, signal.SIGINT):
             with self.subTest(number), tempfile.TemporaryDirectory() as folder:
-                script = subprocess.Popen([sys.executable, "-B", "-c", text, folder], cwd=TOP, env={**os.environ, **PATHS},
-                                          stdout=subprocess.PIPE, stderr=subprocess.DEVNULL, text=True)
+                script = subprocess.Popen(
+                    [sys.executable, "-B", "-c", text, folder],
+                    cwd=TOP,
+                    env={**os.environ, **PATHS},
+                    stdout=subprocess.PIPE,
+                    stderr=subprocess.DEVNULL,
+                    text=True,
+                )
                 assert script.stdout
                 with script.stdout:
                     self.assertEqual(script.stdout.readline(), "up\n")

@@ -5,9 +5,35 @@ import unittest
 from collections.abc import Mapping
 
 from bg_switch_tools.controller.plan import PlannedRevision
-from bg_switch_tools.fleet.leader import Decision, StageClock, Waited, Write, awaited_of, decide, decision_of
-from bg_switch_tools.fleet.record import (ABORT, ABORTED, DEPLOYING, FAILED, FOLLOWS, PASSED, PROMOTE, PROMOTING, READY, STATES,
-                                          SUCCESSFUL, TESTING, WORKING, MachineReport, PersonOrder, Record, Unreadable, View)
+from bg_switch_tools.fleet.leader import (
+    Decision,
+    StageClock,
+    Waited,
+    Write,
+    awaited_of,
+    decide,
+    decision_of,
+)
+from bg_switch_tools.fleet.record import (
+    ABORT,
+    ABORTED,
+    DEPLOYING,
+    FAILED,
+    FOLLOWS,
+    PASSED,
+    PROMOTE,
+    PROMOTING,
+    READY,
+    STATES,
+    SUCCESSFUL,
+    TESTING,
+    WORKING,
+    MachineReport,
+    PersonOrder,
+    Record,
+    Unreadable,
+    View,
+)
 from bg_switch_tools.fleet.store import Compare, Key, Snapshot
 
 V1, V2 = PlannedRevision("web-v1", (9101,)), PlannedRevision("web-v2", (9201,))
@@ -21,7 +47,9 @@ def plan_text(*names: str, progress: Mapping[str, object] | None = None, **fleet
     return json.dumps({"revisions": revisions, "progress": progress or {}, "fleet": fleet})
 
 
-def told(state: str, attempt: int = PLAN_ID, reason: str = "", stable: str = "web-v1") -> MachineReport:
+def told(
+    state: str, attempt: int = PLAN_ID, reason: str = "", stable: str = "web-v1"
+) -> MachineReport:
     return MachineReport("m", attempt, state, reason, stable=stable)
 
 
@@ -54,7 +82,10 @@ class Decisions(unittest.TestCase):
         return decision_of(View(self.snapshot()), waited)
 
     def report(self, **states: str) -> None:
-        self.reports = {host: told(state, reason="why" if state == FAILED else "") for host, state in states.items()}
+        self.reports = {
+            host: told(state, reason="why" if state == FAILED else "")
+            for host, state in states.items()
+        }
 
     def put(self, stage: str, reason: str = "", missing: tuple[str, ...] = ()) -> Record:
         """The record of the attempt, with another stage."""
@@ -76,11 +107,17 @@ class Begins(Decisions):
         self.report(a=WORKING, b=WORKING)
         for stable, live in (("", V1), ("web-v1", V1), ("web-v2", V2)):
             self.reports = {host: told(WORKING, 0, stable=stable) for host in self.members}
-            self.assertEqual(self.decision(), Decision(Record(0, live, live, SUCCESSFUL, "the fleet begins with it"), ("a", "b")))
+            self.assertEqual(
+                self.decision(),
+                Decision(Record(0, live, live, SUCCESSFUL, "the fleet begins with it"), ("a", "b")),
+            )
 
     def test_the_first_record_of_machines_that_differ(self) -> None:
         self.record = None
-        self.reports = {"a": told(WORKING, 0, stable="web-v2"), "b": told(WORKING, 0, stable="web-v1")}
+        self.reports = {
+            "a": told(WORKING, 0, stable="web-v2"),
+            "b": told(WORKING, 0, stable="web-v1"),
+        }
         decision = self.decision()
         self.assertEqual(decision and decision.record and decision.record.revision, V1)
 
@@ -100,11 +137,16 @@ class Begins(Decisions):
         self.record = None
         self.reports = {host: told(WORKING, 0, stable="web-v9") for host in self.members}
         self.assertIsNone(self.decision())
-        self.assertEqual(awaited_of(self.snapshot()), ["a plan that names the stable revision of each member"])
+        self.assertEqual(
+            awaited_of(self.snapshot()), ["a plan that names the stable revision of each member"]
+        )
 
     def test_another_plan_begins_an_attempt(self) -> None:
         for stage in (ABORTED, SUCCESSFUL):
-            for plan_id in (PLAN_ID + 1, PLAN_ID - 1):  # an etcd that was filled from a backup counts from a lower revision
+            for plan_id in (
+                PLAN_ID + 1,
+                PLAN_ID - 1,
+            ):  # an etcd that was filled from a backup counts from a lower revision
                 self.record, self.plan_id = Record(PLAN_ID, V1, V1, stage), plan_id
                 self.assertEqual(self.decision(), Decision(Record(plan_id, V2, V1, DEPLOYING)))
 
@@ -116,7 +158,11 @@ class Begins(Decisions):
         self.assertEqual(self.decision(), Decision(Record(PLAN_ID + 1, V1, V1, SUCCESSFUL, same)))
 
     def test_after_an_undo_the_attempt_goes_back(self) -> None:
-        self.record, self.plan, self.plan_id = self.put(SUCCESSFUL), plan_text("web-v2", "web-v1"), PLAN_ID + 1
+        self.record, self.plan, self.plan_id = (
+            self.put(SUCCESSFUL),
+            plan_text("web-v2", "web-v1"),
+            PLAN_ID + 1,
+        )
         self.assertEqual(self.decision(), Decision(Record(PLAN_ID + 1, V1, V2, DEPLOYING)))
 
     def test_an_attempt_of_the_same_plan_is_over(self) -> None:
@@ -158,9 +204,13 @@ class Promotes(Decisions):
         self.assertEqual(self.decision(Waited(5)), Decision(self.put(PROMOTING), ("a", "b")))
 
     def test_a_person_promotes(self) -> None:
-        self.plan, self.order = plan_text(by_hand=True, seconds=5), PersonOrder(PROMOTE, PLAN_ID, "ann")
+        self.plan, self.order = plan_text(by_hand=True, seconds=5), PersonOrder(
+            PROMOTE, PLAN_ID, "ann"
+        )
         self.report(a=READY, b=READY)
-        self.assertEqual(self.decision(), Decision(self.put(PROMOTING, "ordered by ann"), ("a", "b"), True))
+        self.assertEqual(
+            self.decision(), Decision(self.put(PROMOTING, "ordered by ann"), ("a", "b"), True)
+        )
         self.order = None
         self.assertIsNone(self.decision(LONG))
 
@@ -204,7 +254,9 @@ class Missing(Decisions):
 
     def test_the_attempt_goes_on_without_it(self) -> None:
         self.report(a=READY, b=READY)
-        self.assertEqual(self.decision(), Decision(self.put(PROMOTING, missing=("c",)), ("a", "b", "c")))
+        self.assertEqual(
+            self.decision(), Decision(self.put(PROMOTING, missing=("c",)), ("a", "b", "c"))
+        )
 
     def test_a_second_one_is_waited_for(self) -> None:
         self.report(a=READY)
@@ -219,7 +271,11 @@ class Missing(Decisions):
         self.record = self.put(PROMOTING, missing=("c",))
         for state in STATES:
             self.report(a=PASSED, b=PASSED, c=state)
-            self.assertEqual(self.decision(), Decision(self.put(SUCCESSFUL, missing=("c",)), ("a", "b", "c")), state)
+            self.assertEqual(
+                self.decision(),
+                Decision(self.put(SUCCESSFUL, missing=("c",)), ("a", "b", "c")),
+                state,
+            )
 
     def test_it_counts_as_missing_to_the_end(self) -> None:
         self.record = self.put(PROMOTING, missing=("c",))
@@ -230,7 +286,9 @@ class Missing(Decisions):
     def test_one_that_goes_away_while_promoting(self) -> None:
         self.record = self.put(PROMOTING)
         self.report(a=PASSED, c=PASSED)
-        self.assertEqual(self.decision(), Decision(self.put(SUCCESSFUL, missing=("b",)), ("a", "b", "c")))
+        self.assertEqual(
+            self.decision(), Decision(self.put(SUCCESSFUL, missing=("b",)), ("a", "b", "c"))
+        )
 
     def test_not_all_may_be_away(self) -> None:
         self.members = ["a"]
@@ -251,25 +309,35 @@ class Ends(Decisions):
         for self.record in self.each_stage():
             for state in STATES:
                 self.report(a=state, b=state)
-                self.assertEqual(self.decision(), Decision(self.put(ABORTED, "ordered by ann"), (), True))
+                self.assertEqual(
+                    self.decision(), Decision(self.put(ABORTED, "ordered by ann"), (), True)
+                )
 
     def test_another_plan_was_put(self) -> None:
         for self.record in self.each_stage():
             for self.plan_id in (PLAN_ID + 1, PLAN_ID - 1):
                 self.report(a=PASSED, b=PASSED)
-                self.assertEqual(self.decision(), Decision(self.put(ABORTED, "another plan was put")))
+                self.assertEqual(
+                    self.decision(), Decision(self.put(ABORTED, "another plan was put"))
+                )
 
     def test_no_progress(self) -> None:
         self.report(a=WORKING)
         self.plan = plan_text(progress={"seconds": 9, "abort": True})
         self.assertIsNone(self.decision(Waited(0, 8.9, 0)))
-        self.assertEqual(self.decision(Waited(0, 9, 0)), Decision(self.put(ABORTED, "no progress in 9 seconds: a, b"), ("a", "b")))
+        self.assertEqual(
+            self.decision(Waited(0, 9, 0)),
+            Decision(self.put(ABORTED, "no progress in 9 seconds: a, b"), ("a", "b")),
+        )
         self.plan = plan_text(progress={"seconds": 9, "abort": False})
         self.assertIsNone(self.decision(Waited(0, 1e9, 1e9)))
 
     def test_no_progress_without_a_member(self) -> None:
         self.members, self.plan = [], plan_text(progress={"seconds": 9, "abort": True})
-        self.assertEqual(self.decision(Waited(0, 9, 0)), Decision(self.put(ABORTED, "no progress in 9 seconds: there is no member")))
+        self.assertEqual(
+            self.decision(Waited(0, 9, 0)),
+            Decision(self.put(ABORTED, "no progress in 9 seconds: there is no member")),
+        )
 
     def test_two_revisions_are_live_for_a_bounded_time(self) -> None:
         self.record, self.plan = self.put(PROMOTING), plan_text(promoting_seconds=40)
@@ -293,28 +361,49 @@ class Ends(Decisions):
 
 
 class Writes(Decisions):
-    ALWAYS = {Compare("leader", "created", CREATED), Compare("members/", "changed", 60), Compare("attempt", "changed", 30),
-              Compare("plan", "changed", PLAN_ID)}
+    ALWAYS = {
+        Compare("leader", "created", CREATED),
+        Compare("members/", "changed", 60),
+        Compare("attempt", "changed", 30),
+        Compare("plan", "changed", PLAN_ID),
+    }
 
     def test_each_write_compares_what_it_rests_on(self) -> None:
         self.plan = plan_text(max_missing=1)
         self.report(a=READY)
-        self.assertEqual(set(self.written().compares), self.ALWAYS | {Compare("machines/a", "changed", 40), Compare("machines/b", "changed", 0)})
+        self.assertEqual(
+            set(self.written().compares),
+            self.ALWAYS
+            | {Compare("machines/a", "changed", 40), Compare("machines/b", "changed", 0)},
+        )
         self.report(a=READY, b=FAILED)
-        self.assertEqual(set(self.written().compares), self.ALWAYS | {Compare("machines/b", "changed", 41)})
+        self.assertEqual(
+            set(self.written().compares), self.ALWAYS | {Compare("machines/b", "changed", 41)}
+        )
         self.order = PersonOrder(ABORT, PLAN_ID, "ann")
-        self.assertEqual(set(self.written().compares), self.ALWAYS | {Compare("order", "changed", 50)})
+        self.assertEqual(
+            set(self.written().compares), self.ALWAYS | {Compare("order", "changed", 50)}
+        )
 
     def test_what_is_written(self) -> None:
         self.report(a=READY, b=READY)
-        write, record = self.written(), dataclasses.replace(self.put(PROMOTING), by=CREATED, time=1000)
-        self.assertEqual((write.puts, write.deletes, write.record), ({"attempt": record.text()}, (), record))
+        write, record = self.written(), dataclasses.replace(
+            self.put(PROMOTING), by=CREATED, time=1000
+        )
+        self.assertEqual(
+            (write.puts, write.deletes, write.record), ({"attempt": record.text()}, (), record)
+        )
 
     def test_an_order_that_is_answered_is_deleted(self) -> None:
         self.order = PersonOrder(ABORT, PLAN_ID, "ann")
-        self.assertEqual((list(self.written().puts), self.written().deletes), (["attempt"], ("order",)))
+        self.assertEqual(
+            (list(self.written().puts), self.written().deletes), (["attempt"], ("order",))
+        )
         self.order = PersonOrder(ABORT, 1, "ann")
-        self.assertEqual((self.written().puts, self.written().deletes, self.written().record), ({}, ("order",), None))
+        self.assertEqual(
+            (self.written().puts, self.written().deletes, self.written().record),
+            ({}, ("order",), None),
+        )
 
     def test_what_can_not_be_read_decides_nothing(self) -> None:
         self.plan = "{"
@@ -324,7 +413,11 @@ class Writes(Decisions):
         snapshot = self.snapshot()
         newer = json.dumps({**json.loads(snapshot.keys["attempt"].value), "version": 2})
         with self.assertRaisesRegex(Unreadable, "version is 2"):
-            decide(snapshot._replace(keys={**snapshot.keys, "attempt": Key(newer, 3, 30, 0)}), CREATED, LONG)
+            decide(
+                snapshot._replace(keys={**snapshot.keys, "attempt": Key(newer, 3, 30, 0)}),
+                CREATED,
+                LONG,
+            )
 
     def test_a_report_that_can_not_be_read_has_no_word(self) -> None:
         self.report(a=READY, b=READY)
@@ -334,7 +427,9 @@ class Writes(Decisions):
 
     def test_an_order_that_can_not_be_read_is_dropped(self) -> None:
         snapshot = self.snapshot()
-        write = decide(snapshot._replace(keys={**snapshot.keys, "order": Key("x", 50, 50, 0)}), CREATED, LONG)
+        write = decide(
+            snapshot._replace(keys={**snapshot.keys, "order": Key("x", 50, 50, 0)}), CREATED, LONG
+        )
         self.assertEqual(write and (write.puts, write.deletes), ({}, ("order",)))
 
 

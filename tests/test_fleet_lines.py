@@ -1,4 +1,5 @@
-"""A controller whose lines come from the record of a fleet, before a fake switch, with real endpoints and analyses."""
+"""A controller whose lines come from the record of a fleet, before a fake switch, with real
+endpoints and analyses."""
 import contextlib
 import io
 import json
@@ -21,8 +22,19 @@ from bg_switch_tools.fleet.fleet_memory import FleetMemory
 from bg_switch_tools.fleet.fleet_plan import MachineSettings
 from bg_switch_tools.fleet.machine import FRESH, Machine
 from bg_switch_tools.fleet.machine_state import MachineStateFile
-from bg_switch_tools.fleet.record import (ABORTED, DEPLOYING, FAILED, FOLLOWS, PASSED, PROMOTING, READY, SUCCESSFUL, MachineReport,
-                                          Record, read_machine_report)
+from bg_switch_tools.fleet.record import (
+    ABORTED,
+    DEPLOYING,
+    FAILED,
+    FOLLOWS,
+    PASSED,
+    PROMOTING,
+    READY,
+    SUCCESSFUL,
+    MachineReport,
+    Record,
+    read_machine_report,
+)
 from bg_switch_tools.switch.connection import Connection
 from tests.fake_switch import FakeSwitch
 from tests.memory_store import Keys, MemoryStore
@@ -32,7 +44,8 @@ PAUSE = 0.02  # seconds between two rounds
 
 
 class FleetLinesCase(unittest.TestCase):
-    """A machine whose switch has a pause and an analysis after the switch, which passes while the file `good` is there."""
+    """A machine whose switch has a pause and an analysis after the switch, which passes while the
+    file `good` is there."""
 
     def setUp(self) -> None:
         self.stack = self.enterContext(contextlib.ExitStack())
@@ -43,7 +56,10 @@ class FleetLinesCase(unittest.TestCase):
         for pair in self.endpoints.values():
             for endpoint in pair:
                 self.stack.callback(endpoint.stop)
-        self.v1, self.v2 = (PlannedRevision(name, tuple(endpoint.port for endpoint in pair)) for name, pair in self.endpoints.items())
+        self.v1, self.v2 = (
+            PlannedRevision(name, tuple(endpoint.port for endpoint in pair))
+            for name, pair in self.endpoints.items()
+        )
         self.switch = FakeSwitch("pause", "post")
         self.stack.callback(self.switch.kill)
         self.keys = Keys(time.monotonic)
@@ -55,16 +71,37 @@ class FleetLinesCase(unittest.TestCase):
 
     def put_plan(self) -> None:
         revisions = [{"name": one.name, "ports": list(one.ports)} for one in (self.v1, self.v2)]
-        self.person.write([], {"plan": json.dumps({"revisions": revisions, "analyses": {"post": "errors"},
-                                                   "health": {"interval": 0.1, "timeout": 0.5}})})
+        self.person.write(
+            [],
+            {
+                "plan": json.dumps(
+                    {
+                        "revisions": revisions,
+                        "analyses": {"post": "errors"},
+                        "health": {"interval": 0.1, "timeout": 0.5},
+                    }
+                )
+            },
+        )
 
     def put(self, stage: str, revision: PlannedRevision | None = None) -> None:
-        self.person.write([], {"attempt": Record(self.keys.keys["plan"].changed, revision or self.v2, self.v1, stage).text()})
+        self.person.write(
+            [],
+            {
+                "attempt": Record(
+                    self.keys.keys["plan"].changed, revision or self.v2, self.v1, stage
+                ).text()
+            },
+        )
 
     def start(self, commands: Commands = Commands()) -> None:
         """Starts the agent, as after a restart of its machine."""
         file = MachineStateFile(str(pathlib.Path(self.folder, "fleet.json")))
-        judge = (sys.executable, "-c", f"import os, sys; sys.exit(not os.path.exists({str(self.good)!r}))")
+        judge = (
+            sys.executable,
+            "-c",
+            f"import os, sys; sys.exit(not os.path.exists({str(self.good)!r}))",
+        )
         settings = MachineSettings(self.switch.port, {"errors": judge}, commands)
         machine = Machine("a", "m1", settings, file.write, file.read())
         self.store = MemoryStore(self.keys, "a")
@@ -74,8 +111,15 @@ class FleetLinesCase(unittest.TestCase):
         assert plan is not None
         probes = Probes()
         self.stack.callback(probes.stop)
-        self.controller = Controller(files_beside(str(pathlib.Path(self.folder, "fleet.json"))), plan, Log(self.out, False), probes,
-                                     Makers(lambda *told: FleetMemory(machine, *told), lambda parts: FleetLines(machine, parts)))
+        self.controller = Controller(
+            files_beside(str(pathlib.Path(self.folder, "fleet.json"))),
+            plan,
+            Log(self.out, False),
+            probes,
+            Makers(
+                lambda *told: FleetMemory(machine, *told), lambda parts: FleetLines(machine, parts)
+            ),
+        )
         self.stack.callback(self.controller.end)
 
     def do_round(self) -> None:
@@ -122,12 +166,21 @@ class Attempts(FleetLinesCase):
         self.put(PROMOTING)
         self.rounds_to(PASSED)
         self.some_rounds()
-        self.assertEqual((self.switch.book.phase, self.switch.book.active, self.switch.book.stable), ("postAnalysis", 2, 1))
+        self.assertEqual(
+            (self.switch.book.phase, self.switch.book.active, self.switch.book.stable),
+            ("postAnalysis", 2, 1),
+        )
         self.put(SUCCESSFUL)
         self.rounds_to(FOLLOWS)
-        self.assertEqual(self.own_lines(), [f"open {self.v1.words}", self.words(self.v2), "promote", "verdict post successful"])
+        self.assertEqual(
+            self.own_lines(),
+            [f"open {self.v1.words}", self.words(self.v2), "promote", "verdict post successful"],
+        )
         self.assertEqual((self.switch.book.phase, self.switch.book.stable), ("steady", 2))
-        for text in ("it is opened with web-v1, the fleet's stable revision", f"promotes {self.v2.name} by attempt"):
+        for text in (
+            "it is opened with web-v1, the fleet's stable revision",
+            f"promotes {self.v2.name} by attempt",
+        ):
             self.assertIn(text, self.out.getvalue())
 
     def test_the_fleet_aborts(self) -> None:
@@ -173,6 +226,7 @@ class Attempts(FleetLinesCase):
             if text.startswith("promotes ") and not slept:
                 slept.append(text)
                 time.sleep(FRESH + 0.1)
+
         with mock.patch.object(self.controller.log, "say", slow):
             self.do_round()
         self.assertEqual((self.switch.book.phase, len(slept)), ("paused", 1))
@@ -218,7 +272,9 @@ class Attempts(FleetLinesCase):
         self.put(SUCCESSFUL)
         self.rounds_until(lambda: self.switch.book.phase == "aborted")
         self.some_rounds()
-        self.assertEqual(self.own_lines()[1:], [self.words(self.v2), "promote", "verdict post failed"])
+        self.assertEqual(
+            self.own_lines()[1:], [self.words(self.v2), "promote", "verdict post failed"]
+        )
         self.assertEqual(self.told().reason, "catches up with web-v2: analysis post: failed")
 
 

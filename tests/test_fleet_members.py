@@ -29,19 +29,30 @@ class Added(Members):
     def test_new_ones_and_one_that_is_there(self) -> None:
         self.report("follows", "web-4")
         run = self.fleet("members", "add", "web-4", "web-2", "web-5", "web-4")
-        self.assertEqual(run, ("web-4 is a member\nweb-2 is a member already\nweb-5 is a member\n",
-                               "fleet: web-5 is away: no agent reports as web-5 yet\n", 0))
+        self.assertEqual(
+            run,
+            (
+                "web-4 is a member\nweb-2 is a member already\nweb-5 is a member\n",
+                "fleet: web-5 is away: no agent reports as web-5 yet\n",
+                0,
+            ),
+        )
         self.check_members(*HOSTS, "web-4", "web-5")
 
     def test_one_that_is_there_writes_nothing(self) -> None:
         before = self.keys.revision
-        self.assertEqual(self.fleet("members", "add", "web-2"), ("web-2 is a member already\n", "", 0))
+        self.assertEqual(
+            self.fleet("members", "add", "web-2"), ("web-2 is a member already\n", "", 0)
+        )
         self.assertEqual(self.keys.revision, before)
 
     def test_while_an_attempt_runs(self) -> None:
         self.begin()
         self.report("working", "web-4")
-        self.assertEqual(self.fleet("members", "add", "web-4").told, "fleet: attempt 6 of web-v2 is deploying, and counts web-4 too\n")
+        self.assertEqual(
+            self.fleet("members", "add", "web-4").told,
+            "fleet: attempt 6 of web-v2 is deploying, and counts web-4 too\n",
+        )
 
     def test_a_host_that_no_fleet_file_can_have(self) -> None:
         for host in ("Web-4", "web/4", "", "-4"):
@@ -51,12 +62,19 @@ class Added(Members):
     def test_no_more_than_a_transaction_of_etcd_compares(self) -> None:
         hosts = [f"host-{number}" for number in range(MOST_MEMBERS - len(HOSTS))]
         self.assertEqual(self.fleet("members", "add", *hosts).status, 0)
-        self.check_refused(f"nothing was changed: a fleet has at most {MOST_MEMBERS} members, and these would be {MOST_MEMBERS + 1}",
-                           "members", "add", "web-4")
+        self.check_refused(
+            f"nothing was changed: a fleet has at most {MOST_MEMBERS} members, and these would be {MOST_MEMBERS + 1}",
+            "members",
+            "add",
+            "web-4",
+        )
 
     def test_another_one_adds_meanwhile(self) -> None:
         self.store.before_writes = [lambda: self.put(f"{MEMBERS}web-4", "")]
-        self.assertEqual(self.fleet("members", "add", "web-4", "web-5").printed, "web-4 is a member already\nweb-5 is a member\n")
+        self.assertEqual(
+            self.fleet("members", "add", "web-4", "web-5").printed,
+            "web-4 is a member already\nweb-5 is a member\n",
+        )
         self.check_members(*HOSTS, "web-4", "web-5")
 
     def test_the_bound_holds_for_two_who_add_at_once(self) -> None:
@@ -66,25 +84,42 @@ class Added(Members):
         self.assertEqual(self.fleet("members", "add", "web-5").status, 1)
 
     def test_others_that_never_end(self) -> None:
-        self.store.before_writes = [lambda number=number: self.put(f"{MEMBERS}web-{number}", "")  # type: ignore[misc]
-                                    for number in range(4, 4 + person_members.TRIES)]
+        self.store.before_writes = [
+            lambda number=number: self.put(f"{MEMBERS}web-{number}", "")  # type: ignore[misc]
+            for number in range(4, 4 + person_members.TRIES)
+        ]
         self.assertEqual(self.fleet("members", "add", "other"), ("", f"fleet: {CHANGING}\n", 1))
 
 
 class Removed(Members):
     def test_one_and_two(self) -> None:
         self.begin("successful")
-        self.assertEqual(self.fleet("members", "remove", "web-2"), ("web-2 is no member any more\n", "", 0))
+        self.assertEqual(
+            self.fleet("members", "remove", "web-2"), ("web-2 is no member any more\n", "", 0)
+        )
         self.check_members("web-1", "web-3")
         self.assertIsNotNone(self.view.machine("web-2"))  # what a machine reports is its own
-        self.assertEqual(self.fleet("members", "remove", "web-1", "web-3", "web-1").printed,
-                         "web-1 is no member any more\nweb-3 is no member any more\n")
+        self.assertEqual(
+            self.fleet("members", "remove", "web-1", "web-3", "web-1").printed,
+            "web-1 is no member any more\nweb-3 is no member any more\n",
+        )
         self.check_members()
 
     def test_one_that_is_none(self) -> None:
-        self.check_refused("nothing was changed: no member is called web-9; the members are web-1, web-2, web-3", "members", "remove", "web-9")
-        self.check_refused("nothing was changed: no member is called web-8, web-9; the members are web-1, web-2, web-3", "members", "remove",
-                           "web-8", "web-1", "web-9")
+        self.check_refused(
+            "nothing was changed: no member is called web-9; the members are web-1, web-2, web-3",
+            "members",
+            "remove",
+            "web-9",
+        )
+        self.check_refused(
+            "nothing was changed: no member is called web-8, web-9; the members are web-1, web-2, web-3",
+            "members",
+            "remove",
+            "web-8",
+            "web-1",
+            "web-9",
+        )
         self.check_members(*HOSTS)
 
     def test_the_last_one_while_an_attempt_runs(self) -> None:
@@ -96,7 +131,12 @@ class Removed(Members):
     def test_the_last_one_while_a_plan_waits(self) -> None:
         self.begin("successful")
         plan_id = self.put_plan(V2, V3)
-        self.check_refused(f"nothing was changed: no member would be left for plan {plan_id}, which is not over", "members", "remove", *HOSTS)
+        self.check_refused(
+            f"nothing was changed: no member would be left for plan {plan_id}, which is not over",
+            "members",
+            "remove",
+            *HOSTS,
+        )
 
     def test_the_last_one_while_no_attempt_runs(self) -> None:
         for stage in ("successful", "aborted"):
@@ -123,14 +163,20 @@ class Removed(Members):
 
     def test_another_one_removes_it_meanwhile(self) -> None:
         self.store.before_writes = [lambda: self.delete(f"{MEMBERS}web-2")]
-        self.assertEqual(self.fleet("members", "remove", "web-2").told,
-                         "fleet: nothing was changed: no member is called web-2; the members are web-1, web-3\n")
+        self.assertEqual(
+            self.fleet("members", "remove", "web-2").told,
+            "fleet: nothing was changed: no member is called web-2; the members are web-1, web-3\n",
+        )
 
     def test_at_a_terminal(self) -> None:
         run = self.fleet("members", "remove", "web-2", lines="n\n", at_terminal=True)
-        self.assertEqual(run, ("", "remove web-2 of 3 members? [y/N] fleet: nothing was changed\n", 1))
+        self.assertEqual(
+            run, ("", "remove web-2 of 3 members? [y/N] fleet: nothing was changed\n", 1)
+        )
         self.check_members(*HOSTS)
-        self.assertEqual(self.fleet("members", "remove", "web-2", "--yes", at_terminal=True).status, 0)
+        self.assertEqual(
+            self.fleet("members", "remove", "web-2", "--yes", at_terminal=True).status, 0
+        )
 
     def test_a_machine_that_goes_on_reporting(self) -> None:
         self.put(MACHINES + "web-2", "{}")

@@ -1,4 +1,5 @@
-"""bin/fleet promote and abort: what is refused, what is written, what a leader makes of it, and races with others."""
+"""bin/fleet promote and abort: what is refused, what is written, what a leader makes of it, and
+races with others."""
 import unittest
 
 from bg_switch_tools.fleet.candidate import Candidate, Clocks
@@ -22,13 +23,17 @@ class Orders(WithFleet):
 class Put(Orders):
     def test_promote_where_all_are_ready(self) -> None:
         self.begin(state="ready")
-        self.assertEqual(self.fleet("promote"), ("promote is ordered for attempt 7 of web-v2\n", "", 0))
+        self.assertEqual(
+            self.fleet("promote"), ("promote is ordered for attempt 7 of web-v2\n", "", 0)
+        )
         self.check_put(PROMOTE)
 
     def test_promote_ends_the_wait_of_a_plan_that_waits_for_seconds(self) -> None:
         self.plan_id = self.put_plan(V1, V2, fleet={"seconds": 600})
         self.begin(state="ready")
-        self.assertEqual(self.fleet("promote")[::2], ("promote is ordered for attempt 8 of web-v2\n", 0))
+        self.assertEqual(
+            self.fleet("promote")[::2], ("promote is ordered for attempt 8 of web-v2\n", 0)
+        )
         self.check_put(PROMOTE)
 
     def test_promote_without_those_that_may_be_missing(self) -> None:
@@ -41,7 +46,9 @@ class Put(Orders):
     def test_abort_in_each_stage_that_runs(self) -> None:
         for stage in ("deploying", "promoting"):
             self.begin(stage)
-            self.assertEqual(self.fleet("abort"), ("abort is ordered for attempt 7 of web-v2\n", "", 0))
+            self.assertEqual(
+                self.fleet("abort"), ("abort is ordered for attempt 7 of web-v2\n", "", 0)
+            )
             self.check_put(ABORT)
             self.delete(ORDER)
 
@@ -73,20 +80,36 @@ class Put(Orders):
     def test_without_a_leader_it_stands(self) -> None:
         self.begin()
         self.delete(LEADER)
-        self.assertEqual(self.fleet("abort"), ("abort is ordered for attempt 7 of web-v2\n",
-                                               "fleet: no agent leads now: the order stands until one does\n", 0))
+        self.assertEqual(
+            self.fleet("abort"),
+            (
+                "abort is ordered for attempt 7 of web-v2\n",
+                "fleet: no agent leads now: the order stands until one does\n",
+                0,
+            ),
+        )
 
     def test_what_a_leader_makes_of_it(self) -> None:
         self.delete(LEADER)
-        leader = Candidate("web-1", MemoryStore(self.keys, "web-1"), lambda *_: None, Clocks(lambda: 0.0, lambda: 0.0))
+        leader = Candidate(
+            "web-1",
+            MemoryStore(self.keys, "web-1"),
+            lambda *_: None,
+            Clocks(lambda: 0.0, lambda: 0.0),
+        )
         leader.do_round()
-        for order, stage, reason in ((PROMOTE, "promoting", "ordered by alice"), (ABORT, "aborted", "ordered by alice")):
+        for order, stage, reason in (
+            (PROMOTE, "promoting", "ordered by alice"),
+            (ABORT, "aborted", "ordered by alice"),
+        ):
             self.begin(state="ready")
             self.assertFalse(leader.do_round())  # it waits for a person
             self.assertEqual(self.fleet(order).status, 0)
             self.assertTrue(leader.do_round())
             record = self.view.record
-            self.assertEqual(record and (record.id, record.stage, record.reason), (7, stage, reason))
+            self.assertEqual(
+                record and (record.id, record.stage, record.reason), (7, stage, reason)
+            )
             self.assertIsNone(self.view.order)
 
 
@@ -98,38 +121,60 @@ class Refused(Orders):
     def test_after_an_attempt(self) -> None:
         for order in (PROMOTE, ABORT):
             self.begin("aborted")
-            self.check_refused("attempt 7 of web-v2 was aborted already; `retry` begins it again", order)
+            self.check_refused(
+                "attempt 7 of web-v2 was aborted already; `retry` begins it again", order
+            )
             self.begin("successful")
-            self.check_refused("attempt 7 of web-v2 is successful already; `undo` takes the revision before it again", order)
+            self.check_refused(
+                "attempt 7 of web-v2 is successful already; `undo` takes the revision before it again",
+                order,
+            )
 
     def test_after_an_attempt_while_a_plan_waits(self) -> None:
         for stage, how in (("successful", "is successful"), ("aborted", "was aborted")):
             self.put_plan(V1, V2)
             self.put_record(stage)
             record, plan_id = self.view.record, self.put_plan(V2, V3)
-            self.check_refused(f"attempt {record.id if record else 0} of web-v2 {how} already, and plan {plan_id} waits for a leader; `undo` takes "
-                               "the plan back", "abort")
+            self.check_refused(
+                f"attempt {record.id if record else 0} of web-v2 {how} already, and plan {plan_id} waits for a leader; `undo` takes "
+                "the plan back",
+                "abort",
+            )
 
     def test_an_attempt_that_has_moved_on(self) -> None:
         self.put_plan(V2, V3)
         self.put_record("deploying", V3, V2)
         self.report("ready")
         for order in (PROMOTE, ABORT):
-            self.check_refused("attempt 7 is not that of the fleet now: attempt 8 of web-v3 is deploying", order, "--attempt", "7")
+            self.check_refused(
+                "attempt 7 is not that of the fleet now: attempt 8 of web-v3 is deploying",
+                order,
+                "--attempt",
+                "7",
+            )
 
     def test_promote_where_not_all_are_ready(self) -> None:
         self.begin()
         self.report("ready", "web-2")
         self.delete("machines/web-3")
-        self.check_refused("attempt 7 of web-v2 can't be promoted yet, since not all members are ready: web-1, web-3", "promote")
+        self.check_refused(
+            "attempt 7 of web-v2 can't be promoted yet, since not all members are ready: web-1, web-3",
+            "promote",
+        )
         for host in HOSTS:
             self.delete(MEMBERS + host)
-        self.check_refused("attempt 7 of web-v2 can't be promoted yet, since not all members are ready: there is no member", "promote")
+        self.check_refused(
+            "attempt 7 of web-v2 can't be promoted yet, since not all members are ready: there is no member",
+            "promote",
+        )
 
     def test_promote_of_reports_on_another_attempt(self) -> None:
         self.begin()
         self.report("ready", attempt=6)
-        self.check_refused("attempt 7 of web-v2 can't be promoted yet, since not all members are ready: web-1, web-2, web-3", "promote")
+        self.check_refused(
+            "attempt 7 of web-v2 can't be promoted yet, since not all members are ready: web-1, web-2, web-3",
+            "promote",
+        )
 
     def test_promote_twice(self) -> None:
         self.begin("promoting", "testing")
@@ -138,17 +183,25 @@ class Refused(Orders):
     def test_promote_of_an_attempt_that_another_plan_ends(self) -> None:
         self.begin(state="ready")
         self.put_plan(V2, V3)
-        self.check_refused("another plan was put, by which attempt 7 of web-v2 is aborted", "promote")
+        self.check_refused(
+            "another plan was put, by which attempt 7 of web-v2 is aborted", "promote"
+        )
 
     def test_while_another_order_stands(self) -> None:
         self.begin(state="ready")
         for standing, order in ((PROMOTE, PROMOTE), (ABORT, PROMOTE), (ABORT, ABORT)):
             self.put_order(standing)
-            self.check_refused(f"the order {standing} for attempt 7 of web-v2, by bob, stands already; no leader has answered it", order)
+            self.check_refused(
+                f"the order {standing} for attempt 7 of web-v2, by bob, stands already; no leader has answered it",
+                order,
+            )
 
     def test_a_record_of_another_version(self) -> None:
         self.put("attempt", '{"version": 2}')
-        self.check_refused("the record of the attempt can't be read: its version is 2, and this program knows version 1", "abort")
+        self.check_refused(
+            "the record of the attempt can't be read: its version is 2, and this program knows version 1",
+            "abort",
+        )
 
 
 class Races(Orders):
@@ -198,15 +251,24 @@ class Asked(Orders):
         question = "abort attempt 7 of web-v2, which is deploying? [y/N] "
         self.begin()
         for answer in ("n", "", "yess"):
-            self.assertEqual(self.fleet("abort", lines=f"{answer}\n", at_terminal=True), ("", f"{question}fleet: nothing was changed\n", 1))
+            self.assertEqual(
+                self.fleet("abort", lines=f"{answer}\n", at_terminal=True),
+                ("", f"{question}fleet: nothing was changed\n", 1),
+            )
         self.assertEqual(self.fleet("abort", lines="", at_terminal=True).status, 1)
         self.assertEqual(self.store.writes, 0)
-        self.assertEqual(self.fleet("abort", lines="y\n", at_terminal=True), ("abort is ordered for attempt 7 of web-v2\n", question, 0))
+        self.assertEqual(
+            self.fleet("abort", lines="y\n", at_terminal=True),
+            ("abort is ordered for attempt 7 of web-v2\n", question, 0),
+        )
         self.check_put(ABORT)
 
     def test_who_is_sure_is_not_asked(self) -> None:
         self.begin()
-        self.assertEqual(self.fleet("abort", "--yes", at_terminal=True), ("abort is ordered for attempt 7 of web-v2\n", "", 0))
+        self.assertEqual(
+            self.fleet("abort", "--yes", at_terminal=True),
+            ("abort is ordered for attempt 7 of web-v2\n", "", 0),
+        )
 
     def test_what_moves_on_during_the_question(self) -> None:
         self.begin()

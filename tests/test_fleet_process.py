@@ -1,4 +1,5 @@
-"""The process of an agent, over a store in memory: its threads, and a store that is away or silent."""
+"""The process of an agent, over a store in memory: its threads, and a store that is away or
+silent."""
 import dataclasses
 import threading
 import time
@@ -22,8 +23,20 @@ class Rollouts(FleetProcessCase):
         self.put(self.v1, self.v2)
         self.await_stage("web-v2 successful")
         self.await_that(lambda: self.told_is("follows"), "the machine follows")
-        self.assertEqual(self.own_lines(), [f"open {self.v1.words}", f"deploy {self.v2.words}", "promote", "verdict post successful"])
-        for text in ("it is opened with web-v1, the fleet's stable revision", "a leads", "promotes web-v2 by attempt"):
+        self.assertEqual(
+            self.own_lines(),
+            [
+                f"open {self.v1.words}",
+                f"deploy {self.v2.words}",
+                "promote",
+                "verdict post successful",
+            ],
+        )
+        for text in (
+            "it is opened with web-v1, the fleet's stable revision",
+            "a leads",
+            "promotes web-v2 by attempt",
+        ):
             self.assertIn(text, self.out.getvalue())
         self.assertNotIn("the plan's first revision", self.out.getvalue())
 
@@ -41,7 +54,9 @@ class Rollouts(FleetProcessCase):
         self.put(self.v1, self.v2)
         self.started()
         self.await_stage("web-v2 successful")
-        self.assertIn("attempt 0 of web-v2: successful, the fleet begins with it", self.out.getvalue())
+        self.assertIn(
+            "attempt 0 of web-v2: successful, the fleet begins with it", self.out.getvalue()
+        )
         self.await_that(lambda: self.told_is("follows"), "the machine follows")
         self.assertEqual(self.own_lines(), [])
 
@@ -63,7 +78,8 @@ class Rollouts(FleetProcessCase):
 
 class StoreAway(FleetProcessCase):
     def fall_silent(self) -> None:
-        """From now on a call of the store has no answer before this test has ended. One waits, and the rounds at the switch go on."""
+        """From now on a call of the store has no answer before this test has ended. One waits, and
+        the rounds at the switch go on."""
         self.network.is_asked.clear()
         self.network.silence = SILENCE
         self.assertTrue(self.network.is_asked.wait(WAIT))
@@ -80,7 +96,9 @@ class StoreAway(FleetProcessCase):
         self.person.write([], {"attempt": dataclasses.replace(record, stage="promoting").text()})
         self.await_log("the store gives no answer, so nothing is switched here: it is away")
         time.sleep(1.5)
-        self.assertEqual((self.switch.book.phase, self.own_lines()[-1]), ("paused", f"deploy {self.v2.words}"))
+        self.assertEqual(
+            (self.switch.book.phase, self.own_lines()[-1]), ("paused", f"deploy {self.v2.words}")
+        )
         self.network.silence = None
         self.await_log("the store answers again, after")
         self.await_that(lambda: "promote" in self.own_lines(), "it is promoted")
@@ -92,7 +110,10 @@ class StoreAway(FleetProcessCase):
         self.await_log("the store gives no answer")
         self.fall_silent()
         self.endpoints["web-v1"][1].stop()
-        self.await_that(lambda: "available 1 1" in self.switch.lines, "the switch learns of an endpoint that is down")
+        self.await_that(
+            lambda: "available 1 1" in self.switch.lines,
+            "the switch learns of an endpoint that is down",
+        )
 
     def test_what_fails_goes_back_at_once_without_it(self) -> None:
         self.begun()
@@ -116,20 +137,30 @@ class StoreAway(FleetProcessCase):
 
         def hang(line: str) -> Sequence[str] | None:
             record = process.agent.machine.record
-            if line == "report" and record and record.stage == "promoting" and not going_on.is_set():
+            if (
+                line == "report"
+                and record
+                and record.stage == "promoting"
+                and not going_on.is_set()
+            ):
                 asked.set()
                 going_on.wait(WAIT)
             return answer(line)
+
         record = self.record()
         assert record is not None
         with mock.patch.object(self.switch.control, "answer", hang):
-            self.person.write([], {"attempt": dataclasses.replace(record, stage="promoting").text()})
+            self.person.write(
+                [], {"attempt": dataclasses.replace(record, stage="promoting").text()}
+            )
             self.assertTrue(asked.wait(WAIT))
             time.sleep(FRESH + 0.1)
             self.person.write([], {"attempt": dataclasses.replace(record, stage="aborted").text()})
             going_on.set()
             self.await_that(lambda: self.told_is("follows"), "the machine follows")
-        self.assertEqual(self.own_lines(), [f"open {self.v1.words}", f"deploy {self.v2.words}", "abort"])
+        self.assertEqual(
+            self.own_lines(), [f"open {self.v1.words}", f"deploy {self.v2.words}", "abort"]
+        )
 
     def test_it_is_away_when_the_agent_begins(self) -> None:
         """The switch is opened by what the agent before has kept."""
@@ -139,7 +170,9 @@ class StoreAway(FleetProcessCase):
         self.switch.start()
         self.network.silence = 0.1
         self.started()
-        self.await_that(lambda: self.own_lines() == [f"open {self.v1.words}"], "the switch is opened")
+        self.await_that(
+            lambda: self.own_lines() == [f"open {self.v1.words}"], "the switch is opened"
+        )
         self.network.silence = None
         self.await_log("the store answers again")
 
@@ -161,8 +194,13 @@ class StoreAway(FleetProcessCase):
         self.network.silence = 0.0
         self.await_that(lambda: read_agent_status(path.read_bytes()).lost > 0, "the status has it")
         status = read_agent_status(path.read_bytes())
-        self.assertTrue(0 < status.lost_seconds(status.lost + 7) <= 7 and status.read <= status.lost, status)
-        self.assertEqual((status.host, status.is_stale(time.time()), status.is_stale(time.time() + STALE)), ("a", False, True))
+        self.assertTrue(
+            0 < status.lost_seconds(status.lost + 7) <= 7 and status.read <= status.lost, status
+        )
+        self.assertEqual(
+            (status.host, status.is_stale(time.time()), status.is_stale(time.time() + STALE)),
+            ("a", False, True),
+        )
 
 
 class Hangs(FleetProcessCase):
@@ -175,8 +213,11 @@ class Hangs(FleetProcessCase):
         def hang() -> tuple[str | None, float]:
             going_on.wait(WAIT)
             return do_round()
+
         with mock.patch.object(process.rounds, "do_round", hang):
-            self.await_that(lambda: self.told() is None, "its report goes with its lease", 4 * LEASE)
+            self.await_that(
+                lambda: self.told() is None, "its report goes with its lease", 4 * LEASE
+            )
             going_on.set()
             self.await_log("the lease of the machine had ended")
         self.await_that(lambda: self.told_is("follows"), "it is back")
@@ -190,6 +231,7 @@ class Hangs(FleetProcessCase):
         def hang(line: str) -> Sequence[str] | None:
             going_on.wait(WAIT)
             return answer(line)
+
         with mock.patch.object(self.switch.control, "answer", hang):
             self.await_log("gave no answer in time")
             self.await_that(lambda: self.told_is("working"), "it is told")

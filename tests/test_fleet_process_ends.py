@@ -1,4 +1,5 @@
-"""How the process of an agent begins and ends, over a store in memory: its files, a second agent of its host, and unfit machines."""
+"""How the process of an agent begins and ends, over a store in memory: its files, a second agent of
+its host, and unfit machines."""
 import json
 import pathlib
 import subprocess
@@ -12,7 +13,13 @@ from bg_switch_tools.controller.plan import PlannedRevision
 from bg_switch_tools.controller.process_groups import identity
 from bg_switch_tools.controller.state_file import State, StateFile
 from bg_switch_tools.fleet.agent_files import StateKeeper, machine_id, path_of
-from bg_switch_tools.fleet.agent_process import AgentArguments, AgentProcess, clock, lease_seconds, start_faults
+from bg_switch_tools.fleet.agent_process import (
+    AgentArguments,
+    AgentProcess,
+    clock,
+    lease_seconds,
+    start_faults,
+)
 from bg_switch_tools.fleet.agent_rounds import ANSWER, CONNECT
 from bg_switch_tools.fleet.etcd_gateway import EtcdSettings
 from bg_switch_tools.fleet.fleet_file import FleetFile
@@ -42,6 +49,7 @@ class Ends(FleetProcessCase):
             asked.set()
             time.sleep(1)
             return refresh(lease)
+
         with mock.patch.object(store, "refresh", slow):
             self.assertTrue(asked.wait(WAIT))
             process.stop()
@@ -61,11 +69,17 @@ class Ends(FleetProcessCase):
         process = self.begun()
         marker = self.folder / "begun"
         words = f"import pathlib, time; pathlib.Path({str(marker)!r}).touch(); time.sleep(1000)"
-        process.agent.machine.settings = MachineSettings(self.switch.port, {"errors": (sys.executable, "-c", words)}, rollout=str(self.rollout))
+        process.agent.machine.settings = MachineSettings(
+            self.switch.port, {"errors": (sys.executable, "-c", words)}, rollout=str(self.rollout)
+        )
         self.put(self.v1, self.v2)
         self.await_that(marker.exists, "the analysis begins")
         controller = process.rounds.controller
-        assert controller is not None and controller.analyses.analysis is not None and controller.analyses.analysis.process is not None
+        assert (
+            controller is not None
+            and controller.analyses.analysis is not None
+            and controller.analyses.analysis.process is not None
+        )
         pid = controller.analyses.analysis.process.pid
         process.stop()
         self.await_that(lambda: identity(pid) is None, "the analysis is ended")
@@ -81,18 +95,25 @@ class Ends(FleetProcessCase):
         self.assertEqual(self.own_lines(), lines)
 
     def test_the_analysis_of_one_that_was_killed_is_ended(self) -> None:
-        """Also where the plan names neither the revision that was stable then nor any other one of it."""
-        left = subprocess.Popen([sys.executable, "-c", "import time; time.sleep(1000)"], start_new_session=True)
+        """Also where the plan names neither the revision that was stable then nor any other one of
+        it."""
+        left = subprocess.Popen(
+            [sys.executable, "-c", "import time; time.sleep(1000)"], start_new_session=True
+        )
         self.addCleanup(left.kill)
         (self.folder / "state").mkdir()
-        StateFile(str(self.folder / "state" / "web.a")).write(State(7, PlannedRevision("web-v0", (1, 2)), analysis=identity(left.pid)))
+        StateFile(str(self.folder / "state" / "web.a")).write(
+            State(7, PlannedRevision("web-v0", (1, 2)), analysis=identity(left.pid))
+        )
         self.begun()
         self.assertTrue(comes(lambda: left.poll() is not None, LEASE * 5), self.out.getvalue())
         self.assertIn("continues from the state file", self.out.getvalue())
 
     def test_a_fault_of_a_thread_ends_it(self) -> None:
         process = self.begun()
-        with mock.patch.object(process.agent, "fetch", side_effect=KeyError("a fault")), mock.patch("sys.stderr"):
+        with mock.patch.object(process.agent, "fetch", side_effect=KeyError("a fault")), mock.patch(
+            "sys.stderr"
+        ):
             self.await_that(process.stopping.is_set, "the process ends")
         self.assertTrue(process.has_fault)
 
@@ -103,10 +124,16 @@ class TwoOfOneHost(FleetProcessCase):
         value = self.keys()["machines/a"]
         second = self.started("other")
         self.await_that(second.stopping.is_set, "the second one ends")
-        self.assertRegex(second.refusal, r"^another machine reports as a: machines/a is of the machine [0-9a-f]{32}\.")
+        self.assertRegex(
+            second.refusal,
+            r"^another machine reports as a: machines/a is of the machine [0-9a-f]{32}\.",
+        )
         second.stop()
         self.assertEqual(self.keys()["machines/a"], value)
-        self.assertIn(f"this agent ends, unless the lease of the other one ends within {2 * LEASE} seconds", self.out.getvalue())
+        self.assertIn(
+            f"this agent ends, unless the lease of the other one ends within {2 * LEASE} seconds",
+            self.out.getvalue(),
+        )
         self.put(self.v1, self.v2)
         self.await_stage("web-v2 successful")
 
@@ -121,7 +148,9 @@ class TwoOfOneHost(FleetProcessCase):
         self.add("a")
         self.put(self.v1)
         lease = self.person.grant(LEASE)
-        self.person.write([], {"machines/a": json.dumps({**value, "machine": "before"})}, lease=lease)
+        self.person.write(
+            [], {"machines/a": json.dumps({**value, "machine": "before"})}, lease=lease
+        )
         process = self.started()
         self.await_log("another machine reports as a: machines/a is of the machine before")
         self.await_that(lambda: self.told_is("follows"), "it follows")
@@ -150,12 +179,19 @@ class UnfitMachines(FleetProcessCase):
         self.switch.kill()
         self.switch.lines.clear()
         self.switch.start()
-        self.await_that(lambda: (told := self.told()) is not None and "autoPromotionEnabled" in told.reason and not told.active, "the fleet is told")
+        self.await_that(
+            lambda: (told := self.told()) is not None
+            and "autoPromotionEnabled" in told.reason
+            and not told.active,
+            "the fleet is told",
+        )
         time.sleep(0.5)
         self.assertEqual(self.own_lines(), [])
         self.rollout.write_text(json.dumps(FIT), encoding="ascii")
         self.await_log("this machine is fit for the plan again")
-        self.await_that(lambda: self.own_lines() == [f"open {self.v1.words}"], "the switch is opened")
+        self.await_that(
+            lambda: self.own_lines() == [f"open {self.v1.words}"], "the switch is opened"
+        )
 
     def test_a_plan_with_a_port_of_the_switch_is_not_deployed(self) -> None:
         self.begun()
@@ -168,7 +204,14 @@ class UnfitMachines(FleetProcessCase):
         self.await_stage("web-v2 successful")
 
     def test_a_rollout_without_the_analysis_of_the_plan(self) -> None:
-        text = {"spec": {"replicas": 2, "strategy": {"blueGreen": {"autoPromotionEnabled": False, "postPromotionAnalysis": {}}}}}
+        text = {
+            "spec": {
+                "replicas": 2,
+                "strategy": {
+                    "blueGreen": {"autoPromotionEnabled": False, "postPromotionAnalysis": {}}
+                },
+            }
+        }
         self.rollout.write_text(json.dumps(text), encoding="ascii")
         self.begun()
         self.put(self.v1, self.v2, analyses={"pre": "errors", "post": "errors"})
@@ -182,18 +225,30 @@ class UnfitMachines(FleetProcessCase):
         one = PlannedRevision("web-v1", self.v1.ports[:1])
         self.put(one)
         process = self.started()
-        self.await_that(lambda: (told := self.told()) is not None and "the switch can't be opened with web-v1" in told.reason, "the fleet is told")
+        self.await_that(
+            lambda: (told := self.told()) is not None
+            and "the switch can't be opened with web-v1" in told.reason,
+            "the fleet is told",
+        )
         self.assertFalse(process.stopping.is_set())
 
 
 class Starts(unittest.TestCase):
     def file(self, rollout: str = "", host: str = "a") -> FleetFile:
-        return FleetFile("web", EtcdSettings(()), "/etc/bg", host, MachineSettings(8082, rollout=rollout) if host else None)
+        return FleetFile(
+            "web",
+            EtcdSettings(()),
+            "/etc/bg",
+            host,
+            MachineSettings(8082, rollout=rollout) if host else None,
+        )
 
     def test_what_no_agent_runs_by(self) -> None:
         self.assertRegex("\n".join(start_faults(self.file(host=""))), "it is one for people")
         self.assertRegex("\n".join(start_faults(self.file())), "^the fleet file has no key rollout")
-        self.assertEqual(start_faults(self.file("/absent")), ["/absent can't be read: No such file or directory"])
+        self.assertEqual(
+            start_faults(self.file("/absent")), ["/absent can't be read: No such file or directory"]
+        )
 
     def test_where_the_files_are(self) -> None:
         with mock.patch.dict("os.environ", {"STATE_DIRECTORY": "/var/lib/bg:/other"}):
@@ -216,10 +271,15 @@ class Starts(unittest.TestCase):
 class Files(FleetProcessCase):
     def test_an_id_is_kept_and_is_that_of_one_folder(self) -> None:
         said: list[str] = []
-        made = [machine_id(str(self.folder / name), lambda _, text: said.append(text)) for name in ("x", "x", "y")]
+        made = [
+            machine_id(str(self.folder / name), lambda _, text: said.append(text))
+            for name in ("x", "x", "y")
+        ]
         self.assertEqual((made[0] == made[1], made[0] == made[2], said), (True, False, []))
         (self.folder / "x.id").write_text("no id\n", encoding="ascii")
-        self.assertNotEqual(machine_id(str(self.folder / "x"), lambda _, text: said.append(text)), made[0])
+        self.assertNotEqual(
+            machine_id(str(self.folder / "x"), lambda _, text: said.append(text)), made[0]
+        )
 
     def test_a_folder_that_takes_no_file_is_told_once(self) -> None:
         said: list[str] = []

@@ -1,4 +1,5 @@
-"""bin/fleet FLEET.json agent at a real etcd: signals, a crash, a process that is stopped and woken, and an etcd that goes away."""
+"""bin/fleet FLEET.json agent at a real etcd: signals, a crash, a process that is stopped and woken,
+and an etcd that goes away."""
 import json
 import os
 import pathlib
@@ -36,7 +37,8 @@ sys.exit(agent_process.run_agent(fleet_file.read_whole_fleet_file(sys.argv[1]), 
 
 
 class AgentCase(WithCluster):
-    """The host `a` of a fleet, whose switch has a pause and an analysis after the switch, which ends once the file `judged` is there."""
+    """The host `a` of a fleet, whose switch has a pause and an analysis after the switch, which
+    ends once the file `judged` is there."""
 
     def setUp(self) -> None:
         self.folder = pathlib.Path(self.enterContext(tempfile.TemporaryDirectory()))
@@ -57,8 +59,15 @@ class AgentCase(WithCluster):
         place.mkdir(exist_ok=True)
         (place / "rollout.json").write_text(json.dumps(FIT), encoding="ascii")
         judge = ["sh", "-c", f"until [ -e {self.judged} ]; do sleep 0.05; done"]
-        told = {"fleet": "web", "host": "a", "control": self.switch.port, "etcd": [str(each) for each in self.cluster.endpoints],
-                "rollout": "rollout.json", "analyses": {"errors": judge}, **members}
+        told = {
+            "fleet": "web",
+            "host": "a",
+            "control": self.switch.port,
+            "etcd": [str(each) for each in self.cluster.endpoints],
+            "rollout": "rollout.json",
+            "analyses": {"errors": judge},
+            **members,
+        }
         (place / "fleet.json").write_text(json.dumps(told), encoding="ascii")
         return str(place / "fleet.json")
 
@@ -77,8 +86,19 @@ class AgentCase(WithCluster):
         ports = [endpoint.port for endpoint in self.endpoints]
         revisions = {"web-v1": ports[:2], "web-v2": ports[2:]}
         told = [{"name": name, "ports": revisions[name]} for name in revisions if name <= last]
-        self.store.write([], {"plan": json.dumps({"revisions": told, "analyses": {"post": "errors"},
-                                                  "health": {"interval": 0.1, "timeout": 0.5}, **members})})
+        self.store.write(
+            [],
+            {
+                "plan": json.dumps(
+                    {
+                        "revisions": told,
+                        "analyses": {"post": "errors"},
+                        "health": {"interval": 0.1, "timeout": 0.5},
+                        **members,
+                    }
+                )
+            },
+        )
 
     def order(self, what: str) -> None:
         record = View(self.store.read()).record
@@ -98,13 +118,24 @@ class AgentCase(WithCluster):
             self.fail(f"it did not come that {what}: {logs} {self.store.read()}")
 
     def await_state(self, state: str) -> None:
-        self.await_that(lambda: (told := self.told()) is not None and told.state == state, f"the machine is {state}")
+        self.await_that(
+            lambda: (told := self.told()) is not None and told.state == state,
+            f"the machine is {state}",
+        )
 
     def await_stage(self, stage: str) -> None:
-        self.await_that(lambda: (record := View(self.store.read()).record) is not None and record.stage == stage, f"the attempt is {stage}")
+        self.await_that(
+            lambda: (record := View(self.store.read()).record) is not None
+            and record.stage == stage,
+            f"the attempt is {stage}",
+        )
 
     def own_lines(self) -> list[str]:
-        return [line.split(" ")[0] for line in self.switch.sent_lines() if not line.startswith("available ")]
+        return [
+            line.split(" ")[0]
+            for line in self.switch.sent_lines()
+            if not line.startswith("available ")
+        ]
 
     def begun(self, program: Sequence[str] = PROGRAM) -> ControllerRun:
         self.put("web-v1")
@@ -122,7 +153,17 @@ class Signals(AgentCase):
                 run = self.begun()
                 self.await_that(lambda: "leader" in self.store.read().keys, "it leads")
                 status, seconds = run.signal(number)
-                self.assertEqual((status, [name for name in self.store.read().keys if name in ("leader", "machines/a")]), (0, []))
+                self.assertEqual(
+                    (
+                        status,
+                        [
+                            name
+                            for name in self.store.read().keys
+                            if name in ("leader", "machines/a")
+                        ],
+                    ),
+                    (0, []),
+                )
                 self.assertTrue(is_within(seconds, 3), seconds)
                 ended = run.wait()
                 self.assertIn("ends; the switch continues", ended.printed)
@@ -135,7 +176,9 @@ class Signals(AgentCase):
         lines = self.own_lines()
         run.kill()
         again = self.started()
-        self.assertTrue(again.says("the analysis that the controller before has left behind", "is stopped"))
+        self.assertTrue(
+            again.says("the analysis that the controller before has left behind", "is stopped")
+        )
         self.assertTrue(again.says("analysis post of web-v2 begins"))
         self.assertEqual(self.own_lines(), lines)
         self.judged.touch()
@@ -145,7 +188,8 @@ class Signals(AgentCase):
         self.assertEqual(again.end().told, "")
 
     def test_it_is_stopped_while_it_waits_for_the_switch(self) -> None:
-        """It has read `promoting`, and wakes after the attempt was aborted: the read is too old for a promote."""
+        """It has read `promoting`, and wakes after the attempt was aborted: the read is too old for
+        a promote."""
         run = self.begun(with_lease(1))
         self.put("web-v2", fleet={"by_hand": True})
         self.await_state("ready")
@@ -153,11 +197,14 @@ class Signals(AgentCase):
         answer = self.switch.control.answer
 
         def hang(line: str) -> Sequence[str] | None:
-            has_read = "promoting" in (self.folder / "a" / "web.a.fleet").read_text(encoding="ascii")
+            has_read = "promoting" in (self.folder / "a" / "web.a.fleet").read_text(
+                encoding="ascii"
+            )
             if has_read and line == "report" and not going_on.is_set():
                 asked.set()
                 going_on.wait(WAIT)
             return answer(line)
+
         with mock.patch.object(self.switch.control, "answer", hang):
             self.order("promote")
             self.assertTrue(asked.wait(WAIT))
@@ -166,7 +213,9 @@ class Signals(AgentCase):
             record = View(self.store.read()).record
             assert record is not None
             time.sleep(1.2)
-            self.store.write([], {"attempt": json.dumps({**json.loads(record.text()), "stage": "aborted"})})
+            self.store.write(
+                [], {"attempt": json.dumps({**json.loads(record.text()), "stage": "aborted"})}
+            )
             going_on.set()
             run.process.send_signal(signal.SIGCONT)
             self.await_state("follows")
@@ -176,12 +225,17 @@ class Signals(AgentCase):
 class Refusals(AgentCase):
     def test_an_unsafe_rollout(self) -> None:
         path = self.fleet_file()
-        pathlib.Path(path).with_name("rollout.json").write_text(json.dumps({"spec": {"strategy": {"blueGreen": {}}}}), encoding="ascii")
+        pathlib.Path(path).with_name("rollout.json").write_text(
+            json.dumps({"spec": {"strategy": {"blueGreen": {}}}}), encoding="ascii"
+        )
         run = self.started(path)
         run.process.wait(WAIT)
         ended = run.wait()
         self.assertEqual(ended.status, exit_statuses.REFUSED)
-        self.assertIn("autoPromotionEnabled is not false: the switch would promote by itself, before the fleet does", ended.told)
+        self.assertIn(
+            "autoPromotionEnabled is not false: the switch would promote by itself, before the fleet does",
+            ended.told,
+        )
         self.assertEqual((self.switch.lines, list(self.store.read().keys)), ([], ["members/a"]))
 
     def test_a_second_agent_with_the_same_files(self) -> None:
@@ -190,7 +244,9 @@ class Refusals(AgentCase):
         second.process.wait(WAIT)
         ended = second.wait()
         self.assertEqual((ended.status, ended.printed), (exit_statuses.REFUSED, ""))
-        self.assertIn(f"another agent of a runs here: process {first.process.pid} has the lock", ended.told)
+        self.assertIn(
+            f"another agent of a runs here: process {first.process.pid} has the lock", ended.told
+        )
 
     def test_a_second_agent_of_the_host(self) -> None:
         first = self.begun(with_lease(1))
@@ -198,7 +254,9 @@ class Refusals(AgentCase):
         second.process.wait(WAIT)
         ended = second.wait()
         self.assertEqual(ended.status, exit_statuses.TAKEN)
-        self.assertRegex(ended.told, "^fleet: another machine reports as a: machines/a is of the machine ")
+        self.assertRegex(
+            ended.told, "^fleet: another machine reports as a: machines/a is of the machine "
+        )
         self.assertIsNone(first.process.poll())
         self.assertEqual(self.own_lines(), ["open"])
 
@@ -211,7 +269,10 @@ class EtcdAway(AgentCase):
         self.cluster.members[0].kill()
         self.assertTrue(run.says("the store gives no answer, so nothing is switched here"))
         self.endpoints[1].stop()
-        self.await_that(lambda: "available 1 1" in self.switch.lines, "the switch learns of an endpoint that is down")
+        self.await_that(
+            lambda: "available 1 1" in self.switch.lines,
+            "the switch learns of an endpoint that is down",
+        )
         self.assertEqual(self.own_lines(), ["open", "deploy"])
         self.cluster.start_member(0)
         self.cluster.wait()

@@ -1,4 +1,5 @@
-"""The texts of a fleet's keys and of an agent's file: what is written is read, and what can't be read is refused with a sentence."""
+"""The texts of a fleet's keys and of an agent's file: what is written is read, and what can't be
+read is refused with a sentence."""
 import dataclasses
 import json
 import os
@@ -6,13 +7,38 @@ import tempfile
 import unittest
 from collections.abc import Callable
 
-from bg_switch_tools.controller.plan import Analyses, Commands, Health, Plan, PlannedRevision, Progress
+from bg_switch_tools.controller.plan import (
+    Analyses,
+    Commands,
+    Health,
+    Plan,
+    PlannedRevision,
+    Progress,
+)
 from bg_switch_tools.controller.plan_reader import WrongPlan
-from bg_switch_tools.fleet.fleet_plan import FleetPlan, MachineSettings, machine_plan, missing_analyses, read_fleet_plan
+from bg_switch_tools.fleet.fleet_plan import (
+    FleetPlan,
+    MachineSettings,
+    machine_plan,
+    missing_analyses,
+    read_fleet_plan,
+)
 from bg_switch_tools.fleet.machine_state import MachineState, MachineStateFile, read_machine_state
 from bg_switch_tools.fleet.next_line import Joined
-from bg_switch_tools.fleet.record import (PROMOTE, PROMOTING, READY, WORKING, MachineReport, PersonOrder, Record, Unreadable, View,
-                                          read_machine_report, read_order, read_record)
+from bg_switch_tools.fleet.record import (
+    PROMOTE,
+    PROMOTING,
+    READY,
+    WORKING,
+    MachineReport,
+    PersonOrder,
+    Record,
+    Unreadable,
+    View,
+    read_machine_report,
+    read_order,
+    read_record,
+)
 from bg_switch_tools.fleet.store import Key, Snapshot
 
 V1, V2 = PlannedRevision("web-v1", (9101, 9102)), PlannedRevision("web-v2", (9201, 9202))
@@ -20,7 +46,11 @@ RECORD = Record(20, V2, V1, PROMOTING, "ordered by ann", ("c",), 7, 1000)
 REPORT = MachineReport("id", 20, READY, "", "paused", "web-v1", "web-v2", "web-v1", "web-v2", 2)
 ORDER = PersonOrder(PROMOTE, 20, "ann")
 Value = Record | MachineReport | PersonOrder
-ALL: tuple[tuple[Callable[[str], Value], Value], ...] = ((read_record, RECORD), (read_machine_report, REPORT), (read_order, ORDER))
+ALL: tuple[tuple[Callable[[str], Value], Value], ...] = (
+    (read_record, RECORD),
+    (read_machine_report, REPORT),
+    (read_order, ORDER),
+)
 
 
 def changed(text: str, **values: object) -> str:
@@ -42,7 +72,11 @@ class Texts(unittest.TestCase):
     def test_each_has_a_version(self) -> None:
         for read, value in ALL:
             self.assertEqual(json.loads(value.text())["version"], 1)
-            self.refused(read, changed(value.text(), version=2), "its version is 2, and this program knows version 1")
+            self.refused(
+                read,
+                changed(value.text(), version=2),
+                "its version is 2, and this program knows version 1",
+            )
             self.refused(read, changed(value.text(), version=None), "its version is None")
             self.refused(read, "[]", "not an object")
             self.refused(read, "{", "not JSON")
@@ -51,7 +85,11 @@ class Texts(unittest.TestCase):
         for read, value in ALL:
             for field in dataclasses.fields(value):
                 with self.subTest(field=field.name):
-                    self.refused(read, changed(value.text(), **{field.name: None}), f"{field.name}: is missing")
+                    self.refused(
+                        read,
+                        changed(value.text(), **{field.name: None}),
+                        f"{field.name}: is missing",
+                    )
 
     def test_other_keys(self) -> None:
         self.refused(read_record, changed(RECORD.text(), more=1), "more: there is no such key")
@@ -59,27 +97,53 @@ class Texts(unittest.TestCase):
         self.assertEqual(read_machine_report(changed(REPORT.text(), more=1)), REPORT)
 
     def test_values_of_other_types(self) -> None:
-        for key, value in (("id", -1), ("revision", {"name": "V", "ports": [1]}), ("stable", {}), ("stage", "over"), ("missing", "c"), ("by", "x")):
+        for key, value in (
+            ("id", -1),
+            ("revision", {"name": "V", "ports": [1]}),
+            ("stable", {}),
+            ("stage", "over"),
+            ("missing", "c"),
+            ("by", "x"),
+        ):
             self.refused(read_record, changed(RECORD.text(), **{key: value}), f"^{key}")
-        self.refused(read_machine_report, changed(REPORT.text(), state="over"), "state: is none of working")
-        self.refused(read_order, changed(ORDER.text(), order="retry"), "order: is none of promote, abort")
+        self.refused(
+            read_machine_report, changed(REPORT.text(), state="over"), "state: is none of working"
+        )
+        self.refused(
+            read_order, changed(ORDER.text(), order="retry"), "order: is none of promote, abort"
+        )
 
     def test_a_view(self) -> None:
-        keys = {"members/b": Key("", 2, 2, 0), "members/a": Key("", 2, 2, 0), "machines/a": Key(REPORT.text(), 3, 3, 9),
-                "machines/b": Key("x", 3, 4, 9), "attempt": Key(RECORD.text(), 5, 6, 0)}
+        keys = {
+            "members/b": Key("", 2, 2, 0),
+            "members/a": Key("", 2, 2, 0),
+            "machines/a": Key(REPORT.text(), 3, 3, 9),
+            "machines/b": Key("x", 3, 4, 9),
+            "attempt": Key(RECORD.text(), 5, 6, 0),
+        }
         view = View(Snapshot(9, "c1", keys))
-        self.assertEqual((view.members, view.record, view.plan, view.order), (("a", "b"), RECORD, None, None))
+        self.assertEqual(
+            (view.members, view.record, view.plan, view.order), (("a", "b"), RECORD, None, None)
+        )
         self.assertEqual((view.changed("attempt"), view.changed("plan")), (6, 0))
         self.assertEqual((view.machine("a"), view.machine("c")), (REPORT, None))
         unreadable = view.machine("b")
-        self.assertTrue(unreadable and unreadable.state == WORKING and "can't be read" in unreadable.reason)
+        self.assertTrue(
+            unreadable and unreadable.state == WORKING and "can't be read" in unreadable.reason
+        )
 
 
 GOOD: dict[str, object] = {
-    "health": {"path": "/up", "interval": 1, "timeout": 1, "failures": 3}, "analyses": {"pre": "smoke", "post": "errors", "seconds": 60},
-    "progress": {"seconds": 120, "abort": True, "outage": 9}, "redispatch": False,
-    "revisions": [{"name": "web-v1", "ports": [9101, 9102]}, {"name": "web-v2", "ports": [9201, 9202]}],
-    "fleet": {"by_hand": True, "seconds": 30, "max_missing": 1, "promoting_seconds": 90}}
+    "health": {"path": "/up", "interval": 1, "timeout": 1, "failures": 3},
+    "analyses": {"pre": "smoke", "post": "errors", "seconds": 60},
+    "progress": {"seconds": 120, "abort": True, "outage": 9},
+    "redispatch": False,
+    "revisions": [
+        {"name": "web-v1", "ports": [9101, 9102]},
+        {"name": "web-v2", "ports": [9201, 9202]},
+    ],
+    "fleet": {"by_hand": True, "seconds": 30, "max_missing": 1, "promoting_seconds": 90},
+}
 
 
 class Plans(unittest.TestCase):
@@ -89,40 +153,90 @@ class Plans(unittest.TestCase):
         return raised.exception.problems
 
     def test_a_whole_plan(self) -> None:
-        self.assertEqual(read_fleet_plan(json.dumps(GOOD)), FleetPlan(
-            (V1, V2), Health("/up", 1, 1, 3), {"pre": "smoke", "post": "errors"}, 60, Progress(120, True, 9), False, True, 30, 1, 90))
+        self.assertEqual(
+            read_fleet_plan(json.dumps(GOOD)),
+            FleetPlan(
+                (V1, V2),
+                Health("/up", 1, 1, 3),
+                {"pre": "smoke", "post": "errors"},
+                60,
+                Progress(120, True, 9),
+                False,
+                True,
+                30,
+                1,
+                90,
+            ),
+        )
 
     def test_what_is_left_out(self) -> None:
         plan = read_fleet_plan(json.dumps({"revisions": GOOD["revisions"]}))
         self.assertEqual(plan, FleetPlan((V1, V2)))
-        self.assertEqual((plan.max_missing, plan.by_hand, plan.seconds, plan.promoting_seconds), (0, False, 0, 1200))
-        self.assertEqual((plan.first, plan.last, plan.named("web-v2"), plan.named("x")), (V1, V2, V2, None))
+        self.assertEqual(
+            (plan.max_missing, plan.by_hand, plan.seconds, plan.promoting_seconds),
+            (0, False, 0, 1200),
+        )
+        self.assertEqual(
+            (plan.first, plan.last, plan.named("web-v2"), plan.named("x")), (V1, V2, V2, None)
+        )
 
     def test_two_revisions_are_live_for_no_longer_than_tests_and_progress_take(self) -> None:
         text = changed(json.dumps(GOOD), fleet={})
         self.assertEqual(read_fleet_plan(text).promoting_seconds, 180)
 
     def test_a_command_has_no_place_in_it(self) -> None:
-        for key, value in (("start", ["x"]), ("stop", ["x"]), ("notify", ["x"]), ("control", 8082), ("active", 1), ("timeout", 1)):
-            self.assertEqual(self.problems(**{key: value}), [f"{key}: stands in the fleet file of each machine"])
-        self.assertRegex(self.problems(analyses={"pre": ["./smoke.sh"]})[0], "^analyses.pre: .* is not a name")
+        for key, value in (
+            ("start", ["x"]),
+            ("stop", ["x"]),
+            ("notify", ["x"]),
+            ("control", 8082),
+            ("active", 1),
+            ("timeout", 1),
+        ):
+            self.assertEqual(
+                self.problems(**{key: value}), [f"{key}: stands in the fleet file of each machine"]
+            )
+        self.assertRegex(
+            self.problems(analyses={"pre": ["./smoke.sh"]})[0], "^analyses.pre: .* is not a name"
+        )
 
     def test_what_is_wrong(self) -> None:
-        cases: tuple[tuple[dict[str, object], str], ...] = (({"fleet": {"max_missing": -1}}, "fleet.max_missing: -1 is below 0"), ({"fleet": {"by_hand": 1}}, "fleet.by_hand: 1 is neither"),
-                                ({"fleet": {"more": 1}}, "fleet.more: there is no such key"), ({"fleet": {"promoting_seconds": 0}}, "is below 0.1"),
-                                ({"fleet": []}, "fleet: .* is not an object"), ({"revisions": None}, "revisions: is missing"),
-                                ({"revisions": [{"name": "a", "ports": [1]}, {"name": "b", "ports": [1]}]}, "an endpoint serves one revision"))
+        cases: tuple[tuple[dict[str, object], str], ...] = (
+            ({"fleet": {"max_missing": -1}}, "fleet.max_missing: -1 is below 0"),
+            ({"fleet": {"by_hand": 1}}, "fleet.by_hand: 1 is neither"),
+            ({"fleet": {"more": 1}}, "fleet.more: there is no such key"),
+            ({"fleet": {"promoting_seconds": 0}}, "is below 0.1"),
+            ({"fleet": []}, "fleet: .* is not an object"),
+            ({"revisions": None}, "revisions: is missing"),
+            (
+                {"revisions": [{"name": "a", "ports": [1]}, {"name": "b", "ports": [1]}]},
+                "an endpoint serves one revision",
+            ),
+        )
         for values, problem in cases:
             self.assertRegex("\n".join(self.problems(**values)), problem)
         for text in ("{", "[]", "x" * (1 << 21)):
             self.assertRaises(WrongPlan, read_fleet_plan, text)
 
     def test_the_plan_of_a_machine(self) -> None:
-        settings = MachineSettings(8082, {"smoke": ("./smoke.sh",)}, Commands(("up",)), {"active": 8080})
+        settings = MachineSettings(
+            8082, {"smoke": ("./smoke.sh",)}, Commands(("up",)), {"active": 8080}
+        )
         plan = read_fleet_plan(json.dumps(GOOD))
         v0 = PlannedRevision("web-v0", (9001, 9002))
-        self.assertEqual(machine_plan(plan, settings, (v0, V1)), Plan(
-            8082, plan.health, Analyses({"pre": ("./smoke.sh",)}, 60), Progress(120, False, 9), (v0, V1, V2), Commands(("up",)), False, {"active": 8080}))
+        self.assertEqual(
+            machine_plan(plan, settings, (v0, V1)),
+            Plan(
+                8082,
+                plan.health,
+                Analyses({"pre": ("./smoke.sh",)}, 60),
+                Progress(120, False, 9),
+                (v0, V1, V2),
+                Commands(("up",)),
+                False,
+                {"active": 8080},
+            ),
+        )
         self.assertEqual(missing_analyses(plan, settings), ["errors"])
         with self.assertRaisesRegex(WrongPlan, "is a port of the switch itself"):
             machine_plan(plan, MachineSettings(9201))
@@ -141,9 +255,16 @@ class Files(unittest.TestCase):
 
     def test_a_file_that_is_none(self) -> None:
         text = self.STATE.text()
-        for wrong, why in ((text[:-9], "not JSON"), ("[]", "not an object"), (changed(text, version=2), "version"), (changed(text, more=1), "more"),
-                           (changed(text, joined={}), "joined.cluster: is missing"), (changed(text, cluster=1), "cluster"),
-                           (changed(text, record="{}"), "version"), ("", "not JSON")):
+        for wrong, why in (
+            (text[:-9], "not JSON"),
+            ("[]", "not an object"),
+            (changed(text, version=2), "version"),
+            (changed(text, more=1), "more"),
+            (changed(text, joined={}), "joined.cluster: is missing"),
+            (changed(text, cluster=1), "cluster"),
+            (changed(text, record="{}"), "version"),
+            ("", "not JSON"),
+        ):
             with self.assertRaisesRegex(Unreadable, why):
                 read_machine_state(wrong.encode())
 

@@ -1,4 +1,5 @@
-"""Thousands of histories of a fleet, by seeds: no rule is broken, and each planted fault is found by the rule that it breaks.
+"""Thousands of histories of a fleet, by seeds: no rule is broken, and each planted fault is found
+by the rule that it breaks.
 
 python3 -m tests.test_fleet_simulation SEED.. shows the histories of these seeds.
 """
@@ -11,24 +12,47 @@ from unittest import mock
 
 from bg_switch_tools.fleet import machine
 from bg_switch_tools.fleet.record import ATTEMPT, LEADER, MACHINES, MEMBERS, PLAN
-from tests.fleet_faults import (Patch, after_the_end, alone, back_by_permission, no_catch_up, on_changes, on_reads_of_any_age,
-                                verdict_at_once, without_compares, without_one_member, without_the_id)
+from tests.fleet_faults import (
+    Patch,
+    after_the_end,
+    alone,
+    back_by_permission,
+    no_catch_up,
+    on_changes,
+    on_reads_of_any_age,
+    verdict_at_once,
+    without_compares,
+    without_one_member,
+    without_the_id,
+)
 from tests.fleet_rules import broken
 from tests.fleet_simulation import World, history
 
 SEEDS = 500  # of each class of histories
 MOST_PLANTED = 1000  # histories until a planted fault has to be found
 # What a history has to meet so many times on the average.
-LEAST = {"deploying": 1, "promoting": 0.5, "successful": 1, "aborted": 0.5, "missing": 0.05, "promote": 1, "store lost": 1, "failed": 0.2}
+LEAST = {
+    "deploying": 1,
+    "promoting": 0.5,
+    "successful": 1,
+    "aborted": 0.5,
+    "missing": 0.05,
+    "promote": 1,
+    "store lost": 1,
+    "failed": 0.2,
+}
 RETRY = 2.0  # seconds, in place of the agent's own, so that histories stay short
 
 
 def told(world: World, faults: list[str]) -> str:
-    return "\n".join([world.told(), *faults, f"python3 -m tests.test_fleet_simulation {world.seed}"])
+    return "\n".join(
+        [world.told(), *faults, f"python3 -m tests.test_fleet_simulation {world.seed}"]
+    )
 
 
 class Histories(unittest.TestCase):
     """The first histories. The others have classes of their own, so that they run side by side."""
+
     first = 0
 
     def setUp(self) -> None:
@@ -60,7 +84,11 @@ class LastHistories(Histories):
 
 def counts(world: World) -> collections.Counter[str]:
     """What a history has met."""
-    records = [json.loads(change.value) for change in world.keys.changes if change.name == ATTEMPT and change.value]
+    records = [
+        json.loads(change.value)
+        for change in world.keys.changes
+        if change.name == ATTEMPT and change.value
+    ]
     found = collections.Counter(record["stage"] for record in records)
     found["missing"] = sum(bool(record["missing"]) for record in records)
     found["promote"] = len(world.trace.promotes)

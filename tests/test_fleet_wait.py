@@ -1,4 +1,5 @@
-"""bin/fleet wait: when each condition holds, may come, and can't come any more; and how a wait ends."""
+"""bin/fleet wait: when each condition holds, may come, and can't come any more; and how a wait
+ends."""
 import json
 import unittest
 from unittest import mock
@@ -22,18 +23,27 @@ class Outlooks(WithFleet):
 
     def test_by_stage(self) -> None:
         rows: tuple[tuple[str, tuple[str, ...]], ...] = (
-            ("deploying", ("ready", "promoting", "successful", "aborted")), ("promoting", ("successful", "aborted")),
-            ("successful", ()), ("aborted", ()))
+            ("deploying", ("ready", "promoting", "successful", "aborted")),
+            ("promoting", ("successful", "aborted")),
+            ("successful", ()),
+            ("aborted", ()),
+        )
         for stage, coming in rows:
             self.begin(stage, "working")
             for awaited in ("deploying", "ready", "promoting", "successful", "aborted"):
                 with self.subTest(stage=stage, awaited=awaited):
                     outlook = self.outlook(f"web-v2={awaited}")
-                    self.assertEqual((outlook.holds, not outlook.holds and not outlook.never), (awaited == stage, awaited in coming))
+                    self.assertEqual(
+                        (outlook.holds, not outlook.holds and not outlook.never),
+                        (awaited == stage, awaited in coming),
+                    )
 
     def test_why_it_can_not_come(self) -> None:
         self.put_record("aborted", reason="web-2: analysis post: failed")
-        self.check_never("web-v2=successful", "attempt 6 of web-v2 is over: aborted, web-2: analysis post: failed")
+        self.check_never(
+            "web-v2=successful",
+            "attempt 6 of web-v2 is over: aborted, web-2: analysis post: failed",
+        )
         self.begin("successful")
         self.check_never("web-v2=aborted", "attempt 6 of web-v2 is over: successful")
         self.check_never("web-v3=successful", "plan 6 deploys web-v2")
@@ -76,7 +86,9 @@ class Outlooks(WithFleet):
         self.assertEqual(self.outlook("web-v3=successful"), MAY_COME)
 
     def test_before_the_first_attempt(self) -> None:
-        self.assertEqual((self.outlook("web-v2=successful"), self.outlook("settled")), (MAY_COME, MAY_COME))
+        self.assertEqual(
+            (self.outlook("web-v2=successful"), self.outlook("settled")), (MAY_COME, MAY_COME)
+        )
         self.check_never("web-v1=successful", "plan 6 deploys web-v2")
         for host in HOSTS:
             self.delete(MEMBERS + host)
@@ -123,7 +135,9 @@ class Outlooks(WithFleet):
 
     def test_what_can_not_be_read(self) -> None:
         self.put(PLAN, "[]")
-        self.assertEqual(self.outlook("settled").never, "the plan is wrong: the plan: [] is not an object")
+        self.assertEqual(
+            self.outlook("settled").never, "the plan is wrong: the plan: [] is not an object"
+        )
         self.put_plan(V1, V2)
         self.put(ATTEMPT, '{"version": 2}')
         self.assertIn("its version is 2", self.outlook("web-v2=aborted").never)
@@ -137,29 +151,44 @@ class Waits(WithFleet):
         self.addCleanup(pause.stop)
 
     def wait(self, *words: str) -> Run:
-        """A run that waits for some seconds at most, so that one that should end early is seen not to."""
+        """A run that waits for some seconds at most, so that one that should end early is seen not
+        to."""
         return self.fleet("wait", *words, *(() if "--timeout" in words else ("--timeout", "5")))
 
     def test_until_it_is_successful(self) -> None:
         self.begin()
-        self.store.during_waits = [lambda: None, lambda: self.begin("promoting", "testing"), lambda: self.begin("successful", "follows")]
-        self.assertEqual(self.wait("web-v2=successful"), (
-            "attempt 6 of web-v2: successful\n",
-            "fleet: attempt 6 of web-v2: deploying; waits for web-1: working, web-2: working, web-3: working\n"
-            "fleet: attempt 6 of web-v2: promoting; waits for web-1: testing, web-2: testing, web-3: testing\n", 0))
+        self.store.during_waits = [
+            lambda: None,
+            lambda: self.begin("promoting", "testing"),
+            lambda: self.begin("successful", "follows"),
+        ]
+        self.assertEqual(
+            self.wait("web-v2=successful"),
+            (
+                "attempt 6 of web-v2: successful\n",
+                "fleet: attempt 6 of web-v2: deploying; waits for web-1: working, web-2: working, web-3: working\n"
+                "fleet: attempt 6 of web-v2: promoting; waits for web-1: testing, web-2: testing, web-3: testing\n",
+                0,
+            ),
+        )
 
     def test_until_it_was_aborted(self) -> None:
         self.begin()
         self.store.during_waits = [lambda: self.put_record("aborted", reason="ordered by bob")]
         run = self.wait("web-v2=successful")
         self.assertEqual((run.printed, run.status), ("", 1))
-        self.assertEqual(run.told.splitlines()[-1], f"fleet: web-v2=successful {NEVER}: attempt 6 of web-v2 is over: aborted, ordered by bob")
+        self.assertEqual(
+            run.told.splitlines()[-1],
+            f"fleet: web-v2=successful {NEVER}: attempt 6 of web-v2 is over: aborted, ordered by bob",
+        )
 
     def test_until_the_time_is_over(self) -> None:
         self.begin()
         run = self.wait("web-v2=successful", "--timeout", "0.1")
         self.assertEqual((run.printed, run.status), ("", 4))
-        self.assertEqual(run.told.splitlines()[-1], "fleet: web-v2=successful does not hold after 0.1 seconds")
+        self.assertEqual(
+            run.told.splitlines()[-1], "fleet: web-v2=successful does not hold after 0.1 seconds"
+        )
 
     def test_without_time_it_looks_once(self) -> None:
         self.begin("successful")
@@ -178,18 +207,31 @@ class Waits(WithFleet):
     def test_a_store_that_comes_back(self) -> None:
         self.begin("successful", "follows")
         self.store.is_cut = True
-        with mock.patch("bg_switch_tools.fleet.wait.time.sleep", side_effect=lambda _: setattr(self.store, "is_cut", False)):
+        with mock.patch(
+            "bg_switch_tools.fleet.wait.time.sleep",
+            side_effect=lambda _: setattr(self.store, "is_cut", False),
+        ):
             run = self.wait("settled")
         self.assertEqual(run, ("attempt 6 of web-v2: successful\n", "fleet: it is away\n", 0))
 
     def test_a_store_that_refuses_the_reads(self) -> None:
-        with mock.patch.object(self.store, "read", side_effect=StoreRefusal("etcd denies this to the user guest")):
-            self.assertEqual(self.wait("settled"), ("", "fleet: etcd denies this to the user guest\n", 4))
+        with mock.patch.object(
+            self.store, "read", side_effect=StoreRefusal("etcd denies this to the user guest")
+        ):
+            self.assertEqual(
+                self.wait("settled"), ("", "fleet: etcd denies this to the user guest\n", 4)
+            )
 
     def test_a_store_that_stays_away(self) -> None:
         self.store.is_cut = True
-        self.assertEqual(self.wait("settled", "--timeout", "0.1"), (
-            "", "fleet: it is away\nfleet: settled does not hold after 0.1 seconds: it is away\n", 4))
+        self.assertEqual(
+            self.wait("settled", "--timeout", "0.1"),
+            (
+                "",
+                "fleet: it is away\nfleet: settled does not hold after 0.1 seconds: it is away\n",
+                4,
+            ),
+        )
 
     def test_a_watch_that_is_lost_ends_nothing(self) -> None:
         self.begin()
@@ -197,8 +239,12 @@ class Waits(WithFleet):
         def cut() -> None:
             self.begin("successful", "follows")
             self.store.is_cut = True
+
         self.store.during_waits = [cut]
-        with mock.patch("bg_switch_tools.fleet.wait.time.sleep", side_effect=lambda _: setattr(self.store, "is_cut", False)):
+        with mock.patch(
+            "bg_switch_tools.fleet.wait.time.sleep",
+            side_effect=lambda _: setattr(self.store, "is_cut", False),
+        ):
             self.assertEqual(self.wait("settled").status, 0)
 
     def test_json(self) -> None:
@@ -206,18 +252,41 @@ class Waits(WithFleet):
         for text, status in (("web-v2=aborted", 0), ("web-v2=successful", 1)):
             run = self.wait(text, "--json")
             told = json.loads(run.printed)
-            self.assertEqual((run.status, told["status"], told["fleet"]["attempt"]["stage"]), (status, status, "aborted"))
-            self.assertEqual(told["reason"], None if status == 0 else f"{text} {NEVER}: attempt 6 of web-v2 is over: aborted")
+            self.assertEqual(
+                (run.status, told["status"], told["fleet"]["attempt"]["stage"]),
+                (status, status, "aborted"),
+            )
+            self.assertEqual(
+                told["reason"],
+                None if status == 0 else f"{text} {NEVER}: attempt 6 of web-v2 is over: aborted",
+            )
         self.store.is_cut = True
-        self.assertEqual(json.loads(self.wait("settled", "--json", "--timeout", "0").printed), {
-            "status": 4, "reason": "settled does not hold after 0 seconds: it is away", "fleet": None})
+        self.assertEqual(
+            json.loads(self.wait("settled", "--json", "--timeout", "0").printed),
+            {
+                "status": 4,
+                "reason": "settled does not hold after 0 seconds: it is away",
+                "fleet": None,
+            },
+        )
 
     def test_words_that_are_wrong(self) -> None:
-        for text, why in (("web-v2", "web-v2: a condition is needed, one of NAME=STAGE (a stage is one of deploying, ready, promoting, "
-                                     "successful, aborted), settled"),
-                          ("Web=aborted", "Web=aborted: the name of a revision is needed before the =, such as web-v2"),
-                          ("web-v2=succesful", "web-v2=succesful: a stage is needed after the =, one of deploying, ready, promoting, "
-                                               "successful, aborted; the nearest is successful")):
+        for text, why in (
+            (
+                "web-v2",
+                "web-v2: a condition is needed, one of NAME=STAGE (a stage is one of deploying, ready, promoting, "
+                "successful, aborted), settled",
+            ),
+            (
+                "Web=aborted",
+                "Web=aborted: the name of a revision is needed before the =, such as web-v2",
+            ),
+            (
+                "web-v2=succesful",
+                "web-v2=succesful: a stage is needed after the =, one of deploying, ready, promoting, "
+                "successful, aborted; the nearest is successful",
+            ),
+        ):
             run = self.wait(text)
             self.assertEqual((run.told.splitlines()[-1], run.status), (f"fleet: error: {why}", 2))
         self.assertEqual(self.fleet("wait").status, 2)

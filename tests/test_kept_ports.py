@@ -1,4 +1,5 @@
-"""A name keeps its ports: whatever the plan says by now, a switch is opened with those that were live, and an edit is refused."""
+"""A name keeps its ports: whatever the plan says by now, a switch is opened with those that were
+live, and an edit is refused."""
 import contextlib
 import io
 import json
@@ -34,8 +35,8 @@ def book_with(line: str) -> Sequence[str]:
 
 
 class KeptPorts(ControllerCase):
-    """A rollout whose stable revision is web-v2, and a plan that then names other ports for it: those of the endpoints of web-v3, which
-    nobody has tested."""
+    """A rollout whose stable revision is web-v2, and a plan that then names other ports for it:
+    those of the endpoints of web-v3, which nobody has tested."""
 
     def setUp(self) -> None:
         super().setUp()
@@ -48,12 +49,16 @@ class KeptPorts(ControllerCase):
         self.plan.write(revisions, **members)
 
     def write_untested(self, **members: object) -> None:
-        self.write_ports(("web-v1", self.ports("web-v1")), ("web-v2", self.ports("web-v3")), **members)
+        self.write_ports(
+            ("web-v1", self.ports("web-v1")), ("web-v2", self.ports("web-v3")), **members
+        )
 
     def bgctl(self, *words: str) -> Run:
         """A run, with what it told itself: the controller has the same standard error here."""
         told = run(*words, BG_PLAN=self.plan.path)
-        return told._replace(told="".join(line for line in told.told.splitlines(True) if line.startswith("bgctl: ")))
+        return told._replace(
+            told="".join(line for line in told.told.splitlines(True) if line.startswith("bgctl: "))
+        )
 
     def v2_is_stable(self) -> None:
         self.write(*NAMES[:2])
@@ -78,6 +83,7 @@ class KeptPorts(ControllerCase):
     def await_held(self, *names: str) -> None:
         def held() -> list[str]:
             return [each.revision.name for each in StateFile(self.plan.path).read()[0].held]
+
         self.assertTrue(comes(lambda: held() == list(names)), self.log())
 
     def deploys(self) -> list[str]:
@@ -139,7 +145,10 @@ class Openings(KeptPorts):
         self.stack.callback(second.kill)
         self.write_untested(control=second.port)
         self.assertTrue(comes(lambda: second.book.revisions), self.log())
-        self.assertEqual(next(line for line in second.lines if line.startswith("open ")), f"open {self.words('web-v2')}")
+        self.assertEqual(
+            next(line for line in second.lines if line.startswith("open ")),
+            f"open {self.words('web-v2')}",
+        )
         self.await_held("web-v2")
         self.assertEqual(second.book.revisions[1].ports, tuple(map(str, self.ports("web-v2"))))
 
@@ -162,7 +171,8 @@ class Openings(KeptPorts):
         self.assertEqual(self.opened(self.switch), f"open {self.words('web-v2')}")
 
     def test_without_a_state_the_history_has_the_ports(self) -> None:
-        """The first revision of the plan is then opened, and not with ports that its name never had."""
+        """The first revision of the plan is then opened, and not with ports that its name never
+        had."""
         self.v2_is_stable()
         self.runner.stop()
         self.switch.kill()
@@ -237,11 +247,14 @@ class Openings(KeptPorts):
             self.await_held(name)
             for endpoint in self.endpoints[name]:
                 endpoint.stop()
-            self.assertTrue(comes(lambda: self.switch.book.revisions[number].available == 0), self.log())
+            self.assertTrue(
+                comes(lambda: self.switch.book.revisions[number].available == 0), self.log()
+            )
 
 
 class OtherPlans(KeptPorts):
-    """A plan that names no revision that was live: nobody has tested the one that it names first."""
+    """A plan that names no revision that was live: nobody has tested the one that it names
+    first."""
 
     def setUp(self) -> None:
         super().setUp()
@@ -267,12 +280,20 @@ class OtherPlans(KeptPorts):
         for _ in range(2):  # the next controller finds the same
             why = self.restart_both()
             path = StateFile(self.plan.path).path
-            self.assertEqual(why, f"no switch is opened by this plan: by the state file {path}, web-v2 was stable, and the plan does not "
-                             f"name it. Name web-v2 with its ports {self.words('web-v2').partition(' ')[2]} first in the plan; or, to begin "
-                             "anew with web-v3, which no preview and no analysis has judged, stop the controller and remove "
-                             f"{path} and {path}.copy")
-            self.assertEqual(([line for line in self.switch.lines if line.startswith("open ")], os.listdir(self.folder).count("started")),
-                             ([], 0))
+            self.assertEqual(
+                why,
+                f"no switch is opened by this plan: by the state file {path}, web-v2 was stable, and the plan does not "
+                f"name it. Name web-v2 with its ports {self.words('web-v2').partition(' ')[2]} first in the plan; or, to begin "
+                "anew with web-v3, which no preview and no analysis has judged, stop the controller and remove "
+                f"{path} and {path}.copy",
+            )
+            self.assertEqual(
+                (
+                    [line for line in self.switch.lines if line.startswith("open ")],
+                    os.listdir(self.folder).count("started"),
+                ),
+                ([], 0),
+            )
         self.assertIn(why, self.log())
 
     def test_the_plan_is_mended(self) -> None:
@@ -303,8 +324,16 @@ class OtherPlans(KeptPorts):
     def test_check_names_it(self) -> None:
         self.write("web-v3")
         told = self.bgctl("check")
-        self.assertEqual((told.status, told.printed.startswith("revisions: no switch is opened by this plan: by the state file ")), (1, True),
-                         told.printed)
+        self.assertEqual(
+            (
+                told.status,
+                told.printed.startswith(
+                    "revisions: no switch is opened by this plan: by the state file "
+                ),
+            ),
+            (1, True),
+            told.printed,
+        )
         self.write("web-v2", "web-v3")
         self.assertEqual(self.bgctl("check").status, 0)
 
@@ -325,8 +354,10 @@ class UnknownPorts(KeptPorts):
         self.by_hand(f"open {self.words('web-v1')}")
         self.write("web-v3")
         self.start()
-        self.await_log("revision 1 web-v1 is stable and not in the plan, so its ports are not known: a switch that is started again would not "
-                       "be opened")
+        self.await_log(
+            "revision 1 web-v1 is stable and not in the plan, so its ports are not known: a switch that is started again would not "
+            "be opened"
+        )
         self.await_book("paused", 2)
         self.switch.kill()
         self.switch.lines.clear()
@@ -335,7 +366,9 @@ class UnknownPorts(KeptPorts):
     def test_the_revision_under_test_is_not_opened(self) -> None:
         text = "no switch is opened by this plan: web-v1 was stable, and neither the plan nor the history has its ports. Name web-v1 with its"
         self.await_log(f"no book is open, and clients wait: {text}")
-        self.assertIn(f"controller: no book is open, and clients wait: {text}", self.told.getvalue())
+        self.assertIn(
+            f"controller: no book is open, and clients wait: {text}", self.told.getvalue()
+        )
         self.runner.stop()
         self.start().thread.join(WAIT)
         self.assertIn(text, self.runner.unfit)
@@ -363,7 +396,10 @@ class ByHand(KeptPorts):
         self.await_book("paused", 2)
         self.by_hand("promote")
         self.await_book("steady", 2)
-        self.assertEqual((self.deploys(), StateFile(self.plan.path).read()[0].held), ([f"deploy {self.words('web-v2')}"], ()))
+        self.assertEqual(
+            (self.deploys(), StateFile(self.plan.path).read()[0].held),
+            ([f"deploy {self.words('web-v2')}"], ()),
+        )
         self.assertEqual(self.restart(), f"open {self.words('web-v2')}")
 
     def test_other_ports_than_those_of_the_plan(self) -> None:
@@ -373,15 +409,21 @@ class ByHand(KeptPorts):
         self.by_hand("promote")
         self.write_untested()
         self.await_held("web-v2")
-        self.await_log("revision 2 web-v2 is stable and was not deployed by the plan, so its ports are not known: a switch that is "
-                       "started again would be opened with web-v1")
-        for endpoint in self.endpoints["web-v3"]:  # they are those of the plan alone, so no outage comes of it
+        self.await_log(
+            "revision 2 web-v2 is stable and was not deployed by the plan, so its ports are not known: a switch that is "
+            "started again would be opened with web-v1"
+        )
+        for endpoint in self.endpoints[
+            "web-v3"
+        ]:  # they are those of the plan alone, so no outage comes of it
             endpoint.stop()
         probes = self.runner.controller.probes
         self.assertTrue(comes(lambda: all(probes.is_down(port) for port in self.ports("web-v3"))))
         self.some_rounds()
         self.assertEqual(self.switch.book.revisions[2].available, 2)
-        self.await_log("revision 2 web-v2 has other ports than the plan names: its endpoints are not probed")
+        self.await_log(
+            "revision 2 web-v2 has other ports than the plan names: its endpoints are not probed"
+        )
         self.assertEqual(self.restart(), f"open {self.words('web-v1')}")
 
     def test_endpoints_that_are_known_to_be_down_are_not_taken_for_its_own(self) -> None:
@@ -411,7 +453,9 @@ class ByHand(KeptPorts):
         probes = self.runner.controller.probes
         self.assertTrue(comes(lambda: all(probes.is_down(port) for port in self.ports("web-v3"))))
         self.some_rounds()
-        self.assertEqual((self.switch.book.phase, self.switch.book.revisions[2].available), ("paused", 2))
+        self.assertEqual(
+            (self.switch.book.phase, self.switch.book.revisions[2].available), ("paused", 2)
+        )
 
     def test_a_revision_that_the_plan_names_and_does_not_deploy(self) -> None:
         """Nothing confirms its ports, so the revision is opened that was stable before."""
@@ -424,15 +468,26 @@ class ByHand(KeptPorts):
         self.assertEqual(self.restart(), f"open {self.words('web-v1')}")
 
     def test_nothing_is_known_of_a_book_that_is_open(self) -> None:
-        """The first look of a controller without a state: the ports are those of the plan, and stay so."""
-        for line in (f"open {self.words('web-v1')}", f"deploy {self.words('web-v2')}", "available 2 2", "promote", "deploy web-v3 1 2",
-                     "abort"):
+        """The first look of a controller without a state: the ports are those of the plan, and stay
+        so."""
+        for line in (
+            f"open {self.words('web-v1')}",
+            f"deploy {self.words('web-v2')}",
+            "available 2 2",
+            "promote",
+            "deploy web-v3 1 2",
+            "abort",
+        ):
             self.by_hand(line)
-        self.write_ports(("web-v1", self.ports("web-v1")), ("web-v2", self.ports("web-v2")), ("web-v3", (1, 2)))
+        self.write_ports(
+            ("web-v1", self.ports("web-v1")), ("web-v2", self.ports("web-v2")), ("web-v3", (1, 2))
+        )
         self.start()
         self.assertTrue(comes(lambda: "deploy web-v3 1 2" in self.switch.lines), self.log())
         self.some_rounds()
-        self.write_ports(("web-v1", self.ports("web-v1")), ("web-v2", self.ports("web-v3")), ("web-v3", (1, 2)))
+        self.write_ports(
+            ("web-v1", self.ports("web-v1")), ("web-v2", self.ports("web-v3")), ("web-v3", (1, 2))
+        )
         self.await_log("the plan has changed")
         self.assertEqual(self.bgctl("pause").status, 0)  # no deploy comes after the opening
         self.await_log("paused by")
@@ -447,15 +502,22 @@ class ByHand(KeptPorts):
         self.some_rounds()
         with open(self.plan.path + ".state.history", encoding="ascii") as file:
             events = [json.loads(line) for line in file]
-        self.assertEqual([(each["name"], each.get("ports")) for each in events if each["event"] in ("opened", "deployed")],
-                         [("web-v1", self.ports("web-v1")), ("web-v2", None)])
+        self.assertEqual(
+            [
+                (each["name"], each.get("ports"))
+                for each in events
+                if each["event"] in ("opened", "deployed")
+            ],
+            [("web-v1", self.ports("web-v1")), ("web-v2", None)],
+        )
 
 
 class Edits(KeptPorts):
     """The controller reads a plan that somebody has edited."""
 
     def test_a_name_that_only_the_history_has(self) -> None:
-        """The book of a switch that was started again has it no longer, and would take any ports."""
+        """The book of a switch that was started again has it no longer, and would take any
+        ports."""
         self.v2_is_stable()
         self.write(*NAMES)
         self.await_book("paused", 3)
@@ -474,18 +536,35 @@ class Edits(KeptPorts):
         self.await_held("web-v2")
         self.some_rounds()
         own, other = (" ".join(map(str, self.ports(name))) for name in ("web-v2", "web-v3"))
-        text = (f"web-v2 is held back: web-v2 has the ports {own}, and a name keeps its ports: deploy the ports {other} by a new name "
-                f"(bgctl deploy NEW-NAME {other})")
+        text = (
+            f"web-v2 is held back: web-v2 has the ports {own}, and a name keeps its ports: deploy the ports {other} by a new name "
+            f"(bgctl deploy NEW-NAME {other})"
+        )
         self.some_rounds()
-        self.assertEqual((self.log().count(text), self.told.getvalue().count(f"controller: {text}\n")), (1, 1))
+        self.assertEqual(
+            (self.log().count(text), self.told.getvalue().count(f"controller: {text}\n")), (1, 1)
+        )
         told = self.bgctl("status")
-        self.assertEqual((told.status, told.printed[:23], told.told), (4, "steady: active web-v2, ", f"bgctl: {text}\n"))
-        self.assertEqual(json.loads(self.bgctl("status", "--json").printed)["held_back"], [
-            {"name": "web-v2", "ports": self.ports("web-v3"), "reason": text.removeprefix("web-v2 is held back: ")}])
+        self.assertEqual(
+            (told.status, told.printed[:23], told.told),
+            (4, "steady: active web-v2, ", f"bgctl: {text}\n"),
+        )
+        self.assertEqual(
+            json.loads(self.bgctl("status", "--json").printed)["held_back"],
+            [
+                {
+                    "name": "web-v2",
+                    "ports": self.ports("web-v3"),
+                    "reason": text.removeprefix("web-v2 is held back: "),
+                }
+            ],
+        )
 
     def test_what_else_is_edited_is_taken(self) -> None:
         self.v2_is_stable()
-        self.write_ports(("web-v1", self.ports("web-v3")), ("web-v2", self.ports("web-v2")), ("web-v4", (1, 2)))
+        self.write_ports(
+            ("web-v1", self.ports("web-v3")), ("web-v2", self.ports("web-v2")), ("web-v4", (1, 2))
+        )
         self.await_log("deploy web-v4 1 2 => ok 0")
         self.await_held("web-v1")
 
@@ -504,7 +583,11 @@ class Commands(KeptPorts):
 
     def assert_refused(self, told: Run, reason: str, before: bytes) -> None:
         with open(self.plan.path, "rb") as file:
-            self.assertEqual((told.status, told.printed, reason in told.told, file.read()), (1, "", True, before), told.told)
+            self.assertEqual(
+                (told.status, told.printed, reason in told.told, file.read()),
+                (1, "", True, before),
+                told.told,
+            )
 
     def plan_text(self) -> bytes:
         with open(self.plan.path, "rb") as file:
@@ -514,11 +597,19 @@ class Commands(KeptPorts):
         """No controller has run yet."""
         self.write(*NAMES[:2])
         for name in NAMES[:2]:
-            reason = (f"{name} has the ports {' '.join(map(str, self.ports(name)))}, and a name keeps its ports: deploy the ports 7 8 by "
-                      "a new name (bgctl deploy NEW-NAME 7 8)")
-            self.assert_refused(self.bgctl("deploy", name, "7", "8", "--wait", "--timeout", "20"), reason, self.plan_text())
+            reason = (
+                f"{name} has the ports {' '.join(map(str, self.ports(name)))}, and a name keeps its ports: deploy the ports 7 8 by "
+                "a new name (bgctl deploy NEW-NAME 7 8)"
+            )
+            self.assert_refused(
+                self.bgctl("deploy", name, "7", "8", "--wait", "--timeout", "20"),
+                reason,
+                self.plan_text(),
+            )
             turned = map(str, reversed(self.ports(name)))
-            self.assert_refused(self.bgctl("deploy", name, *turned), f"{name} has the ports", self.plan_text())
+            self.assert_refused(
+                self.bgctl("deploy", name, *turned), f"{name} has the ports", self.plan_text()
+            )
 
     def test_a_name_of_the_history(self) -> None:
         """The switch was started again, and its book has the name no longer."""
@@ -526,7 +617,9 @@ class Commands(KeptPorts):
         self.restart()
         self.runner.stop()
         self.write_ports(("web-v2", self.ports("web-v2")))
-        self.assert_refused(self.bgctl("deploy", "web-v1", "7", "8"), "web-v1 has the ports", self.plan_text())
+        self.assert_refused(
+            self.bgctl("deploy", "web-v1", "7", "8"), "web-v1 has the ports", self.plan_text()
+        )
 
     def test_a_name_of_the_book_alone(self) -> None:
         """The history is gone, and the state has it."""
@@ -535,7 +628,9 @@ class Commands(KeptPorts):
         os.remove(self.plan.path + ".state.history")
         self.write_ports(("web-v4", (1, 2)))
         for name in NAMES[:2]:
-            self.assert_refused(self.bgctl("deploy", name, "7", "8"), f"{name} has the ports", self.plan_text())
+            self.assert_refused(
+                self.bgctl("deploy", name, "7", "8"), f"{name} has the ports", self.plan_text()
+            )
 
     def test_the_command_of_the_controller(self) -> None:
         self.write(*NAMES[:2])
@@ -543,7 +638,9 @@ class Commands(KeptPorts):
         with contextlib.redirect_stderr(io.StringIO()) as told:
             status = controller_cli.main(["deploy", self.plan.path, "web-v2", "7", "8"])
         self.assertEqual((status, self.plan_text()), (1, before))
-        self.assertIn(f"controller: {self.plan.path} stays as it is:\n  web-v2 has the ports", told.getvalue())
+        self.assertIn(
+            f"controller: {self.plan.path} stays as it is:\n  web-v2 has the ports", told.getvalue()
+        )
 
     def test_undo_takes_the_ports_that_were_live(self) -> None:
         self.v2_is_stable()
@@ -555,14 +652,21 @@ class Commands(KeptPorts):
 
     def test_undo_with_other_ports(self) -> None:
         self.v2_is_stable()
-        self.assert_refused(self.bgctl("undo", "--to", "web-v1", "--ports", "7", "8"), "web-v1 has the ports", self.plan_text())
+        self.assert_refused(
+            self.bgctl("undo", "--to", "web-v1", "--ports", "7", "8"),
+            "web-v1 has the ports",
+            self.plan_text(),
+        )
 
     def test_check(self) -> None:
         self.v2_is_stable()
         self.write_untested()
         told = self.bgctl("check")
-        self.assertEqual((told.status, told.printed.startswith("revisions[1].ports: web-v2 has the ports ")), (1, True), told.printed)
-
+        self.assertEqual(
+            (told.status, told.printed.startswith("revisions[1].ports: web-v2 has the ports ")),
+            (1, True),
+            told.printed,
+        )
 
     def test_the_history_of_an_earlier_controller(self) -> None:
         """A name may have had several ports: those of its latest attempt count."""
@@ -589,8 +693,10 @@ class RefusedDeploys(KeptPorts):
     def test_status_tells_it_until_it_is_over(self) -> None:
         self.assertEqual(self.bgctl("deploy", "web-v4", "1", "2").status, 0)
         self.await_held("web-v4")
-        text = ("bgctl: web-v4 is held back: the switch refuses to deploy web-v4 1 2: refused TooManyRevisions: 64 revisions exist "
-                "already\n")
+        text = (
+            "bgctl: web-v4 is held back: the switch refuses to deploy web-v4 1 2: refused TooManyRevisions: 64 revisions exist "
+            "already\n"
+        )
         self.assertEqual(self.bgctl("status")[1:], (text, 4))
         del self.switch.book.refusals["deploy"]
         self.await_held()
@@ -605,8 +711,10 @@ class RefusedDeploys(KeptPorts):
     def test_a_wait_ends_at_once(self) -> None:
         told = self.bgctl("deploy", "web-v4", "1", "2", "--wait", "--timeout", "40")
         self.assertEqual(told.status, 1)  # 2 where its time has passed
-        self.assertIn("stable=web-v4 cannot hold by the plan: the switch refuses to deploy web-v4 1 2: refused TooManyRevisions: 64 ",
-                      told.told)
+        self.assertIn(
+            "stable=web-v4 cannot hold by the plan: the switch refuses to deploy web-v4 1 2: refused TooManyRevisions: 64 ",
+            told.told,
+        )
 
     def test_no_endpoint_comes_before_a_refusal(self) -> None:
         """Clients that get errors are told first."""
@@ -619,21 +727,31 @@ class RefusedDeploys(KeptPorts):
 
 
 class OfAFleet(unittest.TestCase):
-    """The record of a fleet says which ports a name has, so an agent holds nothing back by its own history."""
+    """The record of a fleet says which ports a name has, so an agent holds nothing back by its own
+    history."""
 
     def test_its_memory_keeps_no_ports(self) -> None:
-        first, second, other = (PlannedRevision(*told) for told in (("web-v1", (1, 2)), ("web-v2", (3, 4)), ("web-v1", (5, 6))))
+        first, second, other = (
+            PlannedRevision(*told)
+            for told in (("web-v1", (1, 2)), ("web-v2", (3, 4)), ("web-v1", (5, 6)))
+        )
         plan = Plan(8082, Health(), Analyses({}), Progress(), (other, second))
         with tempfile.TemporaryDirectory() as folder:
             path, log = os.path.join(folder, "fleet.json"), Log(io.StringIO(), False)
-            HistoryFile(path).append(Event("2026-11-26T10:00:00+00:00", "opened", "web-v1", 1, ports=first.ports))
-            memory = FleetMemory(Machine("a", "m1", MachineSettings(8082), lambda _: None), path, plan, log)
+            HistoryFile(path).append(
+                Event("2026-11-26T10:00:00+00:00", "opened", "web-v1", 1, ports=first.ports)
+            )
+            memory = FleetMemory(
+                Machine("a", "m1", MachineSettings(8082), lambda _: None), path, plan, log
+            )
             for revision in (first, second):
                 memory.set_opened(revision)
             held = HeldRevisions(log, memory)
             held.look(plan)
-            self.assertEqual((memory.known(plan, "web-v1"), memory.noted(plan), memory.state.held),
-                             (other, {"web-v1": other, "web-v2": second}, ()))
+            self.assertEqual(
+                (memory.known(plan, "web-v1"), memory.noted(plan), memory.state.held),
+                (other, {"web-v1": other, "web-v2": second}, ()),
+            )
             told = read_report(book_with("open web-v1 5 6"))
             assert told is not None
             memory.take_in(plan, told)

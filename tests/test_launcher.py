@@ -16,12 +16,15 @@ from tests.fake_switch import FakeSwitch
 from tests.test_controller import NAMES, ControllerCase
 from tests.tool_runs import comes
 
-# Writes down what it was called for. A file of the name that it is called with lets it fail, or never end.
+# Writes down what it was called for. A file of the name that it is called with lets it fail, or
+# never end.
 FAKE = """echo "$0 $1 $2 $3" >> calls; test ! -e "hang-$0" || exec sleep 60; test ! -e "fail-$0"; exit"""
 
 
 class Launched(ControllerCase):
-    """Endpoints run where the fake commands were called for them: a thread starts and stops them as the calls say."""
+    """Endpoints run where the fake commands were called for them: a thread starts and stops them as
+    the calls say."""
+
     knows_down = True
 
     def setUp(self) -> None:
@@ -30,14 +33,19 @@ class Launched(ControllerCase):
         for pair in self.endpoints.values():
             for endpoint in pair:
                 endpoint.stop()
-        self.members: dict[str, object] = {name: ["sh", "-c", FAKE, name, "{revision}", "{port}", "{number}"] for name in ("start", "stop")}
+        self.members: dict[str, object] = {
+            name: ["sh", "-c", FAKE, name, "{revision}", "{port}", "{number}"]
+            for name in ("start", "stop")
+        }
 
     def calls(self) -> list[str]:
         path = pathlib.Path(self.folder, "calls")
         return path.read_text(encoding="ascii").splitlines() if path.exists() else []
 
     def await_calls(self, *calls: str) -> None:
-        self.assertTrue(comes(lambda: set(calls) <= set(self.calls())), (calls, self.calls(), self.log()))
+        self.assertTrue(
+            comes(lambda: set(calls) <= set(self.calls())), (calls, self.calls(), self.log())
+        )
 
     def call(self, kind: str, name: str, number: int) -> str:
         return f"{kind} {name} {self.endpoints[name][number - 1].port} {number}"
@@ -94,7 +102,9 @@ class Rollouts(Launched):
         self.some_rounds()
         self.switch.book.revisions[1].desired = self.switch.book.revisions[1].available = 0
         self.some_rounds()
-        self.assertEqual([call for call in self.calls() if call.startswith("stop")], [], "a request is open")
+        self.assertEqual(
+            [call for call in self.calls() if call.startswith("stop")], [], "a request is open"
+        )
         self.switch.book.revisions[1].open = 0
         self.await_calls(*self.both("stop", "web-v1"))
         self.await_log("web-v1 is stopped")
@@ -105,9 +115,14 @@ class Rollouts(Launched):
         self.bring_v1_up()
         self.file("fail-start").touch()
         self.write(*NAMES[:2])
-        self.await_log(f"start of web-v2 at port {self.endpoints['web-v2'][0].port} has failed, and is run again in 0.1 seconds: "
-                       "its exit status is 1", "is run again in 0.4 seconds")
-        self.assertEqual([line for line in self.switch.sent_lines() if line.startswith("deploy")], [])
+        self.await_log(
+            f"start of web-v2 at port {self.endpoints['web-v2'][0].port} has failed, and is run again in 0.1 seconds: "
+            "its exit status is 1",
+            "is run again in 0.4 seconds",
+        )
+        self.assertEqual(
+            [line for line in self.switch.sent_lines() if line.startswith("deploy")], []
+        )
         self.file("fail-start").unlink()
         self.await_log(f"deploy {self.words('web-v2')} => ok 0")
 
@@ -115,7 +130,9 @@ class Rollouts(Launched):
         self.bring_v1_up()
         self.file("hang-start").touch()
         self.write(*NAMES[:2], timeout=0.3)
-        self.await_log("has failed, and is run again in 0.1 seconds: it has not ended after 0.3 seconds")
+        self.await_log(
+            "has failed, and is run again in 0.1 seconds: it has not ended after 0.3 seconds"
+        )
         self.file("hang-start").unlink()
         self.await_log(f"deploy {self.words('web-v2')} => ok 0")
 
@@ -133,13 +150,22 @@ class Rollouts(Launched):
         self.bring_v1_up()
         self.endpoints["web-v3"] = self.endpoints["web-v1"]
         self.write("web-v3", **self.members)
-        self.await_log("start of web-v3 at port", "waits: the port is that of web-v1, which is not stopped yet")
+        self.await_log(
+            "start of web-v3 at port", "waits: the port is that of web-v1, which is not stopped yet"
+        )
         self.some_rounds()
         self.assertEqual([call for call in self.calls() if "web-v3" in call], [])
-        self.assertEqual([line for line in self.switch.sent_lines() if line.startswith("deploy")], [], "they are no endpoints of web-v3")
+        self.assertEqual(
+            [line for line in self.switch.sent_lines() if line.startswith("deploy")],
+            [],
+            "they are no endpoints of web-v3",
+        )
         before = len(self.calls())
         self.endpoints["web-v1"][0].stop()
-        self.assertTrue(comes(lambda: self.call("start", "web-v1", 1) in self.calls()[before:]), "web-v1 is live")
+        self.assertTrue(
+            comes(lambda: self.call("start", "web-v1", 1) in self.calls()[before:]),
+            "web-v1 is live",
+        )
 
 
 class Stops(Launched):
@@ -151,7 +177,10 @@ class Stops(Launched):
     def test_a_stop_that_fails_is_run_again_by_the_next_controller_too(self) -> None:
         self.file("fail-stop").touch()
         self.scale_v1_down()
-        self.await_log("stop of web-v1 at port", "has failed, and is run again in 0.2 seconds: its exit status is 1")
+        self.await_log(
+            "stop of web-v1 at port",
+            "has failed, and is run again in 0.2 seconds: its exit status is 1",
+        )
         self.runner.stop()
         self.assertEqual(self.started(), ["web-v1", "web-v2"])
         self.file("fail-stop").unlink()
@@ -159,31 +188,40 @@ class Stops(Launched):
         self.await_log("web-v1 is stopped")
 
     def test_a_revision_that_is_needed_again_is_started_again(self) -> None:
-        """An undo by hand while the old revision is stopped. A late answer to a probe does not count for it."""
+        """An undo by hand while the old revision is stopped. A late answer to a probe does not
+        count for it."""
         self.scale_v1_down()
         self.await_calls(*self.both("stop", "web-v1"))
         before = len(self.calls())
         self.go_down("web-v1")
         self.by_hand(f"deploy {self.words('web-v1')}")
-        self.assertTrue(comes(lambda: set(self.both("start", "web-v1")) <= set(self.calls()[before:])), (self.calls(), self.log()))
+        self.assertTrue(
+            comes(lambda: set(self.both("start", "web-v1")) <= set(self.calls()[before:])),
+            (self.calls(), self.log()),
+        )
         self.come_up("web-v1")
         self.await_book("paused", 1)
 
     def test_nothing_is_stopped_while_no_book_is_open(self) -> None:
-        """The switch is started again, and its opening waits for the stable revision. The attempt that ran is begun again later."""
+        """The switch is started again, and its opening waits for the stable revision. The attempt
+        that ran is begun again later."""
         self.bring_v2_to_its_pause()
         self.go_down("web-v1")
         self.await_log("available 1 0 => ok 0")
         self.switch.kill()
         self.switch.start()
         self.some_rounds()
-        self.assertEqual((self.switch.book.phase, [call for call in self.calls() if call.startswith("stop")]), ("", []))
+        self.assertEqual(
+            (self.switch.book.phase, [call for call in self.calls() if call.startswith("stop")]),
+            ("", []),
+        )
         self.come_up("web-v1")
         self.await_book("paused", 2)
         self.assertEqual([call for call in self.calls() if call.startswith("stop")], [])
 
     def test_nothing_is_stopped_that_the_switch_before_still_needs(self) -> None:
-        """An upgrade while a request of the old revision is open at the first switch, which ends later."""
+        """An upgrade while a request of the old revision is open at the first switch, which ends
+        later."""
         self.bring_v2_to_its_pause()
         self.by_hand("promote")
         self.switch.book.revisions[1].open = 1
@@ -212,14 +250,19 @@ class Stops(Launched):
         self.assertEqual(len([call for call in self.calls() if call.startswith("start web-v2")]), 2)
 
     def test_an_aborted_revision_of_a_book_that_is_open_is_not_started(self) -> None:
-        """Nothing is known of it, and the switch is not asked for its ports before the pause ends."""
+        """Nothing is known of it, and the switch is not asked for its ports before the pause
+        ends."""
         for line in (f"open {self.words('web-v1')}", f"deploy {self.words('web-v2')}", "abort"):
             self.by_hand(line)
         self.switch.book.revisions[2].desired = 0
         self.write(*NAMES[:2], **self.members)
         PauseFile(self.plan.path).pause()
         probes = self.start().controller.probes
-        self.assertTrue(comes(lambda: all(probes.is_down(endpoint.port) for endpoint in self.endpoints["web-v2"])))
+        self.assertTrue(
+            comes(
+                lambda: all(probes.is_down(endpoint.port) for endpoint in self.endpoints["web-v2"])
+            )
+        )
         self.await_calls(*self.both("start", "web-v1"))
         self.some_rounds()
         self.assertEqual([call for call in self.calls() if call.startswith("start web-v2")], [])
@@ -237,8 +280,12 @@ class Stops(Launched):
 class Words(unittest.TestCase):
     def test_places(self) -> None:
         revision = PlannedRevision("web-v1", (81, 82))
-        self.assertEqual(words_for(("systemctl", "start", "{revision}@{port}-{number}", "${x} {y}"), revision, 82),
-                         ["systemctl", "start", "web-v1@82-2", "${x} {y}"])
+        self.assertEqual(
+            words_for(
+                ("systemctl", "start", "{revision}@{port}-{number}", "${x} {y}"), revision, 82
+            ),
+            ["systemctl", "start", "web-v1@82-2", "${x} {y}"],
+        )
 
 
 class Notified(ControllerCase):
@@ -254,29 +301,51 @@ class Notified(ControllerCase):
         self.start()
         self.await_book("paused", 2)
         expected = {f"deploy {self.words('web-v2')} => ok 0", "phase: scaling -> paused"}
-        self.assertTrue(comes(lambda: expected <= {str(event["text"]) for event in self.events()}), self.events())
-        self.assertEqual({"number", "time", "moment", "event", "text"} - set(self.events()[0]), set())
+        self.assertTrue(
+            comes(lambda: expected <= {str(event["text"]) for event in self.events()}),
+            self.events(),
+        )
+        self.assertEqual(
+            {"number", "time", "moment", "event", "text"} - set(self.events()[0]), set()
+        )
 
     def test_the_rollout_waits_for_none(self) -> None:
         """Each call hangs, and is killed after its timeout; not more than a few run at a time."""
         with mock.patch.object(notifier, "GRACE", 0.2):
-            self.write(*NAMES[:2], notify=["sh", "-c", "trap '' TERM; echo $$ >> pids; while :; do sleep 0.1; done"], timeout=0.4)
+            self.write(
+                *NAMES[:2],
+                notify=["sh", "-c", "trap '' TERM; echo $$ >> pids; while :; do sleep 0.1; done"],
+                timeout=0.4,
+            )
             self.start()
             begun = time.monotonic()
             self.await_book("paused", 2)
             seconds = time.monotonic() - begun
             self.assertTrue(is_within(seconds, 8), seconds)
             path = pathlib.Path(self.folder, "pids")
-            self.assertTrue(comes(lambda: path.exists() and len(path.read_text(encoding="ascii").split()) > notifier.MOST_AT_ONCE))
+            self.assertTrue(
+                comes(
+                    lambda: path.exists()
+                    and len(path.read_text(encoding="ascii").split()) > notifier.MOST_AT_ONCE
+                )
+            )
             pids = path.read_text(encoding="ascii").split()
-            self.assertLessEqual(sum(os.path.exists(f"/proc/{pid}") for pid in pids), notifier.MOST_AT_ONCE)
-            self.await_log("notify has failed, 1 times since it was told: it has not ended after 0.4 seconds")
+            self.assertLessEqual(
+                sum(os.path.exists(f"/proc/{pid}") for pid in pids), notifier.MOST_AT_ONCE
+            )
+            self.await_log(
+                "notify has failed, 1 times since it was told: it has not ended after 0.4 seconds"
+            )
             self.assertTrue(comes(lambda: not os.path.exists(f"/proc/{pids[0]}")))
             self.runner.stop()
             time.sleep(0.2)
             begun_by_then = path.read_text(encoding="ascii").split()
             time.sleep(1)
-            self.assertEqual(path.read_text(encoding="ascii").split(), begun_by_then, "none begins when the controller has ended")
+            self.assertEqual(
+                path.read_text(encoding="ascii").split(),
+                begun_by_then,
+                "none begins when the controller has ended",
+            )
             self.assertEqual([pid for pid in begun_by_then if os.path.exists(f"/proc/{pid}")], [])
 
 

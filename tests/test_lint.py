@@ -11,12 +11,12 @@ from tests.tool_runs import TOP, WAIT
 
 LINT = TOP / "scripts" / "lint.sh"
 NEEDED = ("sh", "dirname", "git", "sed", "xargs")
-CHECKERS = ("mypy", "flake8", "shellcheck", "node")
+CHECKERS = ("mypy", "flake8", "black", "shellcheck", "node")
 
 
 class Lint(unittest.TestCase):
-    """A repository of its own, and a folder with the programs that the script finds: those that it needs, and checkers that find
-    nothing."""
+    """A repository of its own, and a folder with the programs that the script finds: those that it
+    needs, and checkers that find nothing."""
 
     def setUp(self) -> None:
         self.top = pathlib.Path(self.enterContext(tempfile.TemporaryDirectory()))
@@ -27,7 +27,9 @@ class Lint(unittest.TestCase):
             self.write_program(name, "exit 0")
         (self.top / "scripts").mkdir()
         shutil.copy(LINT, self.top / "scripts" / "lint.sh")
-        (self.top / "page.js").write_text('import {name} from "./other.js";\nexport const other = name;\n', encoding="ascii")
+        (self.top / "page.js").write_text(
+            'import {name} from "./other.js";\nexport const other = name;\n', encoding="ascii"
+        )
         (self.top / "tool.py").write_text("", encoding="ascii")
         self.run_words("git", "init", "--quiet")
 
@@ -44,7 +46,15 @@ class Lint(unittest.TestCase):
 
     def run_words(self, *words: str) -> Run:
         environment = {**os.environ, "PATH": str(self.programs)}
-        done = subprocess.run(words, cwd=self.top, capture_output=True, text=True, timeout=WAIT, check=False, env=environment)
+        done = subprocess.run(
+            words,
+            cwd=self.top,
+            capture_output=True,
+            text=True,
+            timeout=WAIT,
+            check=False,
+            env=environment,
+        )
         return Run(done.stdout, done.stderr, done.returncode)
 
     def lint(self) -> Run:
@@ -86,6 +96,19 @@ class Lint(unittest.TestCase):
         self.assertEqual(done.status, 1)
         self.assertIn("F401", done.printed)
 
+    @unittest.skipUnless(shutil.which("black"), "black is not installed")
+    def test_a_layout_that_is_not_blacks_is_found(self) -> None:
+        self.install("black")
+        shutil.copy(TOP / "pyproject.toml", self.top / "pyproject.toml")
+        # a line of 100 columns, which black's own limit of 88 would break
+        line = "".join(("names = [", "'x', ".replace("'", '"') * 17, '"xyz"', "]\n"))
+        (self.top / "tool.py").write_text(line, encoding="ascii")
+        self.assertEqual((len(line), self.lint().status), (101, 0))
+        (self.top / "tool.py").write_text("names = ['x']\n", encoding="ascii")
+        done = self.lint()
+        self.assertEqual(done.status, 1)
+        self.assertIn('+names = ["x"]\n', done.printed)
+
     @unittest.skipUnless(shutil.which("shellcheck"), "shellcheck is not installed")
     def test_a_fault_of_a_shell_script_is_found(self) -> None:
         self.install("shellcheck")
@@ -99,7 +122,9 @@ class Lint(unittest.TestCase):
     def test_a_fault_of_a_module_is_found(self) -> None:
         self.install("node")
         self.assertEqual(self.lint().status, 0)
-        (self.top / "page.js").write_text('import {name} from "./other.js";\nexport const other = ;\n', encoding="ascii")
+        (self.top / "page.js").write_text(
+            'import {name} from "./other.js";\nexport const other = ;\n', encoding="ascii"
+        )
         done = self.lint()
         self.assertEqual(done.status, 1)
         self.assertIn("lint: the fault is in page.js\n", done.printed)

@@ -1,11 +1,23 @@
-"""The packages of the tools: their imports go one way, no two modules import one another, and docs/TOOLS.md lists each."""
+"""The packages of the tools: their imports go one way, no two modules import one another, and
+docs/TOOLS.md lists each."""
 import ast
 import graphlib
 import pathlib
 import tempfile
 import unittest
 
-from module_map import BELOW, LIBRARY, PAGE, TABLE, imported, modules, page_with, sentence_of, table, wrong_imports
+from module_map import (
+    BELOW,
+    LIBRARY,
+    PAGE,
+    TABLE,
+    imported,
+    modules,
+    page_with,
+    sentence_of,
+    table,
+    wrong_imports,
+)
 from tests.tool_runs import TOP
 
 MEND = "run scripts/module_map.py --write"
@@ -28,8 +40,13 @@ class Imports(unittest.TestCase):
 
     def test_no_two_modules_import_one_another(self) -> None:
         """A cycle would end `prepare` with a fault."""
-        graph = {f"{package}.{path.stem}": {f"{other}.{module}" for other, module in imported(path) if module}
-                 for package in BELOW for path in modules(package)}
+        graph = {
+            f"{package}.{path.stem}": {
+                f"{other}.{module}" for other, module in imported(path) if module
+            }
+            for package in BELOW
+            for path in modules(package)
+        }
         graphlib.TopologicalSorter(graph).prepare()
 
     def test_an_import_that_goes_up_is_found(self) -> None:
@@ -37,14 +54,21 @@ class Imports(unittest.TestCase):
             library = pathlib.Path(folder)
             for package in BELOW:
                 (library / package).mkdir()
-            (library / "switch" / "a.py").write_text("def f() -> None:\n    from bg_switch_tools.bgctl import cli\n", encoding="ascii")
-            (library / "operator" / "b.py").write_text("import bg_switch_tools.switch.a\nfrom bg_switch_tools.analysis.c import D\n",
-                                                       encoding="ascii")
-            self.assertEqual(wrong_imports(library), ["switch/a.py: bgctl", "operator/b.py: analysis"])
+            (library / "switch" / "a.py").write_text(
+                "def f() -> None:\n    from bg_switch_tools.bgctl import cli\n", encoding="ascii"
+            )
+            (library / "operator" / "b.py").write_text(
+                "import bg_switch_tools.switch.a\nfrom bg_switch_tools.analysis.c import D\n",
+                encoding="ascii",
+            )
+            self.assertEqual(
+                wrong_imports(library), ["switch/a.py: bgctl", "operator/b.py: analysis"]
+            )
 
 
 def unfit_statements(path: pathlib.Path) -> list[str]:
-    """The statements of a module that no tool may have: python -O drops an `assert`, and `os._exit` ends without what is left."""
+    """The statements of a module that no tool may have: python -O drops an `assert`, and `os._exit`
+    ends without what is left."""
     found = []
     for node in ast.walk(ast.parse(path.read_text(encoding="utf-8"))):
         if isinstance(node, ast.Assert):
@@ -56,7 +80,9 @@ def unfit_statements(path: pathlib.Path) -> list[str]:
 
 class Statements(unittest.TestCase):
     def test_no_tool_asserts_or_ends_at_once(self) -> None:
-        self.assertEqual([each for path in (TOP / "lib").rglob("*.py") for each in unfit_statements(path)], [])
+        self.assertEqual(
+            [each for path in (TOP / "lib").rglob("*.py") for each in unfit_statements(path)], []
+        )
 
     def test_what_is_unfit_is_found(self) -> None:
         with tempfile.TemporaryDirectory() as folder:

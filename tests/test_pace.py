@@ -1,4 +1,5 @@
-"""Limits in seconds are wider where the machine is slow, and only there; and a process that is paused does nothing more."""
+"""Limits in seconds are wider where the machine is slow, and only there; and a process that is
+paused does nothing more."""
 import contextlib
 import io
 import pathlib
@@ -62,7 +63,9 @@ class Counted(unittest.TestCase):
     def test_what_is_prompt_beside_a_load(self) -> None:
         with with_slowness(1.0):
             checks.check_beside("within its limit", [0.2, 0.29], [0.01], 0.3)
-            checks.check_beside("where the same takes long elsewhere too", [0.1, 0.9], [0.01, 0.1], 0.3)
+            checks.check_beside(
+                "where the same takes long elsewhere too", [0.1, 0.9], [0.01, 0.1], 0.3
+            )
             self.assertEqual((self.counts.passed, self.counts.failed), (2, 0))
             checks.check_beside("one that waits", [0.1, 0.9, 0.1], [0.01, 0.02], 0.3)
             checks.check_beside("with nothing to compare with", [0.9], [], 0.3)
@@ -77,17 +80,22 @@ class Pauses(unittest.TestCase):
             try:
                 self.assertTrue(checks.comes(lambda: len(list(tasks.iterdir())) == 9))
                 processes.pause(process.pid)
-                self.assertEqual([path.name for path in tasks.iterdir() if not processes.is_stopped(path)], [])
+                self.assertEqual(
+                    [path.name for path in tasks.iterdir() if not processes.is_stopped(path)], []
+                )
                 process.send_signal(signal.SIGCONT)
-                self.assertTrue(checks.comes(lambda: not all(map(processes.is_stopped, tasks.iterdir()))))
+                self.assertTrue(
+                    checks.comes(lambda: not all(map(processes.is_stopped, tasks.iterdir())))
+                )
             finally:
                 process.kill()
 
 
 class Slowness(unittest.TestCase):
     def of(self, *seconds: float, load: float = 0.0) -> float:
-        with mock.patch.object(pace, "seconds_of_work", side_effect=seconds), mock.patch("os.getloadavg", return_value=(load, 0.0, 0.0)), \
-                mock.patch("os.sched_getaffinity", return_value={0, 1}):
+        with mock.patch.object(pace, "seconds_of_work", side_effect=seconds), mock.patch(
+            "os.getloadavg", return_value=(load, 0.0, 0.0)
+        ), mock.patch("os.sched_getaffinity", return_value={0, 1}):
             return pace.slowness()
 
     def test_it_is_that_of_most_runs(self) -> None:

@@ -1,5 +1,5 @@
-"""The pages: each relative link leads to a file and to a heading of it, each path and target that is named is there, and
-the map of definitions is that of the files."""
+"""The pages: each relative link leads to a file and to a heading of it, each path and target that
+is named is there, and the map of definitions is that of the files."""
 import contextlib
 import io
 import pathlib
@@ -16,7 +16,11 @@ LINES_OF_A_SCREEN = 12
 
 
 def pages(top: pathlib.Path) -> list[pathlib.Path]:
-    return sorted(page for place in ("", ".github/", "docs/", "examples/**/", "crates/*/", "model/") for page in top.glob(f"{place}*.md"))
+    return sorted(
+        page
+        for place in ("", ".github/", "docs/", "examples/**/", "crates/*/", "model/")
+        for page in top.glob(f"{place}*.md")
+    )
 
 
 def without_code(text: str) -> str:
@@ -40,7 +44,12 @@ def is_broken(page: pathlib.Path, link: str) -> bool:
 
 
 def broken_links(top: pathlib.Path) -> list[str]:
-    return [f"{page.relative_to(top)}: {link}" for page in pages(top) for link in links_of(page) if is_broken(page, link)]
+    return [
+        f"{page.relative_to(top)}: {link}"
+        for page in pages(top)
+        for link in links_of(page)
+        if is_broken(page, link)
+    ]
 
 
 class Links(unittest.TestCase):
@@ -52,9 +61,17 @@ class Links(unittest.TestCase):
         with tempfile.TemporaryDirectory() as folder:
             top = pathlib.Path(folder)
             (top / "docs").mkdir()
-            (top / "README.md").write_text("[a](docs/A.md#the-first-part) [b](docs/B.md) [c](docs/A.md#other) [d](#none)\n", encoding="ascii")
-            (top / "docs" / "A.md").write_text("# The `first` part\n```sh\n# other\n```\n[up](../README.md)\n", encoding="ascii")
-            self.assertEqual(broken_links(top), ["README.md: docs/B.md", "README.md: docs/A.md#other", "README.md: #none"])
+            (top / "README.md").write_text(
+                "[a](docs/A.md#the-first-part) [b](docs/B.md) [c](docs/A.md#other) [d](#none)\n",
+                encoding="ascii",
+            )
+            (top / "docs" / "A.md").write_text(
+                "# The `first` part\n```sh\n# other\n```\n[up](../README.md)\n", encoding="ascii"
+            )
+            self.assertEqual(
+                broken_links(top),
+                ["README.md: docs/B.md", "README.md: docs/A.md#other", "README.md: #none"],
+            )
 
 
 def missing_names(top: pathlib.Path, text: str) -> list[str]:
@@ -78,13 +95,20 @@ class Names(unittest.TestCase):
             (top / "Makefile").write_text("build:\ntest-tools:\n", encoding="ascii")
             (top / "bin").mkdir()
             (top / "bin" / "tool").touch()
-            self.assertEqual(missing_names(top, "`make build test-tools`, `make demo`, `bin/tool`, bin/other."), ["bin/other", "demo"])
+            self.assertEqual(
+                missing_names(top, "`make build test-tools`, `make demo`, `bin/tool`, bin/other."),
+                ["bin/other", "demo"],
+            )
 
     def test_readme_is_short(self) -> None:
-        self.assertLessEqual(len((TOP / "README.md").read_text(encoding="utf-8").split()), MOST_WORDS_OF_README)
+        self.assertLessEqual(
+            len((TOP / "README.md").read_text(encoding="utf-8").split()), MOST_WORDS_OF_README
+        )
 
     def test_the_first_screen_has_the_first_questions_of_a_reader(self) -> None:
-        screen = "\n".join((TOP / "README.md").read_text(encoding="utf-8").splitlines()[:LINES_OF_A_SCREEN])
+        screen = "\n".join(
+            (TOP / "README.md").read_text(encoding="utf-8").splitlines()[:LINES_OF_A_SCREEN]
+        )
         self.assertRegex(screen, r"\*\*Requests at a time:\*\* .*\b1,023\b")
         self.assertRegex(screen, r"\*\*The first command\*\* .*\bminutes\b")
         self.assertRegex(screen, r"\bapt-get install .*\bin a minute\b")
@@ -101,16 +125,25 @@ class Definitions(unittest.TestCase):
         told, faults = io.StringIO(), io.StringIO()
         with contextlib.redirect_stdout(told), contextlib.redirect_stderr(faults):
             self.assertEqual(definitions.main(["is_running", "bg_endpoints", "is_nowhere"]), 1)
-        self.assertRegex(told.getvalue(), r"(?m)^crates/bg_history/specs/AttemptBounds\.antt:\d+: is_running: \w")
+        self.assertRegex(
+            told.getvalue(), r"(?m)^crates/bg_history/specs/AttemptBounds\.antt:\d+: is_running: \w"
+        )
         self.assertRegex(told.getvalue(), r"(?m)^crates/bg_endpoints/specs/OwnPorts\.antt: \w")
-        self.assertEqual(faults.getvalue(), "no definition and no crate with definitions has the name is_nowhere\n")
+        self.assertEqual(
+            faults.getvalue(),
+            "no definition and no crate with definitions has the name is_nowhere\n",
+        )
 
     def test_a_file(self) -> None:
         text = "-- What holds,\n-- so far. More.\nuse Rattle.x\n\n-- it is\n-- so\nabbrev pub is_so : Bool\nis_so = true\n\n  pub record Known (X : Type 0) where\n"
         self.assertEqual(definitions.subject_of(text), "What holds, so far. More.")
-        self.assertEqual(list(definitions.definitions_of(text)), [
-            ("is_so", 7, "it is so", "abbrev pub is_so : Bool\nis_so = true"),
-            ("Known", 10, "", "  pub record Known (X : Type 0) where")])
+        self.assertEqual(
+            list(definitions.definitions_of(text)),
+            [
+                ("is_so", 7, "it is so", "abbrev pub is_so : Bool\nis_so = true"),
+                ("Known", 10, "", "  pub record Known (X : Type 0) where"),
+            ],
+        )
 
 
 if __name__ == "__main__":

@@ -1,4 +1,5 @@
-"""share/plan.schema.json is made from the reader of plans, and takes the plans that the reader takes, value by value."""
+"""share/plan.schema.json is made from the reader of plans, and takes the plans that the reader
+takes, value by value."""
 import copy
 import importlib
 import json
@@ -51,12 +52,38 @@ def numbers_at_the_limits(schema: Value) -> Iterator[Value]:
 
 def other_values(schema: Value) -> Iterator[Value]:
     """Values of each type, and those at the limits of a schema."""
-    yield from (None, True, 7, 1.5, -1, "", "text", "/a b", "/a\n", "/up", "a" * 64, [], [""], ["a", 1], ["a", ""], ["a\0"], {}, {"x": 1})
+    yield from (
+        None,
+        True,
+        7,
+        1.5,
+        -1,
+        "",
+        "text",
+        "/a b",
+        "/a\n",
+        "/up",
+        "a" * 64,
+        [],
+        [""],
+        ["a", 1],
+        ["a", ""],
+        ["a\0"],
+        {},
+        {"x": 1},
+    )
     if "minimum" in schema:
         yield from numbers_at_the_limits(schema)
     if schema.get("uniqueItems"):
         most = schema["maxItems"]
-        yield from ([1, 1], [0, 1], [1, 65535], [1, 65536], list(range(1, most + 1)), list(range(1, most + 2)))
+        yield from (
+            [1, 1],
+            [0, 1],
+            [1, 65535],
+            [1, 65536],
+            list(range(1, most + 1)),
+            list(range(1, most + 2)),
+        )
 
 
 def changed(plan: Value, schema: Value) -> Iterator[Value]:
@@ -72,14 +99,19 @@ def changed(plan: Value, schema: Value) -> Iterator[Value]:
     elif schema["type"] == "array" and isinstance(schema["items"], dict):
         for place, one in enumerate(plan):
             for value in changed(one, schema["items"]):
-                yield [*plan[:place], value, *plan[place + 1:]]
+                yield [*plan[:place], value, *plan[place + 1 :]]
 
 
 def one_revision() -> Value:
     """A plan with each key and one revision, so that nothing has to fit another revision."""
     plan = copy.deepcopy(dict(GOOD))
-    plan.update({"$schema": "plan.schema.json", "analyses": {"pre": ["a"], "post": ["b"], "seconds": 9},
-                 "revisions": [{"name": "web-v1", "ports": [9101]}]})
+    plan.update(
+        {
+            "$schema": "plan.schema.json",
+            "analyses": {"pre": ["a"], "post": ["b"], "seconds": 9},
+            "revisions": [{"name": "web-v1", "ports": [9101]}],
+        }
+    )
     return plan
 
 
@@ -90,8 +122,13 @@ class Schema(unittest.TestCase):
     def test_each_key_has_a_description(self) -> None:
         schema: Value = plan_schema.schema()
         self.assertEqual(set(schema["properties"]), set(KEYS))
-        objects = [schema, *(each for each in schema["properties"].values() if each["type"] == "object")]
-        self.assertTrue(all("description" in each for one in objects for each in one["properties"].values()))
+        objects = [
+            schema,
+            *(each for each in schema["properties"].values() if each["type"] == "object"),
+        ]
+        self.assertTrue(
+            all("description" in each for one in objects for each in one["properties"].values())
+        )
 
     def test_a_plan_can_name_it(self) -> None:
         self.assertTrue(is_taken({**GOOD, "$schema": "/usr/share/bg-switch/plan.schema.json"}))
@@ -115,13 +152,16 @@ class Schema(unittest.TestCase):
     def test_it_takes_each_plan_of_the_examples(self) -> None:
         judge = validator()
         told = [path.read_text(encoding="utf-8") for path in TOP.glob("examples/**/plan.json")]
-        told += re.findall(r"plan\.json << 'END'\n(\{.*?)\nEND\n", (TOP / "docs" / "OPERATING.md").read_text(encoding="utf-8"), re.S)
+        told += re.findall(
+            r"plan\.json << 'END'\n(\{.*?)\nEND\n",
+            (TOP / "docs" / "OPERATING.md").read_text(encoding="utf-8"),
+            re.S,
+        )
         self.assertGreaterEqual(len(told), 2)
         for text in told:
             with self.subTest(text):
                 self.assertTrue(judge.is_valid(json.loads(text)))
                 self.assertTrue(is_taken(json.loads(text)))
-
 
 
 class Page(unittest.TestCase):
@@ -134,11 +174,21 @@ class Page(unittest.TestCase):
         rows = [row.split(" | ") for row in plan_schema.table().splitlines()[2:]]
         told = {row[0].strip("| `"): row[-1].strip("| `") for row in rows}
         self.assertLessEqual(set(KEYS), set(told))
-        self.assertEqual((told["control"], told["revisions[].ports"], told["health.failures"], told["progress.abort"], told["start"]),
-                         ("needed", "needed", "2", "false", "-"))
+        self.assertEqual(
+            (
+                told["control"],
+                told["revisions[].ports"],
+                told["health.failures"],
+                told["progress.abort"],
+                told["start"],
+            ),
+            ("needed", "needed", "2", "false", "-"),
+        )
 
     def test_its_example_is_a_plan(self) -> None:
-        found = re.findall(r"^```json\n(.*?)^```$", plan_schema.PAGE.read_text(encoding="utf-8"), re.M | re.S)
+        found = re.findall(
+            r"^```json\n(.*?)^```$", plan_schema.PAGE.read_text(encoding="utf-8"), re.M | re.S
+        )
         self.assertEqual([is_taken(json.loads(text)) for text in found], [True])
 
 

@@ -1,4 +1,5 @@
-"""pyproject.toml: the version is that of the tools, each command is there, and the files of the dashboard's page are named."""
+"""pyproject.toml: the version is that of the tools, each command is there, and the files of the
+dashboard's page are named."""
 import importlib
 import pathlib
 import re
@@ -15,7 +16,9 @@ PACKAGE = TOP / "lib" / "bg_switch_tools"
 class Project(unittest.TestCase):
     def test_the_version_is_read_from_the_tools(self) -> None:
         self.assertEqual(PROJECT["project"]["dynamic"], ["version"])
-        module, _, name = PROJECT["tool"]["setuptools"]["dynamic"]["version"]["attr"].rpartition(".")
+        module, _, name = PROJECT["tool"]["setuptools"]["dynamic"]["version"]["attr"].rpartition(
+            "."
+        )
         self.assertEqual(getattr(importlib.import_module(module), name), bg_switch_tools.VERSION)
 
     def test_each_command_is_that_of_the_debian_package(self) -> None:
@@ -31,9 +34,17 @@ class Project(unittest.TestCase):
 
     def test_each_file_that_is_no_module_is_in_the_package(self) -> None:
         data = PROJECT["tool"]["setuptools"]["package-data"]
-        named = {path for package, patterns in data.items() for pattern in patterns
-                 for path in PACKAGE.joinpath(*package.split(".")[1:]).glob(pattern)}
-        others = {path for path in PACKAGE.rglob("*") if path.is_file() and path.suffix not in (".py", ".pyc")}
+        named = {
+            path
+            for package, patterns in data.items()
+            for pattern in patterns
+            for path in PACKAGE.joinpath(*package.split(".")[1:]).glob(pattern)
+        }
+        others = {
+            path
+            for path in PACKAGE.rglob("*")
+            if path.is_file() and path.suffix not in (".py", ".pyc")
+        }
         self.assertEqual(others - named, set())
 
     def test_the_python_is_that_of_the_debian_package(self) -> None:

@@ -11,14 +11,36 @@ from bg_switch_tools.controller.log import Log
 from bg_switch_tools.controller.memory import Memory
 from bg_switch_tools.controller.plan import Analyses, Health, Plan, PlannedRevision, Progress
 from bg_switch_tools.controller.process_groups import ProcessId
-from bg_switch_tools.controller.state_file import HeldBack, IsLocked, NoState, State, StateFile, StateLock, read_state, written
+from bg_switch_tools.controller.state_file import (
+    HeldBack,
+    IsLocked,
+    NoState,
+    State,
+    StateFile,
+    StateLock,
+    read_state,
+    written,
+)
 
-V1, V2, V3 = (PlannedRevision(f"web-v{number}", (9000 + number, 9100 + number)) for number in (1, 2, 3))
+V1, V2, V3 = (
+    PlannedRevision(f"web-v{number}", (9000 + number, 9100 + number)) for number in (1, 2, 3)
+)
 PLAN = Plan(8082, Health(), Analyses({}), Progress(), (V1, V2, V3))
 BEGUN = int(time.time()) - 5000  # when the moment was 0
 DAY = 86400
-STATE = State(5000, V2, V3, V3, BEGUN, ProcessId(700, 12345), (V2, V3), (ProcessId(701, 7),), (8082, 8182), (V2, V3),
-              (HeldBack(PlannedRevision("web-v1", (1, 2)), "it has other ports"),))
+STATE = State(
+    5000,
+    V2,
+    V3,
+    V3,
+    BEGUN,
+    ProcessId(700, 12345),
+    (V2, V3),
+    (ProcessId(701, 7),),
+    (8082, 8182),
+    (V2, V3),
+    (HeldBack(PlannedRevision("web-v1", (1, 2)), "it has other ports"),),
+)
 
 
 class Texts(unittest.TestCase):
@@ -34,9 +56,20 @@ class Texts(unittest.TestCase):
 
     def test_what_is_no_state(self) -> None:
         text = written(STATE).decode()
-        for wrong in ("[]", "{}", text.replace("web-v2", "web-v2\\nabort"), text.replace("9002", "70000"), text.replace('"moment": 5000', '"moment": -1'),
-                      text.replace("moment", "time"), text.replace('"moment": 5000', '"moment": 1.5'), text.replace('"web-v2"', "null"),
-                      text.replace("700", "1"), text.replace("700", "-7"), text.replace("12345", '"x"'), text.replace("pid", "process")):
+        for wrong in (
+            "[]",
+            "{}",
+            text.replace("web-v2", "web-v2\\nabort"),
+            text.replace("9002", "70000"),
+            text.replace('"moment": 5000', '"moment": -1'),
+            text.replace("moment", "time"),
+            text.replace('"moment": 5000', '"moment": 1.5'),
+            text.replace('"web-v2"', "null"),
+            text.replace("700", "1"),
+            text.replace("700", "-7"),
+            text.replace("12345", '"x"'),
+            text.replace("pid", "process"),
+        ):
             with self.subTest(text=wrong), self.assertRaises(NoState):
                 read_state(wrong.encode())
 
@@ -62,20 +95,27 @@ class Files(unittest.TestCase):
 
     def cut(self, path: str) -> None:
         text = pathlib.Path(path).read_bytes()
-        pathlib.Path(path).write_bytes(text[:len(text) // 2])
+        pathlib.Path(path).write_bytes(text[: len(text) // 2])
 
     def test_a_file_that_is_there(self) -> None:
         self.file.write(STATE)
-        self.assertEqual(sorted(os.listdir(os.path.dirname(self.plan))), ["plan.json.state", "plan.json.state.copy"])
+        self.assertEqual(
+            sorted(os.listdir(os.path.dirname(self.plan))),
+            ["plan.json.state", "plan.json.state.copy"],
+        )
         memory = self.memory()
         self.assertEqual((memory.state, memory.is_fresh), (STATE, False))
-        self.assertIn("moment 5000, stable web-v2, deployed by the plan web-v3", self.out.getvalue())
+        self.assertIn(
+            "moment 5000, stable web-v2, deployed by the plan web-v3", self.out.getvalue()
+        )
 
     def test_a_file_that_is_not_there(self) -> None:
         memory = self.memory()
         self.assertEqual((self.without_since(memory), memory.is_fresh), (State(), True))
-        self.assertIn("since there is none; a switch without a book will be opened with web-v1, the plan's first revision",
-                      self.out.getvalue())
+        self.assertIn(
+            "since there is none; a switch without a book will be opened with web-v1, the plan's first revision",
+            self.out.getvalue(),
+        )
 
     def test_a_file_that_is_cut(self) -> None:
         self.file.write(STATE)
@@ -94,15 +134,24 @@ class Files(unittest.TestCase):
         self.cut(self.file.path)
         self.cut(self.file.copy)
         self.assertEqual(self.without_since(self.memory()), State())
-        self.assertIn("since it is cut; a switch without a book will be opened with web-v1", self.out.getvalue())
+        self.assertIn(
+            "since it is cut; a switch without a book will be opened with web-v1",
+            self.out.getvalue(),
+        )
 
     def test_a_file_of_another_plan(self) -> None:
         self.file.write(STATE)
-        other = dataclasses.replace(PLAN, revisions=(PlannedRevision("media-v1", (1, 2)), PlannedRevision("media-v2", (3, 4))))
+        other = dataclasses.replace(
+            PLAN,
+            revisions=(PlannedRevision("media-v1", (1, 2)), PlannedRevision("media-v2", (3, 4))),
+        )
         self.assertEqual(self.without_since(self.memory(other)), State())
-        self.assertIn(f"no switch is opened by this plan: by the state file {self.file.path}, web-v2 was stable and web-v3 was deployed "
-                      "last, and the plan does not name them. Name web-v2 with its ports 9002 9102 first in the plan; or, to begin anew "
-                      "with media-v1, which no preview and no analysis has judged, ", self.out.getvalue())
+        self.assertIn(
+            f"no switch is opened by this plan: by the state file {self.file.path}, web-v2 was stable and web-v3 was deployed "
+            "last, and the plan does not name them. Name web-v2 with its ports 9002 9102 first in the plan; or, to begin anew "
+            "with media-v1, which no preview and no analysis has judged, ",
+            self.out.getvalue(),
+        )
 
     def test_a_file_of_another_plan_stays_until_a_book_is_open(self) -> None:
         self.file.write(STATE)
@@ -115,10 +164,13 @@ class Files(unittest.TestCase):
         self.assertEqual(self.file.read()[0].names, [])
 
     def test_a_file_before_the_first_opening(self) -> None:
-        """It names no revision, so it is of each plan: what was started by then is stopped one day."""
+        """It names no revision, so it is of each plan: what was started by then is stopped one
+        day."""
         self.file.write(State(0, started=(V1,)))
         memory = self.memory()
-        self.assertEqual((memory.state.started, memory.is_fresh, memory.why_not_opened(PLAN)), ((V1,), True, ""))
+        self.assertEqual(
+            (memory.state.started, memory.is_fresh, memory.why_not_opened(PLAN)), ((V1,), True, "")
+        )
 
     def test_a_plan_that_names_the_stable_revision_no_longer(self) -> None:
         self.file.write(STATE)
@@ -131,7 +183,9 @@ class Files(unittest.TestCase):
         others = tuple(PlannedRevision(revision.name, (7, 8)) for revision in (V1, V2, V3))
         memory = self.memory(dataclasses.replace(PLAN, revisions=(V1, *others[1:], V2)))
         plan = dataclasses.replace(PLAN, revisions=others)
-        self.assertEqual([memory.known(plan, revision.name) for revision in (V1, V2, V3)], [others[0], V2, V3])
+        self.assertEqual(
+            [memory.known(plan, revision.name) for revision in (V1, V2, V3)], [others[0], V2, V3]
+        )
 
     def test_a_folder_that_takes_no_file(self) -> None:
         memory = self.memory()
@@ -142,7 +196,9 @@ class Files(unittest.TestCase):
         os.mkdir(os.path.dirname(self.plan))
         memory.set_deployed(V3)
         self.assertIn("the state is kept again in", self.out.getvalue())
-        self.assertEqual(dataclasses.replace(self.file.read()[0], since=0), State(0, None, V3, None))
+        self.assertEqual(
+            dataclasses.replace(self.file.read()[0], since=0), State(0, None, V3, None)
+        )
 
     def test_a_file_that_is_missing_beside_a_good_copy(self) -> None:
         self.file.write(STATE)
@@ -153,9 +209,13 @@ class Files(unittest.TestCase):
 
     def test_only_a_file_that_is_cut_is_called_cut(self) -> None:
         self.file.write(STATE)
-        for text, expected in ((None, "can't be read: Is a directory"), (b"[7]", "is not a state file: it has no object"),
-                             (b'{"moment": "x"}', "is not a state file: stable: is missing"), (b"moment: 7\n", "is not a state file: Expecting value"),
-                             (b"", "is empty")):
+        for text, expected in (
+            (None, "can't be read: Is a directory"),
+            (b"[7]", "is not a state file: it has no object"),
+            (b'{"moment": "x"}', "is not a state file: stable: is missing"),
+            (b"moment: 7\n", "is not a state file: Expecting value"),
+            (b"", "is empty"),
+        ):
             with self.subTest(expected=expected):
                 path = pathlib.Path(self.file.path)
                 path.unlink()
@@ -168,13 +228,19 @@ class Files(unittest.TestCase):
                     path.touch()
 
     def test_a_moment_that_the_clock_does_not_let_be_true(self) -> None:
-        """A damaged file would end the ticks of a healthy switch for ever: no moment comes after the greatest one."""
+        """A damaged file would end the ticks of a healthy switch for ever: no moment comes after
+        the greatest one."""
         for moment in (1 << 53, int(time.time()) - BEGUN + DAY + 3600):
             self.file.write(dataclasses.replace(STATE, moment=moment))
             begun = int(time.time())
             memory = self.memory()
-            self.assertTrue(begun <= memory.state.moment + BEGUN - DAY <= time.time(), memory.state.moment)
-            self.assertIn(f"the moment {moment} of the state file lies more than a day ahead of the clock", self.out.getvalue())
+            self.assertTrue(
+                begun <= memory.state.moment + BEGUN - DAY <= time.time(), memory.state.moment
+            )
+            self.assertIn(
+                f"the moment {moment} of the state file lies more than a day ahead of the clock",
+                self.out.getvalue(),
+            )
         self.file.write(dataclasses.replace(STATE, moment=1 << 53, since=0))
         self.assertLess(self.memory().state.moment, 1 << 33)
 
@@ -184,7 +250,9 @@ class Locks(unittest.TestCase):
         with tempfile.TemporaryDirectory() as folder:
             plan = os.path.join(folder, "plan.json")
             lock = StateLock(plan)
-            with self.assertRaisesRegex(IsLocked, f"another controller runs this plan: process {os.getpid()} has the lock"):
+            with self.assertRaisesRegex(
+                IsLocked, f"another controller runs this plan: process {os.getpid()} has the lock"
+            ):
                 StateLock(plan)
             lock.release()
             StateLock(plan).release()

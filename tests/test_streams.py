@@ -1,4 +1,5 @@
-"""Standard streams that are closed, full or not read, words that are not UTF-8, and signals: each tool as a whole."""
+"""Standard streams that are closed, full or not read, words that are not UTF-8, and signals: each
+tool as a whole."""
 import os
 import pathlib
 import pty
@@ -30,8 +31,13 @@ class Streams(unittest.TestCase):
         self.folder = pathlib.Path(folder.name)
 
     def shell(self, command: str, *words: str | bytes) -> subprocess.CompletedProcess[bytes]:
-        """A command line of the tools, which finds the words as $1 and so on, in a locale that takes UTF-8 alone."""
-        environment = {**os.environ, "PATH": f"{TOOLS}:{os.environ['PATH']}", "PYTHONIOENCODING": "utf-8:strict"}
+        """A command line of the tools, which finds the words as $1 and so on, in a locale that
+        takes UTF-8 alone."""
+        environment = {
+            **os.environ,
+            "PATH": f"{TOOLS}:{os.environ['PATH']}",
+            "PYTHONIOENCODING": "utf-8:strict",
+        }
         run = ["sh", "-c", command, "sh", *words]
         return subprocess.run(run, capture_output=True, timeout=WAIT, check=False, env=environment)
 
@@ -50,7 +56,9 @@ class Streams(unittest.TestCase):
         for words in ("status", "report", "help"):
             run = self.shell(f"operator $1 {words} > /dev/full", str(self.switch.port))
             self.check(run, 1)
-            self.assertEqual(run.stderr, b"operator: the input or the output fails: No space left on device\n")
+            self.assertEqual(
+                run.stderr, b"operator: the input or the output fails: No space left on device\n"
+            )
 
     def test_a_controller_whose_standard_error_nobody_reads(self) -> None:
         plan = Plan(str(self.folder), self.switch.port)
@@ -58,11 +66,19 @@ class Streams(unittest.TestCase):
         reader, writer = os.pipe()
         os.close(reader)
         with open(writer, "wb") as broken:
-            process = subprocess.Popen([str(TOOLS / "controller"), plan.path], stdout=subprocess.PIPE, stderr=broken)
-        self.assertTrue(comes(lambda: self.switch.lines.count("report") > 6 or process.poll() is not None))
+            process = subprocess.Popen(
+                [str(TOOLS / "controller"), plan.path], stdout=subprocess.PIPE, stderr=broken
+            )
+        self.assertTrue(
+            comes(lambda: self.switch.lines.count("report") > 6 or process.poll() is not None)
+        )
         process.terminate()
         told, _ = process.communicate(timeout=WAIT)
-        self.assertEqual((process.returncode, b"the number of ports of each revision of the plan is 1" in told), (0, True), told)
+        self.assertEqual(
+            (process.returncode, b"the number of ports of each revision of the plan is 1" in told),
+            (0, True),
+            told,
+        )
 
     def analysis(self, output: str) -> subprocess.CompletedProcess[bytes]:
         """An analysis by good requests."""
@@ -71,6 +87,7 @@ class Streams(unittest.TestCase):
         def write() -> None:
             while not is_over.wait(0.1):
                 log.add(entries([Part(2, 5)]))
+
         thread = threading.Thread(target=write, daemon=True)
         thread.start()
         try:
@@ -86,25 +103,43 @@ class Streams(unittest.TestCase):
 
     def test_paths_that_are_not_utf_8(self) -> None:
         path = os.fsencode(self.folder) + b"/" + BYTES
-        self.check(self.shell("analysis --log \"$1\" --revision 2 --seconds 1 --errors-at-most 1%", path), 2)
+        self.check(
+            self.shell('analysis --log "$1" --revision 2 --seconds 1 --errors-at-most 1%', path), 2
+        )
         with open(path, "wb") as file:
             file.write(b'{"control": 1, "revisions": [{"name": "web-v1", "ports": [9101, 9102]}]}')
-        run = self.shell("controller check \"$1\"", path)
+        run = self.shell('controller check "$1"', path)
         self.check(run, 0)
         self.assertIn(b"is a plan", run.stdout)
-        run = self.shell("timeout -s TERM 2 controller \"$1\"", path)
+        run = self.shell('timeout -s TERM 2 controller "$1"', path)
         self.assertIn(b"is not used, since there is none", run.stdout)
 
 
 class Signals(unittest.TestCase):
     def test_ctrl_c_ends_an_analysis(self) -> None:
         with tempfile.NamedTemporaryFile() as log:
-            words = [str(TOOLS / "analysis"), "--log", log.name, "--revision", "2", "--seconds", "60", "--every", "0.1",
-                     "--errors-at-most", "1%"]
+            words = [
+                str(TOOLS / "analysis"),
+                "--log",
+                log.name,
+                "--revision",
+                "2",
+                "--seconds",
+                "60",
+                "--every",
+                "0.1",
+                "--errors-at-most",
+                "1%",
+            ]
 
             def take_signals() -> None:
-                signal.signal(signal.SIGINT, signal.SIG_DFL)  # a job in the background would ignore it
-            process = subprocess.Popen(words, stdout=subprocess.PIPE, stderr=subprocess.PIPE, preexec_fn=take_signals)
+                signal.signal(
+                    signal.SIGINT, signal.SIG_DFL
+                )  # a job in the background would ignore it
+
+            process = subprocess.Popen(
+                words, stdout=subprocess.PIPE, stderr=subprocess.PIPE, preexec_fn=take_signals
+            )
             assert process.stdout is not None
             process.stdout.readline()
             process.send_signal(signal.SIGINT)
@@ -116,13 +151,16 @@ class Questions(unittest.TestCase):
     def answered(self, words: Sequence[str], typed: bytes) -> int:
         """The status of an operator at a terminal, where this is typed."""
         end, other = pty.openpty()
-        process = subprocess.Popen([str(TOOLS / "operator"), *words], stdin=other, stdout=other, stderr=subprocess.PIPE)
+        process = subprocess.Popen(
+            [str(TOOLS / "operator"), *words], stdin=other, stdout=other, stderr=subprocess.PIPE
+        )
         os.close(other)
         shown = [b""]
 
         def asks() -> bool:
             shown[0] += os.read(end, 4096)
             return b"[y/N]" in shown[0]
+
         self.assertTrue(comes(asks))
         os.write(end, typed)
         _, told = process.communicate(timeout=WAIT)

@@ -1,4 +1,5 @@
-"""What the tests of whole tools share: endpoints, plans, and runs of bin/controller and bin/operator before a fake switch."""
+"""What the tests of whole tools share: endpoints, plans, and runs of bin/controller and
+bin/operator before a fake switch."""
 import contextlib
 import io
 import os
@@ -21,7 +22,9 @@ from support.processes import Run, run_to_end
 from tests.fake_switch import FakeSwitch
 
 TOP = pathlib.Path(__file__).resolve().parents[1]
-TOOLS = pathlib.Path(os.environ.get("BG_SWITCH_TOOLS", str(TOP / "bin")))  # other tools can be tried in their place
+TOOLS = pathlib.Path(
+    os.environ.get("BG_SWITCH_TOOLS", str(TOP / "bin"))
+)  # other tools can be tried in their place
 WAIT = 60.0  # seconds for which anything is awaited
 
 
@@ -55,11 +58,18 @@ def plan_of(folder: str, control: int) -> Plan:
 class ControllerRun:
     """A running bin/controller, whose log is read as it comes."""
 
-    def __init__(self, words: Sequence[str], program: Sequence[str] = (str(TOOLS / "controller"),)) -> None:
+    def __init__(
+        self, words: Sequence[str], program: Sequence[str] = (str(TOOLS / "controller"),)
+    ) -> None:
         self.log: list[str] = []
         self.told = ""
-        self.process = subprocess.Popen([*program, *words], stdin=subprocess.DEVNULL, stdout=subprocess.PIPE,
-                                        stderr=subprocess.PIPE, text=True)
+        self.process = subprocess.Popen(
+            [*program, *words],
+            stdin=subprocess.DEVNULL,
+            stdout=subprocess.PIPE,
+            stderr=subprocess.PIPE,
+            text=True,
+        )
         self.thread = threading.Thread(target=self._read, daemon=True)
         self.thread.start()
 
@@ -76,7 +86,8 @@ class ControllerRun:
         return sum(all(word in line for word in words) for line in list(self.log))
 
     def signal(self, number: int) -> tuple[int | None, float]:
-        """Sends a signal. Gives the status, None where it doesn't end, and after how many seconds it came."""
+        """Sends a signal. Gives the status, None where it doesn't end, and after how many seconds
+        it came."""
         begun = time.monotonic()
         self.process.send_signal(number)
         try:
@@ -124,19 +135,24 @@ def controlling(plan: Plan, *words: str) -> Iterator[ControllerRun]:
 
 def with_fast_clock(factor: int, path: str, *words: str) -> list[str]:
     """The words of a run of a Python program whose monotonic clock goes so many times faster."""
-    code = ("import sys, time, runpy; real = time.monotonic; "
-            f"time.monotonic = lambda: real() * {factor}; sys.argv = {[path, *words]!r}; "
-            f"runpy.run_path({path!r}, run_name='__main__')")
+    code = (
+        "import sys, time, runpy; real = time.monotonic; "
+        f"time.monotonic = lambda: real() * {factor}; sys.argv = {[path, *words]!r}; "
+        f"runpy.run_path({path!r}, run_name='__main__')"
+    )
     return [sys.executable, "-B", "-c", code]
 
 
-def run_in_process(main: Callable[[Sequence[str]], int], *words: str, lines: str = "", **variables: str) -> Run:
-    """A run of a tool in this process, with these lines as its standard input. No variable of the tools is set but for these."""
+def run_in_process(
+    main: Callable[[Sequence[str]], int], *words: str, lines: str = "", **variables: str
+) -> Run:
+    """A run of a tool in this process, with these lines as its standard input. No variable of the
+    tools is set but for these."""
     printed, told = io.StringIO(), io.StringIO()
     others = {name: value for name, value in os.environ.items() if not name.startswith("BG_")}
-    with contextlib.redirect_stdout(printed), contextlib.redirect_stderr(told), \
-            mock.patch("sys.stdin", io.TextIOWrapper(io.BytesIO(lines.encode()))), \
-            mock.patch.dict(os.environ, {**others, **variables}, clear=True):
+    with contextlib.redirect_stdout(printed), contextlib.redirect_stderr(told), mock.patch(
+        "sys.stdin", io.TextIOWrapper(io.BytesIO(lines.encode()))
+    ), mock.patch.dict(os.environ, {**others, **variables}, clear=True):
         try:
             status = main(words)
         except SystemExit as ended:

@@ -1,9 +1,11 @@
 #!/usr/bin/env python3
-"""A revision that answers some requests with 500 goes live, fails its analysis, and is taken back by nobody's hand.
+"""A revision that answers some requests with 500 goes live, fails its analysis, and is taken back
+by nobody's hand.
 
-It starts the switch, `bin/controller` with a plan whose analysis after the switch is `bin/analysis`, and, where its libraries
-are installed, `bin/dashboard` at http://127.0.0.1:31790/. With --picture FILE the page is drawn into a file (by Debian's
-chromium). It ends with status 0 where live traffic is back and no request failed by the switch itself.
+It starts the switch, `bin/controller` with a plan whose analysis after the switch is
+`bin/analysis`, and, where its libraries are installed, `bin/dashboard` at http://127.0.0.1:31790/.
+With --picture FILE the page is drawn into a file (by Debian's chromium). It ends with status 0
+where live traffic is back and no request failed by the switch itself.
 """
 import argparse
 import contextlib
@@ -37,7 +39,18 @@ REVISIONS = {"web-v1": (31811, 31812), "web-v2": (31821, 31822)}
 BAD_EACH = 20  # of the requests of web-v2: 5 per cent
 WORKERS, CLIENTS, PAUSE = 4, 3, 0.02
 BEFORE, AFTER = 10.0, 6.0  # seconds of traffic before the deploy, and after the way back
-ANALYSIS = ["--seconds", "60", "--every", "4", "--errors-at-most", "1%", "--p99-at-most", "300ms", "--requests-at-least", "50"]
+ANALYSIS = [
+    "--seconds",
+    "60",
+    "--every",
+    "4",
+    "--errors-at-most",
+    "1%",
+    "--p99-at-most",
+    "300ms",
+    "--requests-at-least",
+    "50",
+]
 WIDTH = 1180
 LONGEST = 60
 
@@ -45,8 +58,12 @@ LONGEST = 60
 def write_plan(folder: pathlib.Path, log: pathlib.Path, *names: str) -> None:
     """Puts the plan in place, whose last revision is to be live."""
     analysis = [str(TOP / "bin" / "analysis"), "--log", str(log), *ANALYSIS]
-    told = {"control": CONTROL, "health": {"interval": 0.5}, "analyses": {"post": analysis},
-            "revisions": [{"name": name, "ports": REVISIONS[name]} for name in names]}
+    told = {
+        "control": CONTROL,
+        "health": {"interval": 0.5},
+        "analyses": {"post": analysis},
+        "revisions": [{"name": name, "ports": REVISIONS[name]} for name in names],
+    }
     (folder / "plan.new").write_text(json.dumps(told), encoding="ascii")
     os.replace(folder / "plan.new", folder / "plan.json")
 
@@ -54,11 +71,17 @@ def write_plan(folder: pathlib.Path, log: pathlib.Path, *names: str) -> None:
 @contextlib.contextmanager
 def controlling(folder: pathlib.Path) -> Iterator[None]:
     """A running controller, whose log is printed, and what its analysis prints."""
-    controller = subprocess.Popen([str(TOP / "bin" / "controller"), str(folder / "plan.json")], stdout=subprocess.PIPE,
-                                  stderr=subprocess.STDOUT, text=True)
+    controller = subprocess.Popen(
+        [str(TOP / "bin" / "controller"), str(folder / "plan.json")],
+        stdout=subprocess.PIPE,
+        stderr=subprocess.STDOUT,
+        text=True,
+    )
     assert controller.stdout is not None
     lines = controller.stdout
-    teller = threading.Thread(target=lambda: [print(f"    {line}", end="", flush=True) for line in lines], daemon=True)
+    teller = threading.Thread(
+        target=lambda: [print(f"    {line}", end="", flush=True) for line in lines], daemon=True
+    )
     teller.start()
     with ended(controller):
         yield
@@ -110,7 +133,9 @@ def play(folder: pathlib.Path, log: pathlib.Path, traffic: Traffic) -> None:
     tell(f"web-v2 is deployed: it answers 1 of {BAD_EACH} requests with 500")
     write_plan(folder, log, "web-v1", "web-v2")
     await_state("newest=web-v2", "active=web-v2")
-    tell("it is live; its analysis asks for errors of 1% at most, and traffic goes back as soon as that does not hold")
+    tell(
+        "it is live; its analysis asks for errors of 1% at most, and traffic goes back as soon as that does not hold"
+    )
     await_state("phase=aborted", "active=web-v1")
     tell("live traffic is back at web-v1")
     traffic.part()
@@ -119,7 +144,9 @@ def play(folder: pathlib.Path, log: pathlib.Path, traffic: Traffic) -> None:
 
 def main() -> int:
     parser = argparse.ArgumentParser(description=__doc__)
-    parser.add_argument("--picture", type=pathlib.Path, metavar="FILE", help="draws the page into a file at the end")
+    parser.add_argument(
+        "--picture", type=pathlib.Path, metavar="FILE", help="draws the page into a file at the end"
+    )
     given = parser.parse_args()
     for name, ports in REVISIONS.items():
         answer = failing(name.encode(), BAD_EACH if name == "web-v2" else 0, 0.004)
@@ -130,21 +157,28 @@ def main() -> int:
         log = folder / "access.log"
         variables = prepared_log(log)
         write_plan(folder, log, "web-v1")
-        switch = start_switch(HERE / "bad_revision.json", ACTIVE, PREVIEW, CONTROL, WORKERS, variables)
+        switch = start_switch(
+            HERE / "bad_revision.json", ACTIVE, PREVIEW, CONTROL, WORKERS, variables
+        )
         stack.enter_context(ended(switch))
         traffic = Traffic(ACTIVE, CLIENTS, PAUSE)
         if why := missing():
             print(f"without the page: {why}")
         else:
-            print(f"the page: {stack.enter_context(showing(CONTROL, PAGE, '--log', str(log)))}", flush=True)
+            print(
+                f"the page: {stack.enter_context(showing(CONTROL, PAGE, '--log', str(log)))}",
+                flush=True,
+            )
         with controlling(folder):
             play(folder, log, traffic)
             if given.picture:
                 draw(given.picture)
         traffic.end()
         after = traffic.part()
-    print(f"\nrequests after the way back: {dict(after)}\nweb-v2 answered with 500: {traffic.errors['web-v2']}\n"
-          f"requests that failed by the switch itself: {traffic.failed}")
+    print(
+        f"\nrequests after the way back: {dict(after)}\nweb-v2 answered with 500: {traffic.errors['web-v2']}\n"
+        f"requests that failed by the switch itself: {traffic.failed}"
+    )
     is_back = after["web-v1"] > 0 and after["web-v2"] == 0
     return 0 if is_back and traffic.failed == 0 and traffic.errors["web-v2"] > 0 else 1
 

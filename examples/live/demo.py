@@ -1,8 +1,9 @@
 #!/usr/bin/env python3
-"""The story of operator.txt, live: three revisions of a backend, `bg_switch serve` before them, requests without pause.
+"""The story of operator.txt, live: three revisions of a backend, `bg_switch serve` before them,
+requests without pause.
 
-It prints each line of the operator with its reply, and for each part of the story how many requests each revision
-answered. It ends with status 0 where no request failed.
+It prints each line of the operator with its reply, and for each part of the story how many requests
+each revision answered. It ends with status 0 where no request failed.
 """
 import contextlib
 import pathlib

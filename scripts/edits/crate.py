@@ -33,7 +33,17 @@ class Repository:
         """The command that checks a crate, with one job, in a folder that has its files."""
         crate = self.crates[name]
         root = "src/main.rt" if (self.folder(name) / "src/main.rt").exists() else "src/lib.rt"
-        words = [str(self.kit / "bin/rattle"), "check", "--crate-name", name, root, "--jobs", "1", "--links", f"{name}="]
+        words = [
+            str(self.kit / "bin/rattle"),
+            "check",
+            "--crate-name",
+            name,
+            root,
+            "--jobs",
+            "1",
+            "--links",
+            f"{name}=",
+        ]
         for library in ("std", *crate.of_kit):
             words += ["--extern", f"{library}={self.kit / 'rlibs' / library}.rlib"]
         for library in crate.below:
@@ -41,14 +51,24 @@ class Repository:
         words += ["-L", f"dependency={self.kit / 'rlibs'}"]
         for library in all_below(self.crates, name):
             words += ["-L", f"dependency={self.library(library).parent}"]
-        return [*words, "--antt-project", str(self.kit / "rattle/logic/antt-project.json"), "--logic-built", str(self.kit / "logic_built")]
+        return [
+            *words,
+            "--antt-project",
+            str(self.kit / "rattle/logic/antt-project.json"),
+            "--logic-built",
+            str(self.kit / "logic_built"),
+        ]
 
 
 class EditedCrate:
     """A crate, and the folder in which the checks of its edits keep what they prove."""
 
     def __init__(self, repository: Repository, name: str, kept: pathlib.Path) -> None:
-        self.folder, self.words, self.kept = repository.folder(name), repository.check_words(name), kept
+        self.folder, self.words, self.kept = (
+            repository.folder(name),
+            repository.check_words(name),
+            kept,
+        )
 
     def try_all(self, edits: Iterable[Edit]) -> Iterator[tuple[Edit, Verdict]]:
         """The verdict on each edit, as it becomes known."""
@@ -82,15 +102,28 @@ class EditedCrate:
         return of_whole_crate(*self._check(texts))
 
     def _check(self, texts: Texts, only: Sequence[str] = ()) -> tuple[int, list[str]]:
-        """Checks a copy of the crate with these texts, of it these functions alone if there are any: the status, and what is printed."""
+        """Checks a copy of the crate with these texts, of it these functions alone if there are
+        any: the status, and what is printed."""
         with tempfile.TemporaryDirectory(prefix="try-edits-") as room:
             for part in PARTS:
                 if (self.folder / part).is_dir():
                     shutil.copytree(self.folder / part, f"{room}/{part}")
             for path, text in texts.items():
                 (pathlib.Path(room) / path).write_text(text, encoding="utf-8")
-            words = [*self.words, "--incremental", str(self.kept), *(word for it in only for word in ("--only", it))]
+            words = [
+                *self.words,
+                "--incremental",
+                str(self.kept),
+                *(word for it in only for word in ("--only", it)),
+            ]
             ran = subprocess.run(
-                words, cwd=room, stdin=subprocess.DEVNULL, stdout=subprocess.PIPE, stderr=subprocess.STDOUT, text=True, errors="replace", check=False
+                words,
+                cwd=room,
+                stdin=subprocess.DEVNULL,
+                stdout=subprocess.PIPE,
+                stderr=subprocess.STDOUT,
+                text=True,
+                errors="replace",
+                check=False,
             )
         return ran.returncode, ran.stdout.splitlines()

@@ -21,7 +21,8 @@ class Change:
 
 @dataclass(frozen=True)
 class Edit:
-    """What a file `NAME.edit` changes, in the form of `rt must-fail`: lines `file:`, `old:` and `new:`."""
+    """What a file `NAME.edit` changes, in the form of `rt must-fail`: lines `file:`, `old:` and
+    `new:`."""
 
     name: str
     changes: tuple[Change, ...]
@@ -47,8 +48,11 @@ class Edit:
                 raise BadEdit("an old text and its new one are the same")
         return Edit(path.stem, tuple(changes))
 
-    def apply(self, folder: pathlib.Path, texts: Texts) -> tuple[dict[str, str], list[tuple[str, int]]]:
-        """The texts of a crate with this edit, and the place of each change. `texts` has the files that other edits changed.
+    def apply(
+        self, folder: pathlib.Path, texts: Texts
+    ) -> tuple[dict[str, str], list[tuple[str, int]]]:
+        """The texts of a crate with this edit, and the place of each change. `texts` has the files
+        that other edits changed.
 
         Raises BadEdit where an old text doesn't stand in its file exactly once.
         """

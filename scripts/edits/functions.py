@@ -3,15 +3,16 @@ import re
 from collections.abc import Iterator
 from dataclasses import dataclass
 
-# Files are in the layout of `rt fmt`, which the gate checks: a function ends on its first line, or at the first brace of its own
-# indent.
+# Files are in the layout of `rt fmt`, which the gate checks: a function ends on its first line, or
+# at the first brace of its own indent.
 BEGIN = re.compile(r"^([ \t]*)(?:pub(?:\([a-z]+\))? )?(?:const )?(?:unsafe )?fn (\w+)", re.M)
 BLOCK = re.compile(r"^(?:pub(?:\([a-z]+\))? )?(?:unsafe )?(?:impl|trait)\b([^{;]*)\{", re.M)
 
 
 @dataclass(frozen=True)
 class Function:
-    """A function of a file of src/: its name as `rattle check --only` takes it, its lines from 1, and the places of its body."""
+    """A function of a file of src/: its name as `rattle check --only` takes it, its lines from 1,
+    and the places of its body."""
 
     file: str
     name: str
@@ -32,8 +33,11 @@ def functions_in(file: str, text: str) -> Iterator[Function]:
     for begun in BEGIN.finditer(text):
         indent = begun[1]
         end = _end(text, begun.end(), indent)
-        # (where there are clauses, the body's brace stands on a line of its own, and a clause may end with one)
-        brace = re.compile(rf"^{indent}\{{$", re.M).search(text, begun.end(), end) or re.compile(r"\{$", re.M).search(text, begun.end(), end)
+        # (where there are clauses, the body's brace stands on a line of its own, and a clause may
+        # end with one)
+        brace = re.compile(rf"^{indent}\{{$", re.M).search(text, begun.end(), end) or re.compile(
+            r"\{$", re.M
+        ).search(text, begun.end(), end)
         block = _block(text, begun.start()) if indent else _module(file)
         yield Function(
             file,
@@ -46,7 +50,8 @@ def functions_in(file: str, text: str) -> Iterator[Function]:
 
 def function_at(file: str, text: str, place: int) -> Function | None:
     """The function whose body has this place of the file, if there is one."""
-    # (the last: what seems to be the body of a declaration, as in a trait, has the functions that follow it)
+    # (the last: what seems to be the body of a declaration, as in a trait, has the functions that
+    # follow it)
     return next((it for it in reversed(list(functions_in(file, text))) if place in it.body), None)
 
 
@@ -66,7 +71,8 @@ def _module(file: str) -> str:
 
 
 def _block(text: str, place: int) -> str:
-    """The type or trait in whose block this place stands, as the prover names it; none where it stands in another block."""
+    """The type or trait in whose block this place stands, as the prover names it; none where it
+    stands in another block."""
     heads = [it[1] for it in BLOCK.finditer(text, 0, place)]
     head = heads[-1] if heads else ""
     trait, is_trait, of = re.sub(r"^\s*<(?:[^<>]|<[^<>]*>)*>", "", head).partition(" for ")
@@ -74,7 +80,12 @@ def _block(text: str, place: int) -> str:
 
 
 def _bare(text: str) -> str:
-    """A type without its path, its parameters and its references, or a trait without those that it extends."""
+    """A type without its path, its parameters and its references, or a trait without those that it
+    extends."""
     while re.search(r"<[^<>]*>", text):
         text = re.sub(r"<[^<>]*>", "", text)
-    return re.sub(r"^&\s*(mut\s+)?", "", re.split(r" where |: ", text.strip())[0]).rpartition("::")[2].strip()
+    return (
+        re.sub(r"^&\s*(mut\s+)?", "", re.split(r" where |: ", text.strip())[0])
+        .rpartition("::")[2]
+        .strip()
+    )

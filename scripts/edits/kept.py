@@ -1,4 +1,5 @@
-"""The refusals that earlier runs in this checkout saw, each under the sum of all that it rests on."""
+"""The refusals that earlier runs in this checkout saw, each under the sum of all that it rests
+on."""
 import hashlib
 import pathlib
 from collections.abc import Iterator
@@ -8,7 +9,8 @@ from edits.crate import PARTS, Repository
 
 
 def sum_of(repository: Repository, name: str) -> bytes:
-    """The sum of what a verdict on an edit of a crate rests on, but the edit: the kit, these scripts, the crate and all below it."""
+    """The sum of what a verdict on an edit of a crate rests on, but the edit: the kit, these
+    scripts, the crate and all below it."""
     total = hashlib.sha256()
     for path in _files(repository, name):
         text = path.read_bytes()
@@ -22,7 +24,9 @@ def _files(repository: Repository, name: str) -> Iterator[pathlib.Path]:
     yield from sorted(pathlib.Path(__file__).parent.glob("*.py"))
     for crate in (*all_below(repository.crates, name), name):
         for part in PARTS:
-            yield from sorted(it for it in (repository.folder(crate) / part).rglob("*") if it.is_file())
+            yield from sorted(
+                it for it in (repository.folder(crate) / part).rglob("*") if it.is_file()
+            )
 
 
 class Kept:
@@ -44,4 +48,7 @@ class Kept:
         self._place(crate, edit).write_text(reason, encoding="utf-8")
 
     def _place(self, crate: bytes, edit: pathlib.Path) -> pathlib.Path:
-        return self.folder / hashlib.sha256(crate + edit.name.encode() + b"\n" + edit.read_bytes()).hexdigest()
+        return (
+            self.folder
+            / hashlib.sha256(crate + edit.name.encode() + b"\n" + edit.read_bytes()).hexdigest()
+        )

@@ -10,15 +10,17 @@ from edits.verdicts import own_reason
 
 @dataclass
 class Round:
-    """Edits of one crate, its texts with all of them, and the names of the functions that each changes."""
+    """Edits of one crate, its texts with all of them, and the names of the functions that each
+    changes."""
 
     folder: pathlib.Path
     texts: dict[str, str] = field(default_factory=dict)
     names: dict[Edit, set[str]] = field(default_factory=dict)
 
     def take(self, edit: Edit) -> bool:
-        """Adds an edit. Gives whether it could: not where it changes what is outside of functions, where another edit of the round
-        is in one of its functions, or where it can't be applied beside them."""
+        """Adds an edit. Gives whether it could: not where it changes what is outside of functions,
+        where another edit of the round is in one of its functions, or where it can't be applied
+        beside them."""
         try:
             texts, places = edit.apply(self.folder, self.texts)
         except BadEdit:
@@ -36,13 +38,16 @@ class Round:
         return sorted({name for each in self.names.values() for name in each})
 
     def reason(self, edit: Edit, lines: Sequence[str]) -> str:
-        """Why the prover refuses a function that this edit changes; nothing where it doesn't say so."""
+        """Why the prover refuses a function that this edit changes; nothing where it doesn't say
+        so."""
         return next((told for it in self._changed(edit) if (told := own_reason(lines, it))), "")
 
     def _changed(self, edit: Edit) -> Iterable[Function]:
         # (by name, since later edits of the round may have moved the lines)
         for file in {it.file for it in edit.changes}:
-            yield from (it for it in functions_in(file, self.texts[file]) if it.name in self.names[edit])
+            yield from (
+                it for it in functions_in(file, self.texts[file]) if it.name in self.names[edit]
+            )
 
 
 def rounds_of(folder: pathlib.Path, edits: Iterable[Edit]) -> tuple[list[Round], list[Edit]]:

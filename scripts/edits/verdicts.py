@@ -6,7 +6,9 @@ from dataclasses import dataclass
 from edits.functions import Function
 
 # What a proof file says where it names what the edit took away: it says nothing of the contract.
-LOST_NAME = re.compile(r"has no field|is not in scope|has no `|was not admitted|is not proved, which|has-holes")
+LOST_NAME = re.compile(
+    r"has no field|is not in scope|has no `|was not admitted|is not proved, which|has-holes"
+)
 PLACED = re.compile(r"(?:note: )?(?:\./)?([\w/.+]+\.(?:rt|antt)):(\d+):\d+: (.*)")
 PROVED = "it is still proved"
 REJECTED = re.compile(r"\berror\[[\w-]+\]")
@@ -21,9 +23,11 @@ class Verdict:
 
 
 def own_reason(lines: Sequence[str], function: Function) -> str:
-    """Why the prover refuses this function; nothing where it is proved, or is not proved only since a callee is not.
+    """Why the prover refuses this function; nothing where it is proved, or is not proved only since
+    a callee is not.
 
-    The reason is a line of the function's text at which something is not proved, or an error in a proof file of its own.
+    The reason is a line of the function's text at which something is not proved, or an error in a
+    proof file of its own.
     """
     states = [it for it in lines if re.match(rf"fn \S*\b{re.escape(function.name)}: ", it)]
     if len(states) != 1 or states[0].endswith(": proved"):
@@ -33,7 +37,12 @@ def own_reason(lines: Sequence[str], function: Function) -> str:
         if not at or LOST_NAME.search(line):
             continue
         file, place, said = at[1], int(at[2]), at[3]
-        if function.has_line(file, place) and "it is not proved that" in said or function.has_proof(file) and said.startswith("error"):
+        if (
+            function.has_line(file, place)
+            and "it is not proved that" in said
+            or function.has_proof(file)
+            and said.startswith("error")
+        ):
             return line[:200]
     return ""
 
@@ -44,6 +53,13 @@ def of_whole_crate(status: int, lines: Sequence[str]) -> Verdict:
         return Verdict(False, PROVED)
     rejected = next((it for it in lines if REJECTED.search(it)), "")
     if rejected or status != 1 or not lines[-1].startswith("logic=not-proved"):
-        return Verdict(False, f"nothing is known of it: status {status}: {rejected or ' / '.join(lines[:3])}")
+        return Verdict(
+            False, f"nothing is known of it: status {status}: {rejected or ' / '.join(lines[:3])}"
+        )
     told = [it for it in lines if PLACED.match(it) and not LOST_NAME.search(it)]
-    return Verdict(bool(told), told[0][:200] if told else "only a proof file that names what the edit took away is refused")
+    return Verdict(
+        bool(told),
+        told[0][:200]
+        if told
+        else "only a proof file that names what the edit took away is refused",
+    )

@@ -1,4 +1,5 @@
-"""What the scripts of the gate share: the running switch, endpoints, clients, operators, messages, ports and checks."""
+"""What the scripts of the gate share: the running switch, endpoints, clients, operators, messages,
+ports and checks."""
 import pathlib
 import sys
 

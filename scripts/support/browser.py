@@ -1,4 +1,5 @@
-"""A headless Chromium, driven by WebDriver's calls over HTTP (Debian's chromium and chromium-driver)."""
+"""A headless Chromium, driven by WebDriver's calls over HTTP (Debian's chromium and
+chromium-driver)."""
 import base64
 import contextlib
 import http.client
@@ -17,8 +18,17 @@ DRIVERS = ("chromedriver", "/usr/lib/chromium/chromedriver")
 BROWSERS = ("chromium", "chromium-browser", "google-chrome")
 LONGEST = 60  # seconds for a call
 ELEMENT = "element-6066-11e4-a52e-4f735466cecf"  # the key of an element, by WebDriver
-ARGUMENTS = ("--headless=new", "--no-sandbox", "--disable-gpu", "--disable-dev-shm-usage", "--no-first-run", "--hide-scrollbars",
-             "--disable-background-networking", "--disable-component-update", "--force-color-profile=srgb")
+ARGUMENTS = (
+    "--headless=new",
+    "--no-sandbox",
+    "--disable-gpu",
+    "--disable-dev-shm-usage",
+    "--no-first-run",
+    "--hide-scrollbars",
+    "--disable-background-networking",
+    "--disable-component-update",
+    "--force-color-profile=srgb",
+)
 
 
 class NoBrowser(Exception):
@@ -41,17 +51,25 @@ class Browser:
     """A window of a browser."""
 
     def __init__(self, port: int, folder: str, extra: tuple[str, ...] = ()) -> None:
-        """Starts the driver at a port, and through it the browser, which keeps its files in a folder."""
+        """Starts the driver at a port, and through it the browser, which keeps its files in a
+        folder."""
         browser = first_of(BROWSERS)
         self.port = port
         self.session = ""
-        self.driver = subprocess.Popen([first_of(DRIVERS), f"--port={port}"], stdout=subprocess.DEVNULL,
-                                       stderr=subprocess.DEVNULL, env={**os.environ, "HOME": folder, "TMPDIR": folder})
+        self.driver = subprocess.Popen(
+            [first_of(DRIVERS), f"--port={port}"],
+            stdout=subprocess.DEVNULL,
+            stderr=subprocess.DEVNULL,
+            env={**os.environ, "HOME": folder, "TMPDIR": folder},
+        )
         try:
             if not comes(lambda: is_open(port)):
                 raise NoBrowser("the driver does not listen")
             arguments = [*ARGUMENTS, *extra, f"--user-data-dir={folder}/profile"]
-            expected = {"goog:chromeOptions": {"binary": browser, "args": arguments}, "goog:loggingPrefs": {"browser": "ALL"}}
+            expected = {
+                "goog:chromeOptions": {"binary": browser, "args": arguments},
+                "goog:loggingPrefs": {"browser": "ALL"},
+            }
             told = self.call("POST", "/session", {"capabilities": {"alwaysMatch": expected}})
         except (CallFailed, OSError) as error:
             self.close()
@@ -75,12 +93,16 @@ class Browser:
         connection = http.client.HTTPConnection(HOST, self.port, timeout=LONGEST)
         try:
             body = None if told is None else json.dumps(told)
-            connection.request(method, self.session + path, body, {"Content-Type": "application/json"})
+            connection.request(
+                method, self.session + path, body, {"Content-Type": "application/json"}
+            )
             value = json.loads(connection.getresponse().read())["value"]
         finally:
             connection.close()
         if isinstance(value, dict) and "error" in value:
-            raise CallFailed(f"{path}: {value['error']}: {str(value.get('message')).splitlines()[0]}")
+            raise CallFailed(
+                f"{path}: {value['error']}: {str(value.get('message')).splitlines()[0]}"
+            )
         return value
 
     def open(self, address: str) -> None:
@@ -88,12 +110,17 @@ class Browser:
 
     def size(self, width: int, height: int) -> None:
         """Gives the page this size, whatever stands round it."""
-        self.command("Emulation.setDeviceMetricsOverride",
-                     {"width": width, "height": height, "deviceScaleFactor": 1, "mobile": False})
+        self.command(
+            "Emulation.setDeviceMetricsOverride",
+            {"width": width, "height": height, "deviceScaleFactor": 1, "mobile": False},
+        )
 
     def scheme(self, name: str) -> None:
         """Prefers the `dark` or the `light` scheme."""
-        self.command("Emulation.setEmulatedMedia", {"features": [{"name": "prefers-color-scheme", "value": name}]})
+        self.command(
+            "Emulation.setEmulatedMedia",
+            {"features": [{"name": "prefers-color-scheme", "value": name}]},
+        )
 
     def command(self, name: str, told: dict[str, object]) -> object:
         """A command of Chromium itself."""
@@ -110,7 +137,12 @@ class Browser:
     def text(self, selector: str) -> str:
         """The text of all elements of a selector as it is seen, a line each."""
         found = "[...document.querySelectorAll(arguments[0])]"
-        return str(self.run(f"return {found}.map((each) => each.innerText ?? each.textContent).join('\\n')", selector))
+        return str(
+            self.run(
+                f"return {found}.map((each) => each.innerText ?? each.textContent).join('\\n')",
+                selector,
+            )
+        )
 
     def is_true(self, script: str, *arguments: object) -> bool:
         return self.run(script, *arguments) is True
@@ -128,17 +160,26 @@ class Browser:
     def press(self, *keys: str) -> None:
         """Presses keys, one after the other."""
         actions = [{"type": kind, "value": key} for key in keys for kind in ("keyDown", "keyUp")]
-        self.call("POST", "/actions", {"actions": [{"type": "key", "id": "keys", "actions": actions}]})
+        self.call(
+            "POST", "/actions", {"actions": [{"type": "key", "id": "keys", "actions": actions}]}
+        )
 
     def complaints(self) -> list[str]:
-        """What the browser has told of the page: scripts that failed, and what a policy has refused."""
+        """What the browser has told of the page: scripts that failed, and what a policy has
+        refused."""
         told = self.call("POST", "/se/log", {"type": "browser"})
         assert isinstance(told, list)
-        return [f"{each['level']}: {each['message']}" for each in told if each["level"] in ("SEVERE", "WARNING")]
+        return [
+            f"{each['level']}: {each['message']}"
+            for each in told
+            if each["level"] in ("SEVERE", "WARNING")
+        ]
 
     def screenshot(self, path: pathlib.Path) -> None:
         """Writes a picture of the whole page."""
-        told = self.command("Page.captureScreenshot", {"format": "png", "captureBeyondViewport": True})
+        told = self.command(
+            "Page.captureScreenshot", {"format": "png", "captureBeyondViewport": True}
+        )
         assert isinstance(told, dict)
         path.write_bytes(base64.b64decode(told["data"]))
 

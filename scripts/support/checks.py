@@ -12,11 +12,13 @@ from typing import NoReturn
 from support import TOP
 from support.pace import at_the_limit, is_within, widened
 
-# How long a check waits, in seconds, for what is to come soon. This limit, and each below, is wider on a busy machine.
+# How long a check waits, in seconds, for what is to come soon. This limit, and each below, is wider
+# on a busy machine.
 LONGEST_WAIT = 30
 # How long a script may take, in seconds; and one whose parts are named or run by hand.
 LONGEST_RUN, LONGEST_BY_HAND = 170, 1800
-# For how many seconds a script goes on that writes where its threads are, since it has taken too long.
+# For how many seconds a script goes on that writes where its threads are, since it has taken too
+# long.
 TRACE = 1
 TIMES = 10  # see `check_beside`
 PAUSE = 0.02  # seconds between two looks at what is awaited
@@ -64,28 +66,37 @@ def check_within(name: str, got: float, most: float) -> None:
 
 
 def check_soon(name: str, seconds: float, most: float) -> None:
-    """Counts whether this took at most so many seconds, or as many more as the machine is slower than a free one. It fits a
-    limit that says `not for ever`."""
+    """Counts whether this took at most so many seconds, or as many more as the machine is slower
+    than a free one. It fits a limit that says `not for ever`."""
     if is_within(seconds, most):
         COUNTS.add(True)
     else:
-        fail(name, f"{seconds:.2f} seconds, which is above {most:g}, though the machine is no slower")
+        fail(
+            name, f"{seconds:.2f} seconds, which is above {most:g}, though the machine is no slower"
+        )
 
 
-def check_beside(name: str, seconds: Sequence[float], elsewhere: Sequence[float], most: float) -> None:
-    """Counts whether each of these calls took at most so many seconds; or, on a busy machine, no longer than TIMES as long as the
-    slowest of the same calls that were made in turn with them, but not beside what could hold them up."""
+def check_beside(
+    name: str, seconds: Sequence[float], elsewhere: Sequence[float], most: float
+) -> None:
+    """Counts whether each of these calls took at most so many seconds; or, on a busy machine, no
+    longer than TIMES as long as the slowest of the same calls that were made in turn with them, but
+    not beside what could hold them up.
+    """
     slowest = max(seconds)
     slowest_elsewhere = max(elsewhere, default=0.0)
     if slowest <= TIMES * slowest_elsewhere or is_within(slowest, most):
         COUNTS.add(True)
     else:
-        fail(name, f"{slowest:.3f} seconds, which is above {most:g}; elsewhere {slowest_elsewhere:.3f}")
+        fail(
+            name,
+            f"{slowest:.3f} seconds, which is above {most:g}; elsewhere {slowest_elsewhere:.3f}",
+        )
 
 
 def comes(holds: Callable[[], object], longest: float = LONGEST_WAIT) -> bool:
-    """Whether this holds within so many seconds, or as many more as the machine is slower than a free one. It is asked again and
-    again."""
+    """Whether this holds within so many seconds, or as many more as the machine is slower than a
+    free one. It is asked again and again."""
     begun, limit, is_widened = time.monotonic(), longest, False
     while not holds():
         if time.monotonic() > begun + limit:
@@ -104,18 +115,30 @@ def run_part(part: Part) -> None:
         fail(part.__name__, "".join(traceback.format_exception(error)))
 
 
-def run(name: str, parts: Sequence[Part], at_once: int = 1, by_hand: Sequence[Part] = (), longest: int = LONGEST_RUN) -> NoReturn:
-    """Runs the parts in turn, or so many at once, and prints the counts; status 0 where no check has failed. The words
-    name parts that are run alone; with `--by-hand` those are run that take too long for the gate. The script may take
-    `longest` seconds."""
-    at_the_limit(LONGEST_BY_HAND if sys.argv[1:] else longest, lambda: faulthandler.dump_traceback_later(TRACE, exit=True))
+def run(
+    name: str,
+    parts: Sequence[Part],
+    at_once: int = 1,
+    by_hand: Sequence[Part] = (),
+    longest: int = LONGEST_RUN,
+) -> NoReturn:
+    """Runs the parts in turn, or so many at once, and prints the counts; status 0 where no check
+    has failed. The words name parts that are run alone; with `--by-hand` those are run that take
+    too long for the gate. The script may take `longest` seconds."""
+    at_the_limit(
+        LONGEST_BY_HAND if sys.argv[1:] else longest,
+        lambda: faulthandler.dump_traceback_later(TRACE, exit=True),
+    )
     os.chdir(TOP)
     if sys.argv[1:] == ["--by-hand"]:
         parts = by_hand
     elif sys.argv[1:]:
         known = {part.__name__: part for part in (*parts, *by_hand)}
         if unknown := [word for word in sys.argv[1:] if word not in known]:
-            print(f"{name}: there is no part {' '.join(unknown)}, but {' '.join(known)}", file=sys.stderr)
+            print(
+                f"{name}: there is no part {' '.join(unknown)}, but {' '.join(known)}",
+                file=sys.stderr,
+            )
             sys.exit(2)
         parts = [known[word] for word in sys.argv[1:]]
     with concurrent.futures.ThreadPoolExecutor(at_once) as pool:

@@ -1,4 +1,5 @@
-"""Clients: polite ones, and those that are slow, impatient or silent, or that cut their connection."""
+"""Clients: polite ones, and those that are slow, impatient or silent, or that cut their
+connection."""
 import collections
 import concurrent.futures
 import contextlib
@@ -21,8 +22,8 @@ Given = TypeVar("Given")
 
 
 def connect(port: int, receive_buffer: int | None = None) -> socket.socket:
-    """A connection to a port, whose system takes as many bytes ahead as `receive_buffer` says, or as many as it
-    likes."""
+    """A connection to a port, whose system takes as many bytes ahead as `receive_buffer` says, or
+    as many as it likes."""
     client = socket.socket()
     if receive_buffer is not None:
         client.setsockopt(socket.SOL_SOCKET, socket.SO_RCVBUF, receive_buffer)
@@ -51,7 +52,8 @@ def reset(connection: socket.socket) -> None:
 
 
 def send_in_pieces(connection: socket.socket, pieces: Iterable[bytes], pause: float) -> None:
-    """Sends the pieces, with a pause before each but the first, until all are sent or the peer has ended."""
+    """Sends the pieces, with a pause before each but the first, until all are sent or the peer has
+    ended."""
     with contextlib.suppress(OSError):
         for number, piece in enumerate(pieces):
             time.sleep(pause if number else 0)
@@ -59,8 +61,8 @@ def send_in_pieces(connection: socket.socket, pieces: Iterable[bytes], pause: fl
 
 
 def answer_of(connection: socket.socket, text: bytes, *later: bytes) -> bytes | None:
-    """What a client that sends these bytes, and others later, and ends its side, is answered, or None where the
-    connection is reset."""
+    """What a client that sends these bytes, and others later, and ends its side, is answered, or
+    None where the connection is reset."""
     try:
         connection.sendall(text)
         for piece in later:
@@ -83,6 +85,7 @@ def asked(port: int, text: bytes, *later: bytes) -> bytes | None:
 
 class Timed(NamedTuple):
     """What a client is answered, and how many seconds that took."""
+
     answer: bytes
     seconds: float
 
@@ -103,8 +106,11 @@ def dripped(port: int, pieces: Iterable[bytes], pause: float) -> Timed:
         return Timed(received(client), time.monotonic() - start)
 
 
-def timed_for(port: int, longest: float, pieces: Sequence[bytes] = (request(),), pause: float = 0.0) -> Timed:
-    """The same, where a client may wait for no longer than so many seconds: the answer is none then."""
+def timed_for(
+    port: int, longest: float, pieces: Sequence[bytes] = (request(),), pause: float = 0.0
+) -> Timed:
+    """The same, where a client may wait for no longer than so many seconds: the answer is none
+    then."""
     start = time.monotonic()
     with connect(port) as client:
         client.settimeout(longest)
@@ -114,9 +120,15 @@ def timed_for(port: int, longest: float, pieces: Sequence[bytes] = (request(),),
     return Timed(b"", time.monotonic() - start)
 
 
-def get(port: int, path: str = "/", method: str = "GET", body: Body = None,
-        fields: dict[str, str] | None = None) -> tuple[int, bytes] | None:
-    """The status and the body that Python's own client is answered, or None where there is no whole answer."""
+def get(
+    port: int,
+    path: str = "/",
+    method: str = "GET",
+    body: Body = None,
+    fields: dict[str, str] | None = None,
+) -> tuple[int, bytes] | None:
+    """The status and the body that Python's own client is answered, or None where there is no whole
+    answer."""
     connection = http.client.HTTPConnection(HOST, port, timeout=LONGEST)
     in_chunks = body is not None and not isinstance(body, bytes)
     try:
@@ -131,6 +143,7 @@ def get(port: int, path: str = "/", method: str = "GET", body: Body = None,
 
 class Waits(NamedTuple):
     """What clients were answered, and how many seconds an answer took at most."""
+
     answers: list[bytes]
     longest: float
 
@@ -151,9 +164,12 @@ def at_once(calls: Sequence[Callable[[], Given]]) -> list[Given]:
 
 
 class Crowd:
-    """Many connections of one port that one thread serves: each step does something with each of them."""
+    """Many connections of one port that one thread serves: each step does something with each of
+    them."""
 
-    def __init__(self, port: int, count: int, first: bytes, receive_buffer: int | None = None) -> None:
+    def __init__(
+        self, port: int, count: int, first: bytes, receive_buffer: int | None = None
+    ) -> None:
         self.connections = [connect(port, receive_buffer) for _ in range(count)]
         for connection in self.connections:
             with contextlib.suppress(OSError):
@@ -170,7 +186,8 @@ class Crowd:
             connection.close()
 
     def each(self, step: Callable[[socket.socket], bool], pause: float) -> None:
-        """Makes the step with each connection, again and again; one for which it gives False isn't asked again."""
+        """Makes the step with each connection, again and again; one for which it gives False isn't
+        asked again."""
         left = list(self.connections)
         while left and not self.has_ended.wait(pause):
             left = [connection for connection in left if goes_on(step, connection)]
@@ -215,7 +232,9 @@ def slow_readers(port: int, count: int, target: bytes) -> Iterator[Crowd]:
 
 def upload(port: int, size: int, piece: int = 65536, pause: float = 0.0) -> bytes:
     """What a client is answered that uploads so many bytes, a piece at a time."""
-    return timed(port, [head_of(size), *[bytes(piece)] * (size // piece), bytes(size % piece)], pause).answer
+    return timed(
+        port, [head_of(size), *[bytes(piece)] * (size // piece), bytes(size % piece)], pause
+    ).answer
 
 
 def counted(answers: Iterable[bytes]) -> dict[bytes, int]:

@@ -1,4 +1,5 @@
-"""Endpoints of revisions: each is a server that answers every connection's one request by a function."""
+"""Endpoints of revisions: each is a server that answers every connection's one request by a
+function."""
 import contextlib
 import itertools
 import os
@@ -25,6 +26,7 @@ LONGEST = 120
 
 class Request(NamedTuple):
     """A request as an endpoint reads it, and its head as it came, with its end."""
+
     method: bytes
     target: bytes
     fields: list[tuple[bytes, bytes]]
@@ -51,7 +53,8 @@ def read_head(connection: socket.socket) -> tuple[bytes, bytes] | None:
 
 
 def read_request(connection: socket.socket) -> Request | None:
-    """A request whose body comes by length, as the switch sends each; none where the connection ends before."""
+    """A request whose body comes by length, as the switch sends each; none where the connection
+    ends before."""
     read = read_head(connection)
     if read is None:
         return None
@@ -69,8 +72,8 @@ def read_request(connection: socket.socket) -> Request | None:
 
 
 class Endpoint:
-    """A server that reads each request whole and answers it by a function. It counts its requests, and it can be
-    stopped and started again."""
+    """A server that reads each request whole and answers it by a function. It counts its requests,
+    and it can be stopped and started again."""
 
     def __init__(self, answer: Answer, port: int = 0) -> None:
         self.answer = answer
@@ -93,7 +96,9 @@ class Endpoint:
     def accept(self, listener: socket.socket) -> None:
         with contextlib.suppress(OSError):
             while True:
-                threading.Thread(target=self.serve, args=(listener.accept()[0],), daemon=True).start()
+                threading.Thread(
+                    target=self.serve, args=(listener.accept()[0],), daemon=True
+                ).start()
 
     def serve(self, connection: socket.socket) -> None:
         with connection, contextlib.suppress(OSError):
@@ -107,14 +112,18 @@ class Endpoint:
 
 def chunked(body: bytes, size: int) -> bytes:
     """A response in chunks of a size."""
-    pieces = (body[start:start + size] for start in range(0, len(body), size))
-    return b"HTTP/1.1 200 OK\r\nTransfer-Encoding: chunked\r\n\r\n" + b"".join(
-        b"%x\r\n%s\r\n" % (len(piece), piece) for piece in pieces) + b"0\r\n\r\n"
+    pieces = (body[start : start + size] for start in range(0, len(body), size))
+    return (
+        b"HTTP/1.1 200 OK\r\nTransfer-Encoding: chunked\r\n\r\n"
+        + b"".join(b"%x\r\n%s\r\n" % (len(piece), piece) for piece in pieces)
+        + b"0\r\n\r\n"
+    )
 
 
 SEED = 30
 CUT_HEAD = b"HTTP/1.1 200 OK\r\nContent-Len"
-# What an endpoint sends that is no whole response, by the target that asks for it; after it the connection ends.
+# What an endpoint sends that is no whole response, by the target that asks for it; after it the
+# connection ends.
 BROKEN = {
     b"/closes": b"",
     b"/head": CUT_HEAD,
@@ -138,7 +147,8 @@ ALL_FIELDS = b"/all-fields"
 
 
 def by_target(name: bytes) -> Answer:
-    """Answers as the target asks for, and at all others with the name and the body that was sent."""
+    """Answers as the target asks for, and at all others with the name and the body that was
+    sent."""
 
     def answer(request: Request, connection: socket.socket) -> None:
         target = request.target
@@ -160,7 +170,9 @@ def by_target(name: bytes) -> Answer:
     return answer
 
 
-def in_pieces(pieces: Sequence[bytes], pause: float = 0.0, silent_after: int | None = None) -> Answer:
+def in_pieces(
+    pieces: Sequence[bytes], pause: float = 0.0, silent_after: int | None = None
+) -> Answer:
     """Answers each request with these pieces, but says nothing to those after so many."""
     numbers = itertools.count()
 
@@ -174,8 +186,8 @@ def in_pieces(pieces: Sequence[bytes], pause: float = 0.0, silent_after: int | N
 
 
 class Held:
-    """Answers requests only once they are let go; it counts those that wait, and those whose connection the switch
-    closed."""
+    """Answers requests only once they are let go; it counts those that wait, and those whose
+    connection the switch closed."""
 
     def __init__(self, body: bytes) -> None:
         self.body = body
@@ -210,7 +222,8 @@ def reset_at_once(_: Request, connection: socket.socket) -> None:
 
 
 class EndpointProcess:
-    """An endpoint in a process of its own, which can be killed, and stopped as by SIGSTOP. It answers with its name."""
+    """An endpoint in a process of its own, which can be killed, and stopped as by SIGSTOP. It
+    answers with its name."""
 
     def __init__(self, name: str, port: int) -> None:
         self.name = name
@@ -220,8 +233,11 @@ class EndpointProcess:
     def start(self) -> None:
         """Starts the process, and waits until it listens."""
         paths = os.pathsep.join((str(TOP / "scripts"), str(TOP / "lib")))
-        self.process = subprocess.Popen([sys.executable, "-B", "-m", "support.endpoints", self.name, str(self.port)],
-                                        env={**os.environ, "PYTHONPATH": paths}, text=True)
+        self.process = subprocess.Popen(
+            [sys.executable, "-B", "-m", "support.endpoints", self.name, str(self.port)],
+            env={**os.environ, "PYTHONPATH": paths},
+            text=True,
+        )
         processes.limit(self.process)
         comes(lambda: is_open(self.port))
 
@@ -229,7 +245,8 @@ class EndpointProcess:
         processes.stop(self.process)
 
     def stop(self) -> None:
-        """Stops the process: the system still accepts connections for it, and nothing reads them."""
+        """Stops the process: the system still accepts connections for it, and nothing reads
+        them."""
         processes.pause(self.process.pid)
 
 
@@ -246,7 +263,8 @@ def held_at(target: bytes, held: Held, others: Answer) -> Answer:
 
 
 def has_more(connection: socket.socket) -> bool:
-    """Whether something comes before the peer closes or resets the connection. Fails with TimeoutError where it is quiet."""
+    """Whether something comes before the peer closes or resets the connection. Fails with
+    TimeoutError where it is quiet."""
     try:
         return connection.recv(1) != b""
     except ConnectionError:
@@ -255,7 +273,8 @@ def has_more(connection: socket.socket) -> bool:
 
 @contextlib.contextmanager
 def full_listener() -> Iterator[socket.socket]:
-    """A listener that accepts nothing, and whose backlog is full: a connect to it hangs until it accepts."""
+    """A listener that accepts nothing, and whose backlog is full: a connect to it hangs until it
+    accepts."""
     with contextlib.ExitStack() as stack:
         listener = stack.enter_context(socket.create_server((HOST, 0), backlog=0))
         for _ in range(4):

@@ -3,11 +3,30 @@ import pathlib
 import tempfile
 from collections.abc import Callable
 
-from bg_switch_tools.fleet.record import ABORTED, FAILED, FOLLOWS, LEADER, MEMBERS, PASSED, PROMOTING, READY, SUCCESSFUL, TESTING
+from bg_switch_tools.fleet.record import (
+    ABORTED,
+    FAILED,
+    FOLLOWS,
+    LEADER,
+    MEMBERS,
+    PASSED,
+    PROMOTING,
+    READY,
+    SUCCESSFUL,
+    TESTING,
+)
 from support.browser import Browser
 from support.checks import check, comes
 from support.dashboards import running
-from support.looks import NARROW, check_contrast, check_no_element, check_not_cut, check_shown, open_page, picture
+from support.looks import (
+    NARROW,
+    check_contrast,
+    check_no_element,
+    check_not_cut,
+    check_shown,
+    open_page,
+    picture,
+)
 from support.ports import free_port
 from tests.synthetic_fleet import HOSTS, V1, V2, SyntheticEtcd, SyntheticFleet
 
@@ -30,13 +49,24 @@ def check_rows(name: str, browser: Browser, **states: str) -> None:
 
 def of(host: str) -> str:
     """The selector of a machine's row."""
-    return f"[data-host=\"{host}\"]"
+    return f'[data-host="{host}"]'
 
 
 def nothing_moves(browser: Browser, fleet: SyntheticFleet) -> None:
     check_rows("five rows", browser)
-    check_shown("the stage of an attempt that is over", browser, "#phase", "Successful", "web-v1", "since")
-    check_shown("what is awaited", browser, "#facts", "Waits for", "nothing", "Leader", "web-1", "none stands")
+    check_shown(
+        "the stage of an attempt that is over", browser, "#phase", "Successful", "web-v1", "since"
+    )
+    check_shown(
+        "what is awaited",
+        browser,
+        "#facts",
+        "Waits for",
+        "nothing",
+        "Leader",
+        "web-1",
+        "none stands",
+    )
     check_shown("members", browser, "#members", "5 members, none away")
     check("headings of the table", browser.run(HEADINGS), [True, True, "machines-title"])
     picture(browser, "20-fleet-steady")
@@ -48,16 +78,39 @@ def an_attempt_waits(browser: Browser, fleet: SyntheticFleet) -> None:
         fleet.report(host, READY)
     fleet.report("web-5", "working", "endpoint 9202 is not up")
     fleet.leave("web-4")
-    check_rows("the states", browser, web_1=READY, web_2=READY, web_3=READY, web_4="away", web_5="working")
+    check_rows(
+        "the states", browser, web_1=READY, web_2=READY, web_3=READY, web_4="away", web_5="working"
+    )
     check_shown("the stage", browser, "#phase-name", "Deploying")
-    check_shown("what is awaited from whom", browser, "#facts", "Waits for", "web-5: working, endpoint 9202 is not up",
-                "web-4: is away")
-    check_shown("the member that is awaited", browser, of("web-5"), "working", "endpoint 9202 is not up", "ready", "web-v2")
+    check_shown(
+        "what is awaited from whom",
+        browser,
+        "#facts",
+        "Waits for",
+        "web-5: working, endpoint 9202 is not up",
+        "web-4: is away",
+    )
+    check_shown(
+        "the member that is awaited",
+        browser,
+        of("web-5"),
+        "working",
+        "endpoint 9202 is not up",
+        "ready",
+        "web-v2",
+    )
     check("a member that is not awaited", browser.text(f"{of('web-1')} .awaited"), "")
     check_shown("a member that is away", browser, "#members", "5 members, 1 away: web-4")
     fleet.order("promote", "kim")
     check_shown("an order that stands", browser, "#facts", "kim orders promote for attempt")
-    check_shown("what happened", browser, "#happened", "web-4 is away", "of web-v2: deploying", "kim orders promote")
+    check_shown(
+        "what happened",
+        browser,
+        "#happened",
+        "web-4 is away",
+        "of web-v2: deploying",
+        "kim orders promote",
+    )
     picture(browser, "21-fleet-deploying")
 
 
@@ -68,7 +121,9 @@ def it_promotes(browser: Browser, fleet: SyntheticFleet) -> None:
     fleet.report("web-2", TESTING, active="web-v2")
     check_shown("the stage", browser, "#phase-name", "Promoting")
     check_shown("a member without a vote", browser, of("web-4"), "away", "no vote")
-    check_shown("the active revision of a machine", browser, f"{of('web-1')} [data-title=Active]", "web-v2")
+    check_shown(
+        "the active revision of a machine", browser, f"{of('web-1')} [data-title=Active]", "web-v2"
+    )
     check_shown("the one of another", browser, f"{of('web-3')} [data-title=Active]", "web-v1")
     check("the steps", browser.run(STEP_STATES), ["done", "current", "ahead"])
     fleet.lead("web-2")
@@ -104,8 +159,15 @@ def hostile_text(browser: Browser, fleet: SyntheticFleet) -> None:
 def a_record_that_can_not_be_read(browser: Browser, fleet: SyntheticFleet) -> None:
     before = fleet.keys.keys["attempt"].value
     fleet.put(attempt="{")
-    check_shown("a record that can't be read", browser, "#alarm", "the record of the attempt can't be read")
-    check_shown("then nobody says that there is no attempt", browser, "#phase-name", "The attempt is not known")
+    check_shown(
+        "a record that can't be read", browser, "#alarm", "the record of the attempt can't be read"
+    )
+    check_shown(
+        "then nobody says that there is no attempt",
+        browser,
+        "#phase-name",
+        "The attempt is not known",
+    )
     check_shown("nor that nothing is awaited", browser, "#facts", "not known")
     check("the rows stay", len(str(browser.run(ROWS)).split("web-")), 6)
     fleet.put(attempt=before)
@@ -114,7 +176,13 @@ def a_record_that_can_not_be_read(browser: Browser, fleet: SyntheticFleet) -> No
 
 def etcd_is_away(browser: Browser, etcd: SyntheticEtcd) -> None:
     etcd.stop()
-    check_shown("etcd is away", browser, "#alarm", "etcd gives no answer since", "What is shown is old: it was read at")
+    check_shown(
+        "etcd is away",
+        browser,
+        "#alarm",
+        "etcd gives no answer since",
+        "What is shown is old: it was read at",
+    )
     check_shown("what is old says so", browser, ".read", "old: read at")
     check("and is marked", browser.run(IS_OLD), [True, True])
     check("the last state stays", len(str(browser.run(ROWS)).split("web-")), 6)
@@ -149,8 +217,13 @@ def it_succeeds(browser: Browser, fleet: SyntheticFleet) -> None:
     for host in HOSTS:
         fleet.report(host, FOLLOWS, active="web-v2", stable="web-v2")
     check_rows("all follow", browser)
-    check_shown("a plan that waits for people", browser, "#facts", "a person orders each promotion",
-                "at most 1 member may be without a vote")
+    check_shown(
+        "a plan that waits for people",
+        browser,
+        "#facts",
+        "a person orders each promotion",
+        "at most 1 member may be without a vote",
+    )
     check_shown("the stable revision", browser, "#facts", "Stable revision", "web-v2")
 
 
@@ -159,7 +232,13 @@ def fleet(browser: Browser) -> None:
     shown = SyntheticFleet()
     etcd = SyntheticEtcd(shown)
     parts: tuple[Callable[[Browser, SyntheticFleet], None], ...] = (
-        nothing_moves, an_attempt_waits, it_promotes, it_is_aborted, hostile_text, a_record_that_can_not_be_read)
+        nothing_moves,
+        an_attempt_waits,
+        it_promotes,
+        it_is_aborted,
+        hostile_text,
+        a_record_that_can_not_be_read,
+    )
     with tempfile.TemporaryDirectory() as folder:
         path = pathlib.Path(folder, "fleet.json")
         path.write_text(etcd.fleet_file(), encoding="utf-8")

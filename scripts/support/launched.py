@@ -1,4 +1,5 @@
-"""Endpoints that a plan starts and stops, by commands that write down each call, and clients that never pause."""
+"""Endpoints that a plan starts and stops, by commands that write down each call, and clients that
+never pause."""
 import os
 import pathlib
 import random
@@ -25,9 +26,9 @@ SETTLING = 3.0  # seconds after a switch listens again within which requests may
 ROLLOUT = """{"spec": {"replicas": 2, "strategy": {"blueGreen": {"activeService": "web",
 "previewService": "web-preview", "scaleDownDelaySeconds": 1}}}}"""
 
-# What the plan's commands run: `start`, `stop` and, in a process of its own, `run`, each with a name and a port. `stop` asks the
-# switch whether the revision can be stopped.
-ENDPOINT = '''
+# What the plan's commands run: `start`, `stop` and, in a process of its own, `run`, each with a
+# name and a port. `stop` asks the switch whether the revision can be stopped.
+ENDPOINT = """
 import http.server, os, signal, socket, subprocess, sys, time
 kind, name, port, control = sys.argv[1:]
 path = f"{name}-{port}.pid"
@@ -85,17 +86,19 @@ if kind == "stop" and os.path.exists(path):
         os.kill(pid, signal.SIGKILL)
         time.sleep(0.02)
     os.remove(path)
-'''
+"""
 
 
 class Failure(NamedTuple):
     """An answer that is none of a revision's, and its time."""
+
     at: float
     answer: tuple[int, bytes] | None
 
 
 class Traffic:
-    """Clients of the active port that ask without pause until they are stopped. What is no answer of a revision is kept."""
+    """Clients of the active port that ask without pause until they are stopped. What is no answer
+    of a revision is kept."""
 
     def __init__(self, port: int) -> None:
         self.port = port
@@ -132,7 +135,9 @@ class Program:
         self.start()
 
     def start(self) -> None:
-        self.process = subprocess.Popen(self.words, stdin=subprocess.PIPE, stdout=subprocess.PIPE, text=True, cwd=self.folder)
+        self.process = subprocess.Popen(
+            self.words, stdin=subprocess.PIPE, stdout=subprocess.PIPE, text=True, cwd=self.folder
+        )
         processes.limit(self.process)
         if self.process.stdin is None or self.process.stdout is None:
             raise OSError("no pipes")
@@ -151,7 +156,8 @@ class Program:
 
 
 class Launched:
-    """A switch, a controller, and a plan that starts and stops the endpoints of its revisions: none runs at first."""
+    """A switch, a controller, and a plan that starts and stops the endpoints of its revisions: none
+    runs at first."""
 
     def __init__(self, folder: str, seed: int) -> None:
         self.random = random.Random(seed)
@@ -161,13 +167,35 @@ class Launched:
         self.ports: dict[str, list[int]] = {}
         command = [sys.executable, "-B", "endpoint.py"]
         words = ["{revision}", "{port}", str(self.control)]
-        self.plan = Plan(folder, self.control, health={"interval": 0.2, "timeout": 2, "failures": 2}, timeout=20,
-                         start=[*command, "start", *words], stop=[*command, "stop", *words])
+        self.plan = Plan(
+            folder,
+            self.control,
+            health={"interval": 0.2, "timeout": 2, "failures": 2},
+            timeout=20,
+            start=[*command, "start", *words],
+            stop=[*command, "stop", *words],
+        )
         self.name_last("web-v1")
-        self.switch = Program([PROGRAM, *words_of_serve(self.active, self.control, preview, 4, None,
-                                                        ("--concurrency", "4", "--redispatch"))], ROLLOUT, LISTENING, folder)
+        self.switch = Program(
+            [
+                PROGRAM,
+                *words_of_serve(
+                    self.active,
+                    self.control,
+                    preview,
+                    4,
+                    None,
+                    ("--concurrency", "4", "--redispatch"),
+                ),
+            ],
+            ROLLOUT,
+            LISTENING,
+            folder,
+        )
         self.controller = Program([str(TOP / "bin" / "controller"), self.plan.path], "", "", folder)
-        self.outages: list[tuple[float, float]] = []  # from when to when the switch could not answer
+        self.outages: list[
+            tuple[float, float]
+        ] = []  # from when to when the switch could not answer
 
     def name_last(self, name: str) -> None:
         """Puts a plan in place whose last revision this is."""
@@ -181,9 +209,15 @@ class Launched:
             return None
 
     def is_settled(self, name: str) -> bool:
-        """Whether this revision alone runs: it is stable, and the processes of all others are gone."""
+        """Whether this revision alone runs: it is stable, and the processes of all others are
+        gone."""
         report = self.report()
-        is_stable = report is not None and report.phase == "steady" and report.stable.name == name and report.stable.available == 2
+        is_stable = (
+            report is not None
+            and report.phase == "steady"
+            and report.stable.name == name
+            and report.stable.available == 2
+        )
         return is_stable and self.running() == {(name, port) for port in self.ports[name]}
 
     def running(self) -> set[tuple[str, int]]:
@@ -193,8 +227,11 @@ class Launched:
 
     def await_settled(self, name: str) -> None:
         comes(lambda: self.is_settled(name), WAIT)
-        check(f"{name} is stable, and its processes alone run", (self.is_settled(name), self.running()),
-              (True, {(name, port) for port in self.ports[name]}))
+        check(
+            f"{name} is stable, and its processes alone run",
+            (self.is_settled(name), self.running()),
+            (True, {(name, port) for port in self.ports[name]}),
+        )
 
     def kill_controller(self) -> None:
         self.controller.kill()
@@ -225,16 +262,27 @@ class Launched:
 
     def check_calls(self) -> None:
         calls = (self.folder / "calls").read_text(encoding="ascii").splitlines()
-        check("what was stopped while it was wanted", [call for call in calls if call.startswith("stopped too early")], [])
+        check(
+            "what was stopped while it was wanted",
+            [call for call in calls if call.startswith("stopped too early")],
+            [],
+        )
         check("calls of both kinds", {call.split()[0] for call in calls} >= {"start", "stop"}, True)
 
     def check_traffic(self, traffic: Traffic) -> None:
         """No request has failed, but for those while the switch itself was away."""
-        failures = [failure for failure in traffic.failures
-                    if not any(begun <= failure.at <= end for begun, end in self.outages)]
+        failures = [
+            failure
+            for failure in traffic.failures
+            if not any(begun <= failure.at <= end for begun, end in self.outages)
+        ]
         check("requests that failed", failures, [])
         check("requests were made", traffic.count > 50, True)
-        check("answers of none of the revisions", traffic.names - {name.encode() for name in self.ports}, set())
+        check(
+            "answers of none of the revisions",
+            traffic.names - {name.encode() for name in self.ports},
+            set(),
+        )
 
     def end(self) -> None:
         self.switch.kill()

@@ -7,7 +7,9 @@ from support.browser import Browser
 from support.checks import check
 
 WIDE, NARROW = 1280, 390
-PICTURES = pathlib.Path(os.environ.get("BG_DASHBOARD_PICTURES") or tempfile.mkdtemp(prefix="bg_dashboard_"))
+PICTURES = pathlib.Path(
+    os.environ.get("BG_DASHBOARD_PICTURES") or tempfile.mkdtemp(prefix="bg_dashboard_")
+)
 LEAST_CONTRAST = 4.5  # of text and what is behind it (WCAG 2.1, 1.4.3)
 # The texts whose contrast is too low, with what it is.
 FAINT_TEXTS = """const numbers = (text) => text.match(/[0-9.]+/g).map(Number);
@@ -55,7 +57,11 @@ def check_no_element(browser: Browser) -> None:
 
 
 def check_not_cut(browser: Browser) -> None:
-    check("nothing is cut on a narrow window", browser.is_true("return document.documentElement.scrollWidth <= innerWidth"), True)
+    check(
+        "nothing is cut on a narrow window",
+        browser.is_true("return document.documentElement.scrollWidth <= innerWidth"),
+        True,
+    )
 
 
 def check_contrast(browser: Browser, scheme: str) -> None:

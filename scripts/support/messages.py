@@ -6,7 +6,9 @@ NO_PREVIEW = '{"spec": {"strategy": {"blueGreen": {"activeService": "web"}}}}'
 LARGEST_BODY = 1048576
 
 
-def request(target: bytes = b"/", method: bytes = b"GET", body: bytes | None = None, chunked: bool = False) -> bytes:
+def request(
+    target: bytes = b"/", method: bytes = b"GET", body: bytes | None = None, chunked: bool = False
+) -> bytes:
     """A request, whose body comes by length or as one chunk."""
     head = b"%s %s HTTP/1.1\r\nHost: x\r\n" % (method, target)
     if body is None:
@@ -28,7 +30,10 @@ def response(body: bytes) -> bytes:
 
 def answer(body: bytes) -> bytes:
     """A response as a client gets it."""
-    return b"HTTP/1.1 200 OK\r\nContent-Length: %d\r\nConnection: close\r\n\r\n%s" % (len(body), body)
+    return b"HTTP/1.1 200 OK\r\nContent-Length: %d\r\nConnection: close\r\n\r\n%s" % (
+        len(body),
+        body,
+    )
 
 
 def refusal(status: bytes) -> bytes:

@@ -1,6 +1,7 @@
 """The pace of the machine: limits that only say `not for ever` are wider where it is busy or slow.
 
-Where a limit is what is checked, a check compares with a control in the same run, or looks at the order of events.
+Where a limit is what is checked, a check compares with a control in the same run, or looks at the
+order of events.
 """
 import os
 import statistics
@@ -10,16 +11,17 @@ import threading
 import time
 from collections.abc import Callable
 
-# The work by which the pace is measured: the start of a process, and a little that it computes. It takes so many seconds on a
-# free machine.
+# The work by which the pace is measured: the start of a process, and a little that it computes. It
+# takes so many seconds on a free machine.
 WORK = (sys.executable, "-I", "-S", "-c", "for _ in range(300_000): pass")
 FREE = 0.025
 RUNS = 5
 
 
 def slowness() -> float:
-    """How many times as long as on a free machine the work takes now, or took in the last minute, by the number of processes
-    that had to share a processor; 1 at least. It takes a tenth of a second."""
+    """How many times as long as on a free machine the work takes now, or took in the last minute,
+    by the number of processes that had to share a processor; 1 at least. It takes a tenth of a
+    second."""
     shared = os.getloadavg()[0] / len(os.sched_getaffinity(0))
     return max(1.0, shared, statistics.median(seconds_of_work() for _ in range(RUNS)) / FREE)
 
@@ -36,12 +38,14 @@ def widened(limit: float) -> float:
 
 
 def is_within(seconds: float, limit: float) -> bool:
-    """Whether this took no longer than the limit. The pace is measured only where the limit itself is not kept."""
+    """Whether this took no longer than the limit. The pace is measured only where the limit itself
+    is not kept."""
     return seconds <= limit or seconds <= widened(limit)
 
 
 def at_the_limit(limit: float, end: Callable[[], object]) -> threading.Thread:
-    """Calls `end` in a thread once the limit is over, as the machine keeps it then. The thread ends with the program."""
+    """Calls `end` in a thread once the limit is over, as the machine keeps it then. The thread ends
+    with the program."""
 
     def wait() -> None:
         time.sleep(limit)

@@ -35,20 +35,30 @@ def with_places(page: str, ports: dict[str, str], folder: str) -> str:
 
 
 class Limits(NamedTuple):
-    """How long a session may take, in seconds, and the variables of the environment that it has beside those of the script."""
+    """How long a session may take, in seconds, and the variables of the environment that it has
+    beside those of the script."""
+
     longest: float = 80.0
     variables: Mapping[str, str] = {}
 
 
 def run_script(script: str, printed: IO[str], ports: Sequence[str], limits: Limits) -> list[str]:
-    """Runs a script in a shell; what it leaves running is ended. Gives the ports that still listen after it; none where it does not
-    end."""
-    shell = subprocess.Popen(["bash", "-c", script], stdin=subprocess.DEVNULL, stdout=printed, start_new_session=True,
-                             env={**os.environ, **limits.variables})
+    """Runs a script in a shell; what it leaves running is ended. Gives the ports that still listen
+    after it; none where it does not end."""
+    shell = subprocess.Popen(
+        ["bash", "-c", script],
+        stdin=subprocess.DEVNULL,
+        stdout=printed,
+        start_new_session=True,
+        env={**os.environ, **limits.variables},
+    )
     has_ended = comes(lambda: shell.poll() is not None, limits.longest)
     if not has_ended:
         printed.seek(0)
-        fail("the session", f"it doesn't end in {limits.longest:g} seconds, and has printed at last {printed.read()[-300:]!r}")
+        fail(
+            "the session",
+            f"it doesn't end in {limits.longest:g} seconds, and has printed at last {printed.read()[-300:]!r}",
+        )
     # what was told to end may take a moment
     listening = [port for port in ports if has_ended and not is_refused(int(port))]
     with contextlib.suppress(ProcessLookupError):
@@ -58,26 +68,37 @@ def run_script(script: str, printed: IO[str], ports: Sequence[str], limits: Limi
 
 
 class Session(NamedTuple):
-    """The blocks of a section, what each has printed, and the ports that still listen after the last one."""
+    """The blocks of a section, what each has printed, and the ports that still listen after the
+    last one."""
+
     blocks: list[str]
     printed: list[str]
     listening: list[str]
 
     def check(self, least: int, first: int = 0) -> None:
-        """Checks that there are so many blocks at least, that each from this one on has printed what it says, and that
-        nothing listens any more."""
-        check("blocks that were run", (len(self.printed), len(self.blocks) >= least), (len(self.blocks), True))
+        """Checks that there are so many blocks at least, that each from this one on has printed
+        what it says, and that nothing listens any more."""
+        check(
+            "blocks that were run",
+            (len(self.printed), len(self.blocks) >= least),
+            (len(self.blocks), True),
+        )
         for block, text in list(zip(self.blocks, self.printed))[first:]:
             check(f"the block {block.splitlines()[0]}", text.splitlines(), expected_of(block))
         check("what still listens after the session", self.listening, [])
 
 
 def run_session(page: str, title: str, ports: Sequence[str], limits: Limits = Limits()) -> Session:
-    """Runs the blocks of a section one after the other in one shell, with other ports and another folder."""
+    """Runs the blocks of a section one after the other in one shell, with other ports and another
+    folder."""
     places = dict(zip(ports, map(str, free_ports(len(ports)))))
-    with tempfile.TemporaryDirectory() as folder, tempfile.TemporaryFile("w+", encoding="utf-8") as printed:
+    with tempfile.TemporaryDirectory() as folder, tempfile.TemporaryFile(
+        "w+", encoding="utf-8"
+    ) as printed:
         blocks = blocks_of(with_places(page, places, folder), title)
         script = "".join(f"{block}\necho '{END_OF_BLOCK}'\n" for block in blocks)
-        listening = run_script(script.replace("bin/bg_switch ", f"{PROGRAM} "), printed, list(places.values()), limits)
+        listening = run_script(
+            script.replace("bin/bg_switch ", f"{PROGRAM} "), printed, list(places.values()), limits
+        )
         printed.seek(0)
         return Session(blocks, printed.read().split(f"{END_OF_BLOCK}\n")[:-1], listening)

@@ -14,7 +14,8 @@ class Plan:
         self.told: dict[str, object] = {"control": control, **members}
 
     def write(self, revisions: Iterable[tuple[str, Sequence[int]]], **members: object) -> None:
-        """Writes the plan with these revisions and their ports. Members that are given stay for later writes."""
+        """Writes the plan with these revisions and their ports. Members that are given stay for
+        later writes."""
         self.told.update(members)
         self.told["revisions"] = [{"name": name, "ports": list(ports)} for name, ports in revisions]
         self.write_text(json.dumps(self.told))

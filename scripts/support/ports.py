@@ -10,13 +10,35 @@ from collections.abc import Iterator
 from support.checks import LONGEST_WAIT, comes
 
 HOST = "127.0.0.1"
-# The scripts that run side by side. Each takes its ports from a share of its own, so that none takes another's; all are
-# below those that the system gives to connections of itself.
-SCRIPTS = ("live", "live_starting", "live_timeouts", "live_resources", "live_attack", "live_random", "live_operator",
-           "live_controller", "live_crash", "live_readme", "live_operating", "live_clients", "live_endpoints",
-           "live_control", "live_shutdown", "live_production", "live_access_log", "live_access_log_random",
-           "live_history", "live_dashboard", "live_analysis", "live_concurrency", "live_operators", "live_fleet_pages",
-           "live_memory")
+# The scripts that run side by side. Each takes its ports from a share of its own, so that none
+# takes another's; all are below those that the system gives to connections of itself.
+SCRIPTS = (
+    "live",
+    "live_starting",
+    "live_timeouts",
+    "live_resources",
+    "live_attack",
+    "live_random",
+    "live_operator",
+    "live_controller",
+    "live_crash",
+    "live_readme",
+    "live_operating",
+    "live_clients",
+    "live_endpoints",
+    "live_control",
+    "live_shutdown",
+    "live_production",
+    "live_access_log",
+    "live_access_log_random",
+    "live_history",
+    "live_dashboard",
+    "live_analysis",
+    "live_concurrency",
+    "live_operators",
+    "live_fleet_pages",
+    "live_memory",
+)
 FIRST_PORT, PORTS_EACH = 20000, 500
 # The system's table of sockets, its columns, and the state of a socket that listens.
 TABLE = pathlib.Path("/proc/net/tcp")
@@ -24,7 +46,8 @@ LOCAL, STATE, QUEUES, INODE, LISTENS = 1, 3, 4, 9, "0A"
 
 
 def all_ports() -> Iterator[int]:
-    """The ports of the running script's share, again and again, from a place on that differs from run to run."""
+    """The ports of the running script's share, again and again, from a place on that differs from
+    run to run."""
     first = FIRST_PORT + PORTS_EACH * SCRIPTS.index(pathlib.Path(sys.argv[0]).stem)
     start = os.getpid() % PORTS_EACH
     for place in itertools.count():
@@ -84,19 +107,29 @@ def is_refused(port: int) -> bool:
 def rows_at(port: int) -> list[list[str]]:
     """The rows of the sockets of programs at a port of this machine, in the system's table."""
     place = f":{port:04X} "
-    # the table may have tens of thousands of rows of connections that have ended, which aren't split
-    rows = [line.split() for line in TABLE.read_text(encoding="ascii").splitlines() if place in line]
-    return [fields for fields in rows if fields[LOCAL].endswith(place.rstrip()) and fields[INODE] != "0"]
+    # the table may have tens of thousands of rows of connections that have ended, which aren't
+    # split
+    rows = [
+        line.split() for line in TABLE.read_text(encoding="ascii").splitlines() if place in line
+    ]
+    return [
+        fields for fields in rows if fields[LOCAL].endswith(place.rstrip()) and fields[INODE] != "0"
+    ]
 
 
 def sockets_at(port: int) -> list[str]:
-    """The states of the sockets of programs at a port of this machine, by the system's table, as it writes them."""
+    """The states of the sockets of programs at a port of this machine, by the system's table, as it
+    writes them."""
     return [fields[STATE] for fields in rows_at(port)]
 
 
 def unread_at(port: int) -> int:
     """How many bytes have come for the connections of a port that its program has not read."""
-    return sum(int(fields[QUEUES].partition(":")[2], 16) for fields in rows_at(port) if fields[STATE] != LISTENS)
+    return sum(
+        int(fields[QUEUES].partition(":")[2], 16)
+        for fields in rows_at(port)
+        if fields[STATE] != LISTENS
+    )
 
 
 def is_open(port: int) -> bool:

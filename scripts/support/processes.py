@@ -1,4 +1,5 @@
-"""Programs that a script starts: they end with it, and their descriptors and memory are looked at."""
+"""Programs that a script starts: they end with it, and their descriptors and memory are looked
+at."""
 import atexit
 import contextlib
 import os
@@ -20,6 +21,7 @@ STANDARD_STREAMS = 3
 
 class Run(NamedTuple):
     """What a run of a program has printed, what it told on standard error, and its status."""
+
     printed: str
     told: str
     status: int
@@ -27,12 +29,15 @@ class Run(NamedTuple):
 
 def run_to_end(words: Sequence[str], given: str = "", longest: float = LONGEST) -> Run:
     """A run of a program that ends by itself, with this standard input."""
-    run = subprocess.run(words, input=given, capture_output=True, text=True, timeout=longest, check=False)
+    run = subprocess.run(
+        words, input=given, capture_output=True, text=True, timeout=longest, check=False
+    )
     return Run(run.stdout, run.stderr, run.returncode)
 
 
 def limit(process: subprocess.Popen[str]) -> None:
-    """Ends a process after a while, and with this script, so that whoever waits for it fails and doesn't hang."""
+    """Ends a process after a while, and with this script, so that whoever waits for it fails and
+    doesn't hang."""
     atexit.register(process.kill)
     at_the_limit(LONGEST, process.kill)
 
@@ -44,8 +49,8 @@ def stop(process: subprocess.Popen[str]) -> None:
 
 
 def pause(process: int) -> None:
-    """Stops a process by SIGSTOP, until SIGCONT. None of its threads runs any more then: on a busy machine some go on for a while
-    after the signal."""
+    """Stops a process by SIGSTOP, until SIGCONT. None of its threads runs any more then: on a busy
+    machine some go on for a while after the signal."""
     os.kill(process, signal.SIGSTOP)
     comes(lambda: all(is_stopped(path) for path in pathlib.Path(f"/proc/{process}/task").iterdir()))
 
@@ -53,7 +58,9 @@ def pause(process: int) -> None:
 def is_stopped(thread: pathlib.Path) -> bool:
     """Whether a thread is stopped by a signal, or has ended."""
     try:
-        return (thread / "stat").read_text(encoding="ascii", errors="replace").rpartition(")")[2].split()[0] in "TZX"
+        return (thread / "stat").read_text(encoding="ascii", errors="replace").rpartition(")")[
+            2
+        ].split()[0] in "TZX"
     except OSError:
         return True
 
@@ -101,12 +108,15 @@ def bytes_read(process: int) -> int:
 
 
 def signals(process: int) -> dict[int, int]:
-    """The descriptors by which the threads of a process signal to one another, each with the posts that no thread has taken."""
+    """The descriptors by which the threads of a process signal to one another, each with the posts
+    that no thread has taken."""
     found = {}
     for descriptor in descriptors(process):
         with contextlib.suppress(FileNotFoundError):
             text = pathlib.Path(f"/proc/{process}/fdinfo/{descriptor}").read_text(encoding="ascii")
-            counts = [line.split()[1] for line in text.splitlines() if line.startswith("eventfd-count:")]
+            counts = [
+                line.split()[1] for line in text.splitlines() if line.startswith("eventfd-count:")
+            ]
             found.update({descriptor: int(count, 16) for count in counts})
     return found
 
@@ -117,8 +127,8 @@ def posts(process: int) -> int:
 
 
 def limit_descriptors(soft: int, hard: int | None = None) -> None:
-    """The descriptors that this process may have from now on, by its soft and its hard limit; the hard one stays where
-    none is given."""
+    """The descriptors that this process may have from now on, by its soft and its hard limit; the
+    hard one stays where none is given."""
     most = resource.getrlimit(resource.RLIMIT_NOFILE)[1]
     hard = most if hard is None else hard
     if most != resource.RLIM_INFINITY:
@@ -134,11 +144,13 @@ class DescriptorLimit:
         self.most = resource.prlimit(process, resource.RLIMIT_NOFILE)
 
     def leave(self, count: int) -> None:
-        """No more than so many descriptors can be had beside those that are open, from the highest of them on."""
+        """No more than so many descriptors can be had beside those that are open, from the highest
+        of them on."""
         self.set(1 + descriptors(self.process)[-1] + count)
 
     def refuse(self) -> None:
-        """None can be had from now on, whatever is closed but the standard streams. Those that are open stay."""
+        """None can be had from now on, whatever is closed but the standard streams. Those that are
+        open stay."""
         self.set(STANDARD_STREAMS)
 
     def lift(self) -> None:

@@ -1,4 +1,5 @@
-"""A list of sockets that a switch reads in the place of the system's, so that its rows can say what no kernel here writes."""
+"""A list of sockets that a switch reads in the place of the system's, so that its rows can say what
+no kernel here writes."""
 import contextlib
 import ctypes
 import os
@@ -17,7 +18,8 @@ Change = Callable[[str], str]
 
 
 class SocketList:
-    """Gives each read of /proc/net/tcp what the system's list has, and the next reads what these changes make of it."""
+    """Gives each read of /proc/net/tcp what the system's list has, and the next reads what these
+    changes make of it."""
 
     def __init__(self, folder: pathlib.Path) -> None:
         self.folder, self.pipe = folder, folder / "tcp"
@@ -31,7 +33,9 @@ class SocketList:
     def serve(self) -> None:
         while True:
             # this waits for a reader, and the next one gets a pipe of its own
-            with open(self.pipe, "w", encoding="ascii") as reader, contextlib.suppress(BrokenPipeError):
+            with open(self.pipe, "w", encoding="ascii") as reader, contextlib.suppress(
+                BrokenPipeError
+            ):
                 if self.has_ended:
                     return
                 os.mkfifo(self.folder / "next")
@@ -41,15 +45,20 @@ class SocketList:
 
     def put_in_place(self) -> None:
         """Lets this process alone read this list. It has to have the right to mount."""
-        for status in (SYSTEM.unshare(OWN_MOUNTS), mounted(b"none", b"/", ALL_BELOW | PRIVATE),
-                       mounted(os.fsencode(self.folder), b"/proc/self/net", BIND)):
+        for status in (
+            SYSTEM.unshare(OWN_MOUNTS),
+            mounted(b"none", b"/", ALL_BELOW | PRIVATE),
+            mounted(os.fsencode(self.folder), b"/proc/self/net", BIND),
+        ):
             if status != 0:
                 raise OSError(ctypes.get_errno(), "a list of sockets can't be put in place")
 
     def is_allowed(self) -> bool:
         """Whether this process may put it in place."""
         try:
-            return subprocess.run(["true"], preexec_fn=self.put_in_place, check=False).returncode == 0
+            return (
+                subprocess.run(["true"], preexec_fn=self.put_in_place, check=False).returncode == 0
+            )
         except subprocess.SubprocessError:
             return False
 
@@ -80,6 +89,7 @@ def socket_list() -> Iterator[SocketList]:
 
 def with_fields(port: int, fields: dict[int, str]) -> Change:
     """Has these columns of the row of a socket at this port say this."""
+
     def changed(row: str) -> str:
         words = row.split()
         if not words[LOCAL].endswith(f":{port:04X}"):

@@ -1,4 +1,5 @@
-"""What the program tells on standard error while its ports are open. The patterns stand here alone."""
+"""What the program tells on standard error while its ports are open. The patterns stand here
+alone."""
 import re
 
 from support.checks import check, comes
@@ -29,18 +30,26 @@ def used_up(port: str) -> re.Pattern[str]:
 
 
 def nearly_full() -> re.Pattern[str]:
-    """The history is nearly full; the groups are how many entries it holds, and the most that it can."""
-    return re.compile(r"bg_switch: the history holds (\d+) of (\d+) entries; once it is full, requests and lines are refused")
+    """The history is nearly full; the groups are how many entries it holds, and the most that it
+    can."""
+    return re.compile(
+        r"bg_switch: the history holds (\d+) of (\d+) entries; once it is full, requests and lines are refused"
+    )
 
 
 def full() -> re.Pattern[str]:
-    """Lines and requests were refused since the history is full; the groups are how many of each."""
-    return re.compile(r"bg_switch: the history is full; lines refused: (\d+), requests refused: (\d+)")
+    """Lines and requests were refused since the history is full; the groups are how many of
+    each."""
+    return re.compile(
+        r"bg_switch: the history is full; lines refused: (\d+), requests refused: (\d+)"
+    )
 
 
 def refused_connections() -> re.Pattern[str]:
     """Connections of users that aren't listed were turned away; the group is how many."""
-    return re.compile(r"bg_switch: connections at the control port that are not of the users of BG_SWITCH_OPERATORS: (\d+)")
+    return re.compile(
+        r"bg_switch: connections at the control port that are not of the users of BG_SWITCH_OPERATORS: (\d+)"
+    )
 
 
 def line_of_user() -> re.Pattern[str]:

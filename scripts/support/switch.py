@@ -18,27 +18,42 @@ from support.ports import free_ports
 PROGRAM = os.environ.get("BG_SWITCH_PROGRAM", str(TOP / "bin" / "bg_switch"))
 TIMEOUT_VARIABLE = "BG_SWITCH_PATIENCE_SECONDS"
 LISTENING = "listening\n"
-# The usual limit of a system, which holds whatever the script itself may have. The program raises its soft limit to the
-# hard one.
+# The usual limit of a system, which holds whatever the script itself may have. The program raises
+# its soft limit to the hard one.
 USUAL_DESCRIPTORS = 1024
 
 
-def run_to_end(rollout: str, active: int, control: int, preview: int | None = None) -> processes.Run:
+def run_to_end(
+    rollout: str, active: int, control: int, preview: int | None = None
+) -> processes.Run:
     """A run of `serve` that ends by itself, since it can't begin to serve."""
     return processes.run_to_end([PROGRAM, *words_of_serve(active, control, preview, 1, 1)], rollout)
 
 
-def words_of_serve(active: int, control: int, preview: int | None, workers: int, count: int | None,
-                   instead_of_workers: Sequence[str] = ()) -> list[str]:
+def words_of_serve(
+    active: int,
+    control: int,
+    preview: int | None,
+    workers: int,
+    count: int | None,
+    instead_of_workers: Sequence[str] = (),
+) -> list[str]:
     """The words of a `serve`; without a count it serves for ever."""
-    return ["serve", "--active", str(active), "--control", str(control),
-            *(instead_of_workers or ("--workers", str(workers))),
-            *([] if preview is None else ["--preview", str(preview)]),
-            *(["--forever"] if count is None else ["--count", str(count)])]
+    return [
+        "serve",
+        "--active",
+        str(active),
+        "--control",
+        str(control),
+        *(instead_of_workers or ("--workers", str(workers))),
+        *([] if preview is None else ["--preview", str(preview)]),
+        *(["--forever"] if count is None else ["--count", str(count)]),
+    ]
 
 
 class EndedSwitch(NamedTuple):
     """What a switch has printed since it listened, and its status."""
+
     printed: str
     status: int
 
@@ -46,32 +61,67 @@ class EndedSwitch(NamedTuple):
 class Switch:
     """A running `serve`, whose connections are counted, and whose standard error is kept.
 
-    With a `count` each worker takes exactly so many connections, and `end` takes all that the checks have left over;
-    without one it serves for ever. It may have so many descriptors, `prepare` is called in its process before it
-    starts, and it has these flags beside its other words, and these variables of the environment beside those of the script.
+    With a `count` each worker takes exactly so many connections, and `end` takes all that the
+    checks have left over; without one it serves for ever. It may have so many descriptors,
+    `prepare` is called in its process before it starts, and it has these flags beside its other
+    words, and these variables of the environment beside those of the script.
     """
 
-    def __init__(self, rollout: str = ROLLOUT, *, workers: int = 1, count: int | None = None, preview: bool = True,
-                 timeout: int | str | None = None, descriptors: int | tuple[int, int] = USUAL_DESCRIPTORS,
-                 instead_of_workers: Sequence[str] = (), flags: Sequence[str] = (), prepare: Callable[[], object] = lambda: None,
-                 variables: Mapping[str, str] | None = None) -> None:
+    def __init__(
+        self,
+        rollout: str = ROLLOUT,
+        *,
+        workers: int = 1,
+        count: int | None = None,
+        preview: bool = True,
+        timeout: int | str | None = None,
+        descriptors: int | tuple[int, int] = USUAL_DESCRIPTORS,
+        instead_of_workers: Sequence[str] = (),
+        flags: Sequence[str] = (),
+        prepare: Callable[[], object] = lambda: None,
+        variables: Mapping[str, str] | None = None,
+    ) -> None:
         self.active, self.preview, self.control = free_ports(3)
-        self.left = {self.active: workers * (count or 0), self.preview: count or 0 if preview else 0}
+        self.left = {
+            self.active: workers * (count or 0),
+            self.preview: count or 0 if preview else 0,
+        }
         self.lock = threading.Lock()
-        words = [PROGRAM, *words_of_serve(self.active, self.control, self.preview if preview else None, workers, count,
-                                          instead_of_workers), *flags]
-        environment = {name: value for name, value in os.environ.items() if name != TIMEOUT_VARIABLE}
+        words = [
+            PROGRAM,
+            *words_of_serve(
+                self.active,
+                self.control,
+                self.preview if preview else None,
+                workers,
+                count,
+                instead_of_workers,
+            ),
+            *flags,
+        ]
+        environment = {
+            name: value for name, value in os.environ.items() if name != TIMEOUT_VARIABLE
+        }
         environment.update(variables or {})
         if timeout is not None:
             environment[TIMEOUT_VARIABLE] = str(timeout)
 
         def before() -> None:
-            soft, hard = descriptors if isinstance(descriptors, tuple) else (descriptors, descriptors)
+            soft, hard = (
+                descriptors if isinstance(descriptors, tuple) else (descriptors, descriptors)
+            )
             processes.limit_descriptors(soft, hard)
             prepare()
 
-        self.process = subprocess.Popen(words, stdin=subprocess.PIPE, stdout=subprocess.PIPE, stderr=subprocess.PIPE,
-                                        text=True, env=environment, preexec_fn=before)
+        self.process = subprocess.Popen(
+            words,
+            stdin=subprocess.PIPE,
+            stdout=subprocess.PIPE,
+            stderr=subprocess.PIPE,
+            text=True,
+            env=environment,
+            preexec_fn=before,
+        )
         processes.limit(self.process)
         self.told: list[str] = []
         self.teller = threading.Thread(target=self.keep_standard_error, daemon=True)
@@ -91,7 +141,8 @@ class Switch:
         return self.process.stdout.readline()
 
     def tells(self, *words: str) -> bool:
-        """Whether a line that has each of these words comes on standard error, at a time that comes soon."""
+        """Whether a line that has each of these words comes on standard error, at a time that comes
+        soon."""
         return comes(lambda: self.count_told(*words) > 0)
 
     def count_told(self, *words: str) -> int:
@@ -125,23 +176,32 @@ class Switch:
         return clients.connect(port)
 
     def raw(self, port: int, text: bytes, *later: bytes) -> bytes | None:
-        """What a client is answered that sends these bytes, and others later: see `clients.answer_of`."""
+        """What a client is answered that sends these bytes, and others later: see
+        `clients.answer_of`."""
         self.take(port)
         return clients.asked(port, text, *later)
 
     def timed(self, *pieces: bytes, pause: float = 0.0) -> clients.Timed:
-        """What a client of the active port is answered, and how long that took: see `clients.timed`."""
+        """What a client of the active port is answered, and how long that took: see
+        `clients.timed`."""
         self.take(self.active)
         return clients.timed(self.active, pieces, pause)
 
-    def get(self, port: int, path: str = "/", method: str = "GET", body: clients.Body = None,
-            fields: dict[str, str] | None = None) -> tuple[int, bytes] | None:
+    def get(
+        self,
+        port: int,
+        path: str = "/",
+        method: str = "GET",
+        body: clients.Body = None,
+        fields: dict[str, str] | None = None,
+    ) -> tuple[int, bytes] | None:
         """The status and the body that Python's own client is answered: see `clients.get`."""
         self.take(port)
         return clients.get(port, path, method, body, fields)
 
     def wait(self) -> EndedSwitch:
-        """Waits for the end by itself, for a while; the status is the signal's where it doesn't come."""
+        """Waits for the end by itself, for a while; the status is the signal's where it doesn't
+        come."""
         assert self.process.stdout is not None
         with self.process.stdout:
             printed = self.process.stdout.read()
@@ -157,7 +217,8 @@ class Switch:
         return self.wait()
 
     def check_end(self, name: str, calls: int) -> None:
-        """A check that the program ends by itself, with so many calls after its last report, and status 0."""
+        """A check that the program ends by itself, with so many calls after its last report, and
+        status 0."""
         ended = self.end()
         check(name, (ended.printed.splitlines()[-2:], ended.status), (["end", f"calls {calls}"], 0))
 
@@ -180,12 +241,29 @@ class Switch:
         self.process.stdout.close()
 
 
-def opened(endpoint: int, rollout: str = ROLLOUT, *, workers: int = 1, count: int | None = None, preview: bool = True,
-           timeout: int | str | None = None, descriptors: int = USUAL_DESCRIPTORS, flags: Sequence[str] = (),
-           prepare: Callable[[], object] = lambda: None) -> tuple[Switch, Operator]:
+def opened(
+    endpoint: int,
+    rollout: str = ROLLOUT,
+    *,
+    workers: int = 1,
+    count: int | None = None,
+    preview: bool = True,
+    timeout: int | str | None = None,
+    descriptors: int = USUAL_DESCRIPTORS,
+    flags: Sequence[str] = (),
+    prepare: Callable[[], object] = lambda: None,
+) -> tuple[Switch, Operator]:
     """A switch that listens, whose first revision has this endpoint, and its operator."""
-    switch = Switch(rollout, workers=workers, count=count, preview=preview, timeout=timeout, descriptors=descriptors, flags=flags,
-                    prepare=prepare)
+    switch = Switch(
+        rollout,
+        workers=workers,
+        count=count,
+        preview=preview,
+        timeout=timeout,
+        descriptors=descriptors,
+        flags=flags,
+        prepare=prepare,
+    )
     check("listening", switch.first, LISTENING)
     operator = switch.operator()
     operator.check(f"open one {endpoint}", "ok 0")
@@ -194,10 +272,19 @@ def opened(endpoint: int, rollout: str = ROLLOUT, *, workers: int = 1, count: in
 
 
 @contextlib.contextmanager
-def serving(endpoint: int, rollout: str = ROLLOUT, *, workers: int = 1, timeout: int | str | None = None,
-            descriptors: int = USUAL_DESCRIPTORS, flags: Sequence[str] = ()) -> Iterator[Switch]:
+def serving(
+    endpoint: int,
+    rollout: str = ROLLOUT,
+    *,
+    workers: int = 1,
+    timeout: int | str | None = None,
+    descriptors: int = USUAL_DESCRIPTORS,
+    flags: Sequence[str] = (),
+) -> Iterator[Switch]:
     """The same, for ever, and with no operator: it is ended at the end of the block."""
-    switch, operator = opened(endpoint, rollout, workers=workers, timeout=timeout, descriptors=descriptors, flags=flags)
+    switch, operator = opened(
+        endpoint, rollout, workers=workers, timeout=timeout, descriptors=descriptors, flags=flags
+    )
     operator.close()
     try:
         yield switch
@@ -206,8 +293,9 @@ def serving(endpoint: int, rollout: str = ROLLOUT, *, workers: int = 1, timeout:
 
 
 class LaterEnd:
-    """A client that says nothing, of a switch of its own whose timeout is longer: what has the shorter timeout, and began at the
-    same moment, has ended before this client is, however busy the machine is."""
+    """A client that says nothing, of a switch of its own whose timeout is longer: what has the
+    shorter timeout, and began at the same moment, has ended before this client is, however busy the
+    machine is."""
 
     def __init__(self, timeout: int) -> None:
         self.seconds = 0.0
@@ -225,7 +313,9 @@ class LaterEnd:
 
 
 @contextlib.contextmanager
-def book(*, is_open: bool = True, rollout: str = BY_HAND, variables: Mapping[str, str] | None = None) -> Iterator[Switch]:
+def book(
+    *, is_open: bool = True, rollout: str = BY_HAND, variables: Mapping[str, str] | None = None
+) -> Iterator[Switch]:
     """A switch with these variables of the environment, whose book is open, or isn't."""
     switch = Switch(rollout, workers=2, variables=variables)
     check("listening", switch.first, LISTENING)

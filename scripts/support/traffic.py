@@ -13,6 +13,7 @@ ACCESS_LOG = "BG_SWITCH_ACCESS_LOG"
 
 class AnsweredRequest(NamedTuple):
     """A request, and what it was answered: the revision names itself first in each body."""
+
     target: str
     status: int | None
     revision: str
@@ -38,7 +39,9 @@ class Traffic:
         self.port = port
         self.pause = pause
         self.answered: collections.Counter[str] = collections.Counter()
-        self.errors: collections.Counter[str] = collections.Counter()  # statuses from 500 on that a revision answered
+        self.errors: collections.Counter[
+            str
+        ] = collections.Counter()  # statuses from 500 on that a revision answered
         self.failed = 0
         self.lock = threading.Lock()
         self.ended = threading.Event()
@@ -71,6 +74,7 @@ class Traffic:
 
 
 def prepared_log(path: pathlib.Path) -> dict[str, str]:
-    """The variables by which a switch that is then started has its log in this file, which is there at once."""
+    """The variables by which a switch that is then started has its log in this file, which is there
+    at once."""
     path.touch()
     return {ACCESS_LOG: str(path)}

@@ -18,7 +18,8 @@ def is_root() -> bool:
 
 @contextlib.contextmanager
 def sockets_of(user: int) -> Iterator[None]:
-    """The sockets that this thread makes in the block belong to this user (setfsuid(2)). Other threads aren't affected."""
+    """The sockets that this thread makes in the block belong to this user (setfsuid(2)). Other
+    threads aren't affected."""
     before = SYSTEM.setfsuid(user)
     try:
         yield

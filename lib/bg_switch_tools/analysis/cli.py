@@ -1,4 +1,5 @@
-"""bin/analysis: judges a revision by its requests in the access log of the switch, or by a query of Prometheus."""
+"""bin/analysis: judges a revision by its requests in the access log of the switch, or by a query of
+Prometheus."""
 import argparse
 import contextlib
 from collections.abc import Sequence
@@ -10,7 +11,12 @@ from bg_switch_tools.analysis.measurements import Limits
 from bg_switch_tools.analysis.verdicts import NOT_JUDGED, NotJudged, tell
 from bg_switch_tools.switch.access_log import Follower
 from bg_switch_tools.switch.arguments import count_of, port_of, share_of
-from bg_switch_tools.switch.durations import duration_of, milliseconds_of, positive_duration_of, value_of
+from bg_switch_tools.switch.durations import (
+    duration_of,
+    milliseconds_of,
+    positive_duration_of,
+    value_of,
+)
 from bg_switch_tools.switch.installed_names import named
 
 USAGE = """bin/analysis --log FILE [--revision NAME] --seconds N [options]
@@ -37,7 +43,15 @@ words are wrong.
 """
 INTERRUPTED = 130
 OF_LOG = ("errors_at_most", "p99_at_most", "requests_at_least", "by_endpoint", "silence_allowed")
-OF_PROMETHEUS = ("query", "at_most", "at_least", "count", "inconclusive", "query_errors", "initial_delay")
+OF_PROMETHEUS = (
+    "query",
+    "at_most",
+    "at_least",
+    "count",
+    "inconclusive",
+    "query_errors",
+    "initial_delay",
+)
 
 
 class WrongWords(Exception):
@@ -51,18 +65,51 @@ class Judging(argparse.ArgumentParser):
         raise WrongWords(message)
 
 
-def parser(kind: type[argparse.ArgumentParser] = argparse.ArgumentParser) -> argparse.ArgumentParser:
-    made = kind(prog="analysis", usage=named(USAGE), description=ABOUT, epilog=END, formatter_class=argparse.RawDescriptionHelpFormatter)
+def parser(
+    kind: type[argparse.ArgumentParser] = argparse.ArgumentParser,
+) -> argparse.ArgumentParser:
+    made = kind(
+        prog="analysis",
+        usage=named(USAGE),
+        description=ABOUT,
+        epilog=END,
+        formatter_class=argparse.RawDescriptionHelpFormatter,
+    )
     source = made.add_mutually_exclusive_group(required=True)
-    source.add_argument("--log", metavar="FILE", help="the access log of the switch, BG_SWITCH_ACCESS_LOG")
-    source.add_argument("--prometheus", metavar="URL", help="a Prometheus server, such as http://127.0.0.1:9090")
-    made.add_argument("--revision", default="", metavar="NAME", help="the name of the revision, or its number")
-    made.add_argument("--control", type=port_of, metavar="PORT",
-                      help="the control port: the switch tells the number of a name, and which revisions the services select")
-    made.add_argument("--seconds", type=positive_duration_of, metavar="N", help="how long the limits have to hold")
-    made.add_argument("--every", "--interval", type=positive_duration_of, default=5.0, metavar="N",
-                      help="the seconds between two measurements (5)")
-    made.add_argument("--failures", "--failure-limit", type=count_of, default=0, metavar="N", help="how many measurements may fail (0)")
+    source.add_argument(
+        "--log", metavar="FILE", help="the access log of the switch, BG_SWITCH_ACCESS_LOG"
+    )
+    source.add_argument(
+        "--prometheus", metavar="URL", help="a Prometheus server, such as http://127.0.0.1:9090"
+    )
+    made.add_argument(
+        "--revision", default="", metavar="NAME", help="the name of the revision, or its number"
+    )
+    made.add_argument(
+        "--control",
+        type=port_of,
+        metavar="PORT",
+        help="the control port: the switch tells the number of a name, and which revisions the services select",
+    )
+    made.add_argument(
+        "--seconds", type=positive_duration_of, metavar="N", help="how long the limits have to hold"
+    )
+    made.add_argument(
+        "--every",
+        "--interval",
+        type=positive_duration_of,
+        default=5.0,
+        metavar="N",
+        help="the seconds between two measurements (5)",
+    )
+    made.add_argument(
+        "--failures",
+        "--failure-limit",
+        type=count_of,
+        default=0,
+        metavar="N",
+        help="how many measurements may fail (0)",
+    )
     add_log_options(made.add_argument_group("by the access log"))
     add_prometheus_options(made.add_argument_group("by Prometheus"))
     return made
@@ -70,29 +117,81 @@ def parser(kind: type[argparse.ArgumentParser] = argparse.ArgumentParser) -> arg
 
 def add_log_options(group: "argparse._ArgumentGroup") -> None:
     group.add_argument("--errors-at-most", type=share_of, metavar="1%", help="the share of errors")
-    group.add_argument("--p99-at-most", type=milliseconds_of, metavar="300ms", help="the 99th percentile of the duration")
-    group.add_argument("--requests-at-least", type=count_of, metavar="N", help="what a measurement needs (1)")
-    group.add_argument("--by-endpoint", action="store_true",
-                       help="durations are those of the endpoint, without the time that clients take")
-    group.add_argument("--silence-allowed", action="store_true", help="a measurement without a request has not failed")
+    group.add_argument(
+        "--p99-at-most",
+        type=milliseconds_of,
+        metavar="300ms",
+        help="the 99th percentile of the duration",
+    )
+    group.add_argument(
+        "--requests-at-least", type=count_of, metavar="N", help="what a measurement needs (1)"
+    )
+    group.add_argument(
+        "--by-endpoint",
+        action="store_true",
+        help="durations are those of the endpoint, without the time that clients take",
+    )
+    group.add_argument(
+        "--silence-allowed",
+        action="store_true",
+        help="a measurement without a request has not failed",
+    )
 
 
 def add_prometheus_options(group: "argparse._ArgumentGroup") -> None:
-    group.add_argument("--query", metavar="QUERY", help="in PromQL; {{args.revision}} and {{args.revision-number}} are replaced")
-    group.add_argument("--at-most", type=value_of, metavar="X", help="each value of the result is this at most, such as 0.01 or 1%%")
-    group.add_argument("--at-least", type=value_of, metavar="X", help="each value of the result is this at least")
-    group.add_argument("--count", type=count_of, metavar="N", help="the number of measurements, in place of --seconds")
-    group.add_argument("--inconclusive", "--inconclusive-limit", type=count_of, metavar="N",
-                       help="how many measurements may be inconclusive (0)")
-    group.add_argument("--query-errors", "--consecutive-error-limit", type=count_of, metavar="N",
-                       help="how many queries in a row may have no answer (4)")
-    group.add_argument("--initial-delay", type=duration_of, metavar="N", help="the seconds before the first measurement (0)")
+    group.add_argument(
+        "--query",
+        metavar="QUERY",
+        help="in PromQL; {{args.revision}} and {{args.revision-number}} are replaced",
+    )
+    group.add_argument(
+        "--at-most",
+        type=value_of,
+        metavar="X",
+        help="each value of the result is this at most, such as 0.01 or 1%%",
+    )
+    group.add_argument(
+        "--at-least", type=value_of, metavar="X", help="each value of the result is this at least"
+    )
+    group.add_argument(
+        "--count",
+        type=count_of,
+        metavar="N",
+        help="the number of measurements, in place of --seconds",
+    )
+    group.add_argument(
+        "--inconclusive",
+        "--inconclusive-limit",
+        type=count_of,
+        metavar="N",
+        help="how many measurements may be inconclusive (0)",
+    )
+    group.add_argument(
+        "--query-errors",
+        "--consecutive-error-limit",
+        type=count_of,
+        metavar="N",
+        help="how many queries in a row may have no answer (4)",
+    )
+    group.add_argument(
+        "--initial-delay",
+        type=duration_of,
+        metavar="N",
+        help="the seconds before the first measurement (0)",
+    )
 
 
 def judge_by_log(given: argparse.Namespace) -> int:
     subject = subject_of(given.revision, given.control)
     requests = 1 if given.requests_at_least is None else given.requests_at_least
-    limits = Limits(given.errors_at_most, given.p99_at_most, requests, given.failures, given.by_endpoint, given.silence_allowed)
+    limits = Limits(
+        given.errors_at_most,
+        given.p99_at_most,
+        requests,
+        given.failures,
+        given.by_endpoint,
+        given.silence_allowed,
+    )
     with contextlib.closing(Follower(given.log)) as follower:
         if follower.fault:
             raise NotJudged(f"the log {given.log}: {follower.fault}")
@@ -101,7 +200,11 @@ def judge_by_log(given: argparse.Namespace) -> int:
 
 def fault_of(given: argparse.Namespace) -> str:
     """What is wrong with words that are each right; empty where nothing is."""
-    foreign = [name for name in (OF_PROMETHEUS if given.log is not None else OF_LOG) if getattr(given, name) not in (None, False)]
+    foreign = [
+        name
+        for name in (OF_PROMETHEUS if given.log is not None else OF_LOG)
+        if getattr(given, name) not in (None, False)
+    ]
     if foreign:
         option = "--prometheus" if given.log is not None else "--log"
         return f"--{foreign[0].replace('_', '-')} belongs to {option}"
@@ -110,7 +213,10 @@ def fault_of(given: argparse.Namespace) -> str:
             return "--seconds is needed"
         has_limit = given.errors_at_most is not None or given.p99_at_most is not None
         return "" if has_limit else "a limit is needed: --errors-at-most, --p99-at-most or both"
-    from bg_switch_tools.analysis import prometheus_options  # here, since HTTP would make each start of the other tools slower
+    from bg_switch_tools.analysis import (
+        prometheus_options,
+    )  # here, since HTTP would make each start of the other tools slower
+
     return prometheus_options.fault_of(given)
 
 
@@ -126,6 +232,7 @@ def judge(given: argparse.Namespace) -> int:
     if given.log is not None:
         return judge_by_log(given)
     from bg_switch_tools.analysis import prometheus_options
+
     return prometheus_options.judge(given)
 
 

@@ -10,12 +10,16 @@ from bg_switch_tools.switch.reports import NoReport, Report, read_report
 
 FIRST_WAIT = 10.0  # seconds for the switch to answer at the begin
 WAIT = 1.0  # seconds for it to answer later
-NAME, NUMBER, CONTROL = "BG_REVISION", "BG_REVISION_NUMBER", "BG_CONTROL"  # variables of the controller
+NAME, NUMBER, CONTROL = (
+    "BG_REVISION",
+    "BG_REVISION_NUMBER",
+    "BG_CONTROL",
+)  # variables of the controller
 
 
 class JudgedRevision:
-    """A revision. With a control port, its number is that of its name in the book that is open: a switch that was started again
-    gives numbers anew. `name` is empty where it is not known."""
+    """A revision. With a control port, its number is that of its name in the book that is open: a
+    switch that was started again gives numbers anew. `name` is empty where it is not known."""
 
     def __init__(self, name: str, number: int, control: int | None = None) -> None:
         self.name = name
@@ -27,8 +31,8 @@ class JudgedRevision:
         return f"revision {self.number} {self.name}".rstrip()
 
     def asked(self) -> Report | None:
-        """A report that has the revision; None where the switch gives no answer, or no book is open. `NotJudged` where the
-        book that is open has it no more."""
+        """A report that has the revision; None where the switch gives no answer, or no book is
+        open. `NotJudged` where the book that is open has it no more."""
         if self.control is None:
             return None
         try:
@@ -40,16 +44,19 @@ class JudgedRevision:
         return report
 
     def take(self, report: Report) -> None:
-        """Takes the number that the revision has in a report. `NotJudged` where the report has it not."""
+        """Takes the number that the revision has in a report. `NotJudged` where the report has it
+        not."""
         found = report.named(self.name) if self.name else report.revisions.get(self.number)
         if found is None:
             raise NotJudged(f"the switch has no revision {self.name or self.number}")
         self.name, self.number = found.name, found.number
 
 
-def subject_of(told: str, control: int | None, variables: Mapping[str, str] = os.environ) -> JudgedRevision:
-    """The revision that was told by its name or number, or else the one that the controller tells by variables. `NotJudged`
-    where its number can't be known."""
+def subject_of(
+    told: str, control: int | None, variables: Mapping[str, str] = os.environ
+) -> JudgedRevision:
+    """The revision that was told by its name or number, or else the one that the controller tells
+    by variables. `NotJudged` where its number can't be known."""
     name, number = variables.get(NAME, ""), variables.get(NUMBER, "")
     if told in ("", name) and number.isdigit():
         return JudgedRevision(name, int(number), control or control_of(variables))
@@ -59,12 +66,17 @@ def subject_of(told: str, control: int | None, variables: Mapping[str, str] = os
     if control is None:
         if is_number:
             return JudgedRevision("", int(told))
-        raise NotJudged(f"the number of {told} is not known: --control tells the port to ask, or --revision the number")
-    return asked_subject(JudgedRevision("" if is_number else told, int(told) if is_number else 0, control), control)
+        raise NotJudged(
+            f"the number of {told} is not known: --control tells the port to ask, or --revision the number"
+        )
+    return asked_subject(
+        JudgedRevision("" if is_number else told, int(told) if is_number else 0, control), control
+    )
 
 
 def control_of(variables: Mapping[str, str]) -> int | None:
-    """The control port that the controller tells; None where it tells none. `NotJudged` where it tells no port."""
+    """The control port that the controller tells; None where it tells none. `NotJudged` where it
+    tells no port."""
     told = variables.get(CONTROL, "")
     try:
         return port_of(told) if told else None
@@ -73,7 +85,8 @@ def control_of(variables: Mapping[str, str]) -> int | None:
 
 
 def asked_subject(subject: JudgedRevision, control: int) -> JudgedRevision:
-    """A revision with the number and name that the switch tells. `NotJudged` where it tells none."""
+    """A revision with the number and name that the switch tells. `NotJudged` where it tells
+    none."""
     told = subject.name or subject.number
     try:
         report = read_report(ask(control, b"report", FIRST_WAIT))

@@ -4,7 +4,12 @@ from collections.abc import Sequence
 
 from bg_switch_tools.analysis.judged_revision import JudgedRevision
 from bg_switch_tools.analysis.measurements import Analyser, Limits, Measurement
-from bg_switch_tools.analysis.revision_requests import ByNeighbours, ByReports, Services, services_of
+from bg_switch_tools.analysis.revision_requests import (
+    ByNeighbours,
+    ByReports,
+    Services,
+    services_of,
+)
 from bg_switch_tools.analysis.verdicts import FAILED, HELD, SUCCESSFUL, NotJudged, failed_text, tell
 from bg_switch_tools.switch.access_log import Follower, LogEntry
 from bg_switch_tools.switch.reports import Report
@@ -35,20 +40,28 @@ class Requests:
         batch = self.follower.read()
         self.lost += batch.lost
         if batch.lost or batch.unreadable:
-            tell(f"analysis of {self.subject.title}: {batch.lost} lines were lost by the switch, {batch.unreadable} can't be read")
+            tell(
+                f"analysis of {self.subject.title}: {batch.lost} lines were lost by the switch, {batch.unreadable} can't be read"
+            )
         found = self.selections.take(batch.entries, self.subject.number)
         return [*found, *self.ask()] if time.monotonic() >= self.asked_at + REPORT else found
 
     def ask(self) -> Sequence[LogEntry]:
-        """Asks the switch which services select the revision. Gives requests without an endpoint that are the revision's by its
-        answer; where it gives none, by the answer before. `NotJudged` where the revision is gone."""
+        """Asks the switch which services select the revision. Gives requests without an endpoint
+        that are the revision's by its answer; where it gives none, by the answer before.
+        `NotJudged` where the revision is gone.
+        """
         if not isinstance(self.selections, ByReports):
             return ()
         number, self.asked_at = self.subject.number, time.monotonic()
         report = self.subject.asked()
         if self.subject.number != number:
-            tell(f"analysis of {self.subject.title}: the switch was started again, and it had the number {number} before")
-        return self.selections.take_services(self._services(report) if report else self.selections.services)
+            tell(
+                f"analysis of {self.subject.title}: the switch was started again, and it had the number {number} before"
+            )
+        return self.selections.take_services(
+            self._services(report) if report else self.selections.services
+        )
 
     def take_lost(self) -> int:
         """How many lines the switch could not write since this was asked last."""
@@ -66,18 +79,22 @@ class LogAnalysis:
         self.analyser = Analyser(limits)
 
     def look(self, deadline: float) -> None:
-        """Takes in what has come into the log, up to a time: a log can grow faster than it is read."""
+        """Takes in what has come into the log, up to a time: a log can grow faster than it is
+        read."""
         while True:
             self.analyser.take(self.requests.read())
             if not self.follower.has_more or time.monotonic() >= deadline:
                 return
 
     def look_at_the_rest(self) -> None:
-        """Takes in what stands in the log at the end. `NotJudged` where it can't be read, or grows faster than it is read."""
+        """Takes in what stands in the log at the end. `NotJudged` where it can't be read, or grows
+        faster than it is read."""
         deadline = time.monotonic() + CATCH_UP
         while True:
             self.look(deadline)
-            fault = self.follower.fault or ("it grows faster than it is read" if self.follower.has_more else "")
+            fault = self.follower.fault or (
+                "it grows faster than it is read" if self.follower.has_more else ""
+            )
             if not fault:
                 return
             if time.monotonic() >= deadline:
@@ -89,9 +106,13 @@ class LogAnalysis:
 
     def tell_measurement(self, seconds: float, measurement: Measurement | None) -> None:
         if measurement is None:
-            self.tell(f"{seconds:g} s: {len(self.analyser.unjudged)} requests are too few, and wait")
+            self.tell(
+                f"{seconds:g} s: {len(self.analyser.unjudged)} requests are too few, and wait"
+            )
             return
-        self.tell(f"{seconds:g} s: {measurement.text()}: {'; '.join(measurement.problems) or 'the limits hold'}")
+        self.tell(
+            f"{seconds:g} s: {measurement.text()}: {'; '.join(measurement.problems) or 'the limits hold'}"
+        )
 
     def until(self, deadline: float) -> None:
         """Takes in what comes up to a time."""
@@ -100,7 +121,8 @@ class LogAnalysis:
             self.look(deadline)
 
     def end_window(self, is_whole: bool) -> Measurement | None:
-        """The measurement of a window. One that is short, or whose log can't be read or lacks lines, is not judged as silent."""
+        """The measurement of a window. One that is short, or whose log can't be read or lacks
+        lines, is not judged as silent."""
         self.analyser.take(self.requests.ask())
         lost = self.requests.take_lost()
         return self.analyser.end_window(is_whole and not lost and not self.follower.fault)
@@ -127,14 +149,20 @@ class LogAnalysis:
         if self.analyser.has_failed:
             return self.tell_failed()
         if not self.analyser.has_judged:
-            raise NotJudged(f"{len(self.analyser.unjudged)} requests came in {seconds:g} seconds, and "
-                            f"{self.analyser.limits.requests} are needed{self.unknown()}")
+            raise NotJudged(
+                f"{len(self.analyser.unjudged)} requests came in {seconds:g} seconds, and "
+                f"{self.analyser.limits.requests} are needed{self.unknown()}"
+            )
         self.tell(f"{HELD}{self.unknown()}")
         return SUCCESSFUL
 
     def unknown(self) -> str:
         count = self.requests.selections.unknown
-        return f"; {count} requests found no endpoint of a revision that only --control tells" if count else ""
+        return (
+            f"; {count} requests found no endpoint of a revision that only --control tells"
+            if count
+            else ""
+        )
 
     def tell_failed(self) -> int:
         self.tell(failed_text(self.analyser.failed, self.analyser.limits.failures))

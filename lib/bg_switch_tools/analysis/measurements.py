@@ -9,25 +9,33 @@ SILENCE = "no request has come"
 
 
 class Limits(NamedTuple):
-    """What is asked of the requests: the share of errors and the 99th percentile of the duration in milliseconds at most, where
-    these are limits; how many requests a measurement needs; and how many measurements may fail."""
+    """What is asked of the requests: the share of errors and the 99th percentile of the duration in
+    milliseconds at most, where these are limits; how many requests a measurement needs; and how
+    many measurements may fail."""
+
     errors: float | None
     p99: float | None
     requests: int
     failures: int
-    by_endpoint: bool = False  # whether durations are those of the endpoint, and not of the whole request
+    by_endpoint: bool = (
+        False  # whether durations are those of the endpoint, and not of the whole request
+    )
     is_silence_allowed: bool = False  # whether a window without a request is no failure
 
 
 class Request(NamedTuple):
-    """What an analysis keeps of a request: many of them can wait. `duration` is None where it has none that is to be judged."""
+    """What an analysis keeps of a request: many of them can wait. `duration` is None where it has
+    none that is to be judged."""
+
     is_error: bool
     duration: float | None
 
 
 def request_of(entry: LogEntry, limits: Limits) -> Request:
     if entry.is_without_endpoint:
-        return Request(True, None)  # a refusal is fast, and says nothing of the revision's durations
+        return Request(
+            True, None
+        )  # a refusal is fast, and says nothing of the revision's durations
     return Request(entry.is_error, entry.upstream_ms if limits.by_endpoint else entry.duration_ms)
 
 
@@ -37,7 +45,9 @@ def quantile(values: Sequence[float], share: float) -> float:
 
 
 class Measurement(NamedTuple):
-    """What requests came to. `p99` is None where none has a duration, `problems` says which limits they exceed."""
+    """What requests came to. `p99` is None where none has a duration, `problems` says which limits
+    they exceed."""
+
     requests: int
     errors: int
     p99: float | None
@@ -51,14 +61,15 @@ class Measurement(NamedTuple):
 
 
 def _p99(requests: Sequence[Request], missing: int = 0) -> float | None:
-    """The 99th percentile of the durations and of so many that are missing, each of which counts as 0; None where no request
-    has a duration."""
+    """The 99th percentile of the durations and of so many that are missing, each of which counts as
+    0; None where no request has a duration."""
     durations = sorted(request.duration for request in requests if request.duration is not None)
     return quantile([0.0] * missing + durations, 0.99) if durations else None
 
 
 def _problems(errors: float, p99: float | None, limits: Limits) -> tuple[str, ...]:
-    """The limits that a share of errors and a 99th percentile exceed; one that is None exceeds none."""
+    """The limits that a share of errors and a 99th percentile exceed; one that is None exceeds
+    none."""
     found = []
     if limits.errors is not None and errors > limits.errors:
         found.append(f"errors are above {limits.errors * 100:g}%")
@@ -77,16 +88,21 @@ def measure(requests: Sequence[Request], limits: Limits) -> Measurement:
 
 
 def measure_few(requests: Sequence[Request], limits: Limits) -> Measurement:
-    """The measurement of requests that are too few and which no others follow. It has only those problems that it would also
-    have if all requests that are missing had been answered at once and without an error."""
-    errors, missing = sum(request.is_error for request in requests), max(limits.requests - len(requests), 0)
+    """The measurement of requests that are too few and which no others follow. It has only those
+    problems that it would also have if all requests that are missing had been answered at once and
+    without an error."""
+    errors, missing = sum(request.is_error for request in requests), max(
+        limits.requests - len(requests), 0
+    )
     problems = _problems(errors / (len(requests) + missing), _p99(requests, missing), limits)
     return Measurement(len(requests), errors, _p99(requests), problems)
 
 
 class Analyser:
-    """Measures requests window by window. Those of a window are judged by themselves; where they are too few, they wait, and are
-    judged together with those of the next window, but never with requests that were judged before."""
+    """Measures requests window by window. Those of a window are judged by themselves; where they
+    are too few, they wait, and are judged together with those of the next window, but never with
+    requests that were judged before.
+    """
 
     def __init__(self, limits: Limits) -> None:
         self.limits = limits
@@ -100,8 +116,10 @@ class Analyser:
         self.came += len(entries)
 
     def end_window(self, can_be_silent: bool = True) -> Measurement | None:
-        """A measurement of what waits, or None where that is too little. A window without a request that follows one with some
-        is a failed measurement; `can_be_silent` is false for a window that says nothing where it has none, such as a short one."""
+        """A measurement of what waits, or None where that is too little. A window without a request
+        that follows one with some is a failed measurement; `can_be_silent` is false for a window
+        that says nothing where it has none, such as a short one.
+        """
         came, self.came = self.came, 0
         if came == 0 and self.has_seen and can_be_silent and not self.limits.is_silence_allowed:
             return self._counted(Measurement(0, 0, None, (SILENCE,)))
@@ -112,9 +130,12 @@ class Analyser:
         return self._counted(measure(unjudged, self.limits))
 
     def end_rest(self) -> Measurement | None:
-        """The failed measurement of what still waits after the last window; None where it has not failed, or where no window was
+        """The failed measurement of what still waits after the last window; None where it has not
+        failed, or where no window was
         measured: requests that are too few in all are not judged."""
-        rest = measure_few(self.unjudged, self.limits) if self.unjudged and self.has_judged else None
+        rest = (
+            measure_few(self.unjudged, self.limits) if self.unjudged and self.has_judged else None
+        )
         return self._counted(rest) if rest and rest.problems else None
 
     def _counted(self, measurement: Measurement) -> Measurement:

@@ -1,4 +1,5 @@
-"""An analysis by a query of Prometheus, as Argo Rollouts makes it (https://argo-rollouts.readthedocs.io/en/stable/features/analysis/)."""
+"""An analysis by a query of Prometheus, as Argo Rollouts makes it
+(https://argo-rollouts.readthedocs.io/en/stable/features/analysis/)."""
 import math
 import re
 import time
@@ -15,8 +16,10 @@ LONGEST_RETRY = 10.0  # seconds until a query without an answer is made again, a
 
 
 class QueryLimits(NamedTuple):
-    """What each value of a result has to be, where these are limits; and how many measurements there are, how many of them may
-    fail and be inconclusive, and how many queries may have no answer in a row."""
+    """What each value of a result has to be, where these are limits; and how many measurements
+    there are, how many of them may fail and be inconclusive, and how many queries may have no
+    answer in a row."""
+
     at_most: float | None
     at_least: float | None
     measurements: int
@@ -26,8 +29,9 @@ class QueryLimits(NamedTuple):
 
 
 class Result(NamedTuple):
-    """What the values of a query came to: `problems` says which limits they exceed; `is_inconclusive` whether there is no value,
-    or one that is not a number."""
+    """What the values of a query came to: `problems` says which limits they exceed;
+    `is_inconclusive` whether there is no value, or one that is not a number."""
+
     values: Sequence[float]
     problems: tuple[str, ...]
     is_inconclusive: bool
@@ -37,7 +41,11 @@ class Result(NamedTuple):
         return f"{shown}, .." if len(self.values) > 3 else shown
 
     def outcome(self) -> str:
-        return "it is inconclusive" if self.is_inconclusive else "; ".join(self.problems) or "the limits hold"
+        return (
+            "it is inconclusive"
+            if self.is_inconclusive
+            else "; ".join(self.problems) or "the limits hold"
+        )
 
 
 def judged(values: Sequence[float], condition: QueryLimits) -> Result:
@@ -53,8 +61,8 @@ def judged(values: Sequence[float], condition: QueryLimits) -> Result:
 
 
 def filled(query: str, subject: JudgedRevision | None) -> str:
-    """A query whose `{{args.revision}}` and `{{args.revision-number}}` are those of a revision. `NotJudged` where it has another
-    argument, or one that is not known."""
+    """A query whose `{{args.revision}}` and `{{args.revision-number}}` are those of a revision.
+    `NotJudged` where it has another argument, or one that is not known."""
     known = {"revision": subject.name, "revision-number": str(subject.number)} if subject else {}
 
     def value(found: re.Match[str]) -> str:
@@ -62,6 +70,7 @@ def filled(query: str, subject: JudgedRevision | None) -> str:
         if not NAME.fullmatch(told):
             raise NotJudged(f"the query's argument {found[1]} is not known")
         return told
+
     return ARGUMENT.sub(value, query)
 
 
@@ -79,15 +88,17 @@ class PrometheusAnalysis:
         tell(f"analysis of {self.title}: {text}")
 
     def measure(self, seconds: float) -> None:
-        """A measurement. `NotJudged` where one too many is inconclusive, or too many in a row have no answer."""
+        """A measurement. `NotJudged` where one too many is inconclusive, or too many in a row have
+        no answer."""
         try:
             result = judged(query_values(self.server, self.query), self.condition)
         except NoAnswer as reason:
             self.errors += 1
             self.tell(f"{seconds:.0f} s: no measurement: {reason}")
             if self.errors > self.condition.errors:
-                raise NotJudged(f"{self.errors} queries in a row had no answer, and the limit is {self.condition.errors}") \
-                    from None
+                raise NotJudged(
+                    f"{self.errors} queries in a row had no answer, and the limit is {self.condition.errors}"
+                ) from None
             return
         self.errors = 0
         self.measured += 1
@@ -95,11 +106,13 @@ class PrometheusAnalysis:
         self.inconclusive += result.is_inconclusive
         self.tell(f"{seconds:.0f} s: {result.text()}: {result.outcome()}")
         if self.inconclusive > self.condition.inconclusive:
-            raise NotJudged(f"{self.inconclusive} measurements are inconclusive, and the limit is {self.condition.inconclusive}")
+            raise NotJudged(
+                f"{self.inconclusive} measurements are inconclusive, and the limit is {self.condition.inconclusive}"
+            )
 
     def judge(self, interval: float, delay: float) -> int:
-        """Measures at once, or after a delay, and then again after each interval, up to the last measurement or the failure that
-        is one too many. Gives the exit status."""
+        """Measures at once, or after a delay, and then again after each interval, up to the last
+        measurement or the failure that is one too many. Gives the exit status."""
         begun = time.monotonic()
         time.sleep(delay)
         while True:

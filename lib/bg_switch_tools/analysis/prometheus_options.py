@@ -1,10 +1,16 @@
-"""The options of bin/analysis for a query of Prometheus: what is wrong with them, and the analysis that they ask for."""
+"""The options of bin/analysis for a query of Prometheus: what is wrong with them, and the analysis
+that they ask for."""
 import argparse
 import math
 import os
 
 from bg_switch_tools.analysis.judged_revision import NAME, subject_of
-from bg_switch_tools.analysis.prometheus_analysis import ARGUMENT, PrometheusAnalysis, QueryLimits, filled
+from bg_switch_tools.analysis.prometheus_analysis import (
+    ARGUMENT,
+    PrometheusAnalysis,
+    QueryLimits,
+    filled,
+)
 from bg_switch_tools.analysis.prometheus_query import server_of
 
 CONSECUTIVE_ERRORS = 4  # queries in a row without an answer, as in Argo Rollouts
@@ -30,8 +36,18 @@ def judge(given: argparse.Namespace) -> int:
     needs_revision = ARGUMENT.search(given.query) or given.revision or os.environ.get(NAME)
     subject = subject_of(given.revision, given.control) if needs_revision else None
     count = math.ceil(round(given.seconds / given.every, 6)) if given.count is None else given.count
-    condition = QueryLimits(given.at_most, given.at_least, count, given.failures, given.inconclusive or 0,
-                          CONSECUTIVE_ERRORS if given.query_errors is None else given.query_errors)
-    analysis = PrometheusAnalysis(server_of(given.prometheus), filled(given.query, subject), subject.title if subject else "a query",
-                                  condition)
+    condition = QueryLimits(
+        given.at_most,
+        given.at_least,
+        count,
+        given.failures,
+        given.inconclusive or 0,
+        CONSECUTIVE_ERRORS if given.query_errors is None else given.query_errors,
+    )
+    analysis = PrometheusAnalysis(
+        server_of(given.prometheus),
+        filled(given.query, subject),
+        subject.title if subject else "a query",
+        condition,
+    )
     return analysis.judge(given.every, given.initial_delay or 0.0)

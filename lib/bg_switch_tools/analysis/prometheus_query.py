@@ -1,4 +1,5 @@
-"""Instant queries of a Prometheus server (https://prometheus.io/docs/prometheus/latest/querying/api/#instant-queries)."""
+"""Instant queries of a Prometheus server
+(https://prometheus.io/docs/prometheus/latest/querying/api/#instant-queries)."""
 import contextlib
 import http.client
 import json
@@ -22,6 +23,7 @@ class NoAnswer(Exception):
 
 class Server(NamedTuple):
     """Where a Prometheus server answers: `path` stands before that of the API, and may be empty."""
+
     scheme: str
     host: str
     port: int | None
@@ -31,7 +33,13 @@ class Server(NamedTuple):
 def server_of(url: str) -> Server:
     """The server at a URL such as `http://127.0.0.1:9090`. `ValueError` where it is none."""
     parts = urllib.parse.urlsplit(url)
-    if parts.scheme not in CONNECTIONS or not parts.hostname or parts.username is not None or parts.query or parts.fragment:
+    if (
+        parts.scheme not in CONNECTIONS
+        or not parts.hostname
+        or parts.username is not None
+        or parts.query
+        or parts.fragment
+    ):
         raise ValueError(f"a URL is expected, such as http://127.0.0.1:9090, and not {url!r}")
     if not url.isascii() or not url.isprintable() or " " in url:
         raise ValueError(f"{url!r} has characters that a URL does not have")
@@ -40,16 +48,19 @@ def server_of(url: str) -> Server:
 
 @contextlib.contextmanager
 def _cut_after(connection: http.client.HTTPConnection, wait: float) -> Iterator[threading.Event]:
-    """Connects, and cuts the connection after so many seconds, also where its peer sends a byte now and then. The event says
-    whether it was cut."""
+    """Connects, and cuts the connection after so many seconds, also where its peer sends a byte now
+    and then. The event says whether it was cut."""
     was_cut = threading.Event()
     connection.connect()
-    connected: socket.socket = connection.sock  # which the connection gives away with the head of an answer
+    connected: socket.socket = (
+        connection.sock
+    )  # which the connection gives away with the head of an answer
 
     def cut() -> None:
         was_cut.set()
         with contextlib.suppress(OSError):
             connected.shutdown(socket.SHUT_RDWR)
+
     timer = threading.Timer(wait, cut)
     timer.daemon = True
     timer.start()
@@ -62,8 +73,14 @@ def _cut_after(connection: http.client.HTTPConnection, wait: float) -> Iterator[
 def _answer(server: Server, query: str, wait: float) -> tuple[int, bytes]:
     """The status and the body of the answer to a query. `NoAnswer` where none comes."""
     body = urllib.parse.urlencode({"query": query, "timeout": f"{wait:g}s"})
-    headers = {"Content-Type": "application/x-www-form-urlencoded", "Accept": "application/json", "Connection": "close"}
-    with contextlib.closing(CONNECTIONS[server.scheme](server.host, server.port, timeout=wait)) as connection:
+    headers = {
+        "Content-Type": "application/x-www-form-urlencoded",
+        "Accept": "application/json",
+        "Connection": "close",
+    }
+    with contextlib.closing(
+        CONNECTIONS[server.scheme](server.host, server.port, timeout=wait)
+    ) as connection:
         try:
             with _cut_after(connection, wait) as was_cut:
                 connection.request("POST", server.path + PATH, body, headers)
@@ -80,8 +97,10 @@ def _answer(server: Server, query: str, wait: float) -> tuple[int, bytes]:
 
 
 def query_values(server: Server, query: str, wait: float = WAIT) -> list[float]:
-    """The values of an instant query: those of a vector, or the one of a scalar; they can be infinite or not a number. None
-    where the result is empty. `NoAnswer` where the server gives no result within so many seconds."""
+    """The values of an instant query: those of a vector, or the one of a scalar; they can be
+    infinite or not a number. None where the result is empty. `NoAnswer` where the server gives no
+    result within so many seconds.
+    """
     status, body = _answer(server, query, wait)
     try:
         told = json.loads(body)
@@ -95,11 +114,15 @@ def query_values(server: Server, query: str, wait: float = WAIT) -> list[float]:
 
 def _values(data: object) -> list[float]:
     """The values of the member `data`."""
-    kind, result = (data.get("resultType"), data.get("result")) if isinstance(data, dict) else (None, None)
+    kind, result = (
+        (data.get("resultType"), data.get("result")) if isinstance(data, dict) else (None, None)
+    )
     if kind == "scalar":
         return [_value(result)]
     if kind != "vector" or not isinstance(result, list):
-        raise NoAnswer(f"the result is neither a vector nor a scalar, but {str(kind)[:LONGEST_REASON]}")
+        raise NoAnswer(
+            f"the result is neither a vector nor a scalar, but {str(kind)[:LONGEST_REASON]}"
+        )
     if len(result) > MOST_VALUES:
         raise NoAnswer(f"the result has more than {MOST_VALUES} values")
     return [_value(each.get("value") if isinstance(each, dict) else None) for each in result]

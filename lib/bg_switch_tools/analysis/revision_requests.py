@@ -1,8 +1,9 @@
 """Which requests of an access log are those of a revision.
 
-A request that entered names its revision. One that was refused since no endpoint of the selected revision was available names
-none: it counts for the revision that its service selected then. Reports of the switch tell which one that was; without them, the
-requests before it do.
+A request that entered names its revision. One that was refused since no endpoint of the selected
+revision was available names
+none: it counts for the revision that its service selected then. Reports of the switch tell which
+one that was; without them, the requests before it do.
 """
 from collections.abc import Collection, Sequence
 
@@ -21,20 +22,23 @@ def services_of(report: Report | None, number: int) -> Services:
 
 
 class ByReports:
-    """A request without an endpoint counts where its service selects the revision both in the report before it and in the one
-    after it. So one that came about when the service moved counts for no revision."""
+    """A request without an endpoint counts where its service selects the revision both in the
+    report before it and in the one after it. So one that came about when the service moved counts
+    for no revision."""
 
     def __init__(self, services: Services) -> None:
         self.services = services
         self.held: list[LogEntry] = []  # since the last report
 
     def take(self, entries: Sequence[LogEntry], number: int) -> list[LogEntry]:
-        """Those of these entries that are the revision's. Some are given later, by `take_services`."""
+        """Those of these entries that are the revision's. Some are given later, by
+        `take_services`."""
         self.held += [entry for entry in entries if entry.is_without_endpoint]
         return [entry for entry in entries if entry.revision == number]
 
     def take_services(self, services: Services) -> list[LogEntry]:
-        """Takes in which services select the revision now. Gives the entries before this that are the revision's."""
+        """Takes in which services select the revision now. Gives the entries before this that are
+        the revision's."""
         both, held = self.services & services, self.held
         self.services, self.held = services, []
         return [entry for entry in held if entry.service in both]
@@ -46,16 +50,21 @@ class ByReports:
 
 
 class ByNeighbours:
-    """A request without an endpoint counts for the revision of its service's last request that entered before it; before the
-    first one, for the revision of that one. Of two requests the one that began later tells: a long one can end after the service
-    has moved."""
+    """A request without an endpoint counts for the revision of its service's last request that
+    entered before it; before the first one, for the revision of that one. Of two requests the one
+    that began later tells: a long one can end after the service has moved."""
 
     def __init__(self) -> None:
-        self.latest: dict[str, tuple[float, int]] = {}  # by the service: when its latest request began, and its revision
-        self.held: dict[str, list[LogEntry]] = {service: [] for service in CLIENT_SERVICES}  # before the first request
+        self.latest: dict[
+            str, tuple[float, int]
+        ] = {}  # by the service: when its latest request began, and its revision
+        self.held: dict[str, list[LogEntry]] = {
+            service: [] for service in CLIENT_SERVICES
+        }  # before the first request
 
     def take(self, entries: Sequence[LogEntry], number: int) -> list[LogEntry]:
-        """Those of these entries that are the revision's, and those held before which turn out to be."""
+        """Those of these entries that are the revision's, and those held before which turn out to
+        be."""
         found: list[LogEntry] = []
         for entry in entries:
             if entry.revision is not None:
@@ -78,7 +87,9 @@ class ByNeighbours:
         known = self.latest.get(entry.service)
         if known is None:
             held = self.held[entry.service]
-            held.append(held[0] if held else entry)  # the first one stands for each: all are judged alike, and many can come
+            held.append(
+                held[0] if held else entry
+            )  # the first one stands for each: all are judged alike, and many can come
             return ()
         return (entry,) if known[1] == number else ()
 

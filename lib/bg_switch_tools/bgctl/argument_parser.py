@@ -6,7 +6,14 @@ from typing import NoReturn
 
 from bg_switch_tools import VERSION
 from bg_switch_tools.analysis import cli as analysis_cli
-from bg_switch_tools.bgctl.commands import BGCTL_COMMANDS, END, LINE_WORDS, NAMES, OTHER_WORDS, Command
+from bg_switch_tools.bgctl.commands import (
+    BGCTL_COMMANDS,
+    END,
+    LINE_WORDS,
+    NAMES,
+    OTHER_WORDS,
+    Command,
+)
 from bg_switch_tools.bgctl.completions import conditions, line_words, names_of_revisions
 from bg_switch_tools.bgctl.suggestion import did_you_mean
 from bg_switch_tools.bgctl.target import BEFORE
@@ -21,8 +28,12 @@ OF_TARGET = ("--control", "--plan")  # the options that the parser itself takes 
 
 
 class Parser(argparse.ArgumentParser):
-    """A parser that says of an option that is none which one was probably meant, or which commands have it."""
-    owners: Mapping[str, Sequence[str]] = {}  # by the long options of all commands: the commands that have it
+    """A parser that says of an option that is none which one was probably meant, or which commands
+    have it."""
+
+    owners: Mapping[
+        str, Sequence[str]
+    ] = {}  # by the long options of all commands: the commands that have it
     valued: Collection[str] = OF_TARGET  # the options that take a value
 
     def error(self, message: str) -> NoReturn:
@@ -42,7 +53,8 @@ def long_options(made: argparse.ArgumentParser) -> list[str]:
 
 
 def place_of_command(words: Sequence[str], valued: Collection[str] = OF_TARGET) -> int | None:
-    """The place of the word that is the command, where `valued` are the options that take a value; None where there is none."""
+    """The place of the word that is the command, where `valued` are the options that take a value;
+    None where there is none."""
     waits_for_value = False
     for place, word in enumerate(words):
         if not waits_for_value and not word.startswith("-"):
@@ -52,7 +64,8 @@ def place_of_command(words: Sequence[str], valued: Collection[str] = OF_TARGET) 
 
 
 def in_order(words: Sequence[str], valued: Collection[str]) -> tuple[list[str], int | None]:
-    """The words with each option of the command behind it, also where it stands before it; and the place of the command."""
+    """The words with each option of the command behind it, also where it stands before it; and the
+    place of the command."""
     place = place_of_command(words, valued)
     if place is None:
         return list(words), None
@@ -62,10 +75,16 @@ def in_order(words: Sequence[str], valued: Collection[str]) -> tuple[list[str], 
     waits_for_value = False
     for word in words[:place]:
         if not waits_for_value:
-            to = before if word.partition("=")[0] in OF_TARGET or not word.startswith("--") or word in ("--help", "--version") else moved
+            to = (
+                before
+                if word.partition("=")[0] in OF_TARGET
+                or not word.startswith("--")
+                or word in ("--help", "--version")
+                else moved
+            )
         to.append(word)
         waits_for_value = not waits_for_value and word in valued
-    return [*before, words[place], *moved, *words[place + 1:]], len(before)
+    return [*before, words[place], *moved, *words[place + 1 :]], len(before)
 
 
 def wrong_command(word: str) -> str:
@@ -82,38 +101,69 @@ def endpoint_port(text: str) -> int:
 
 
 class Building:
-    """Builds the parser. `files` is set as `complete` at each argument that is a file, which shtab reads."""
+    """Builds the parser. `files` is set as `complete` at each argument that is a file, which shtab
+    reads."""
 
     def __init__(self, files: object) -> None:
         self.files = files
-        self.parser = Parser(prog="bgctl", description=DESCRIPTION, epilog=named(END), allow_abbrev=False,
-                             formatter_class=argparse.RawDescriptionHelpFormatter)
+        self.parser = Parser(
+            prog="bgctl",
+            description=DESCRIPTION,
+            epilog=named(END),
+            allow_abbrev=False,
+            formatter_class=argparse.RawDescriptionHelpFormatter,
+        )
         self.parser.add_argument("--version", action="version", version=f"bgctl {VERSION}")
         self.add_target(self.parser, BEFORE)
         self.made: dict[str, argparse.ArgumentParser] = {}
-        # as argparse's own class, so that a command can have the options of a parser of another tool
+        # as argparse's own class, so that a command can have the options of a parser of another
+        # tool
         top: argparse.ArgumentParser = self.parser
-        self.commands = top.add_subparsers(dest="command", metavar="COMMAND", required=True, title="commands")
+        self.commands = top.add_subparsers(
+            dest="command", metavar="COMMAND", required=True, title="commands"
+        )
 
     def mark_file(self, action: argparse.Action) -> None:
         if self.files is not None:
             setattr(action, "complete", self.files)
 
     def add_target(self, to: argparse.ArgumentParser, prefix: str) -> None:
-        to.add_argument("--control", dest=f"{prefix}control", type=port_of, metavar="PORT", help="the control port, on 127.0.0.1")
-        self.mark_file(to.add_argument("--plan", dest=f"{prefix}plan", metavar="FILE", help="the plan of the controller"))
+        to.add_argument(
+            "--control",
+            dest=f"{prefix}control",
+            type=port_of,
+            metavar="PORT",
+            help="the control port, on 127.0.0.1",
+        )
+        self.mark_file(
+            to.add_argument(
+                "--plan", dest=f"{prefix}plan", metavar="FILE", help="the plan of the controller"
+            )
+        )
 
     def add(self, command: Command, *parents: argparse.ArgumentParser) -> argparse.ArgumentParser:
-        """The parser of a command; with `parents` it has their options alone, and else those of the target."""
+        """The parser of a command; with `parents` it has their options alone, and else those of the
+        target."""
         meaning = command.meaning[0].upper() + command.meaning[1:] + "."
         made = self.commands.add_parser(
-            command.name, help=command.meaning, description=named(f"{meaning} {command.more}".strip()), parents=parents,
-            epilog=f"example:\n  {command.example}\n\nbgctl --help has the exit statuses.", allow_abbrev=False,
-            add_help=not parents, formatter_class=argparse.RawDescriptionHelpFormatter)
+            command.name,
+            help=command.meaning,
+            description=named(f"{meaning} {command.more}".strip()),
+            parents=parents,
+            epilog=f"example:\n  {command.example}\n\nbgctl --help has the exit statuses.",
+            allow_abbrev=False,
+            add_help=not parents,
+            formatter_class=argparse.RawDescriptionHelpFormatter,
+        )
         if not parents:
             self.add_target(made, "")
-            made.add_argument("--request-timeout", type=seconds_of, default=10.0, metavar="SECONDS",
-                              help="how long the switch may take to answer (10)")
+            made.add_argument(
+                "--request-timeout",
+                type=seconds_of,
+                default=10.0,
+                metavar="SECONDS",
+                help="how long the switch may take to answer (10)",
+            )
         self.made[command.name] = made
         return made
 
@@ -125,7 +175,15 @@ class Building:
                 owners.setdefault(option, []).append(name)
         self.parser.owners = owners
         actions = [action for made in self.made.values() for action in made._actions]
-        self.parser.valued = {*OF_TARGET, *(option for action in actions if action.nargs != 0 for option in action.option_strings)}
+        self.parser.valued = {
+            *OF_TARGET,
+            *(
+                option
+                for action in actions
+                if action.nargs != 0
+                for option in action.option_strings
+            ),
+        }
         return self.parser
 
 
@@ -134,14 +192,33 @@ def _json(to: argparse.ArgumentParser) -> None:
 
 
 def _timeout(to: argparse.ArgumentParser, of: str) -> None:
-    to.add_argument("--timeout", type=seconds_of, default=600.0, metavar="SECONDS", help=f"how long {of} waits (600)")
+    to.add_argument(
+        "--timeout",
+        type=seconds_of,
+        default=600.0,
+        metavar="SECONDS",
+        help=f"how long {of} waits (600)",
+    )
 
 
 def _deploy(to: argparse.ArgumentParser) -> None:
-    to.add_argument("name", metavar="NAME", help="the name of the revision: lower-case letters, digits and hyphens")
-    to.add_argument("ports", metavar="PORT", nargs="+", type=endpoint_port,
-                    help=f"the port of each endpoint, at most {MOST_PORTS}")
-    to.add_argument("--wait", action="store_true", help="waits for the end of the attempt, which gives the exit status")
+    to.add_argument(
+        "name",
+        metavar="NAME",
+        help="the name of the revision: lower-case letters, digits and hyphens",
+    )
+    to.add_argument(
+        "ports",
+        metavar="PORT",
+        nargs="+",
+        type=endpoint_port,
+        help=f"the port of each endpoint, at most {MOST_PORTS}",
+    )
+    to.add_argument(
+        "--wait",
+        action="store_true",
+        help="waits for the end of the attempt, which gives the exit status",
+    )
     _timeout(to, "--wait")
 
 
@@ -151,38 +228,71 @@ def _completed(action: argparse.Action, completer: Callable[..., list[str]]) -> 
 
 
 def _undo(to: argparse.ArgumentParser) -> None:
-    _completed(to.add_argument("--to", metavar="NAME|NUMBER", help="the revision to be taken again"), names_of_revisions)
-    to.add_argument("--ports", metavar="PORT", nargs="+", type=endpoint_port, default=[], help="its ports, if no plan has them")
-    to.add_argument("--wait", action="store_true", help="waits for the end of the attempt, which gives the exit status")
+    _completed(
+        to.add_argument("--to", metavar="NAME|NUMBER", help="the revision to be taken again"),
+        names_of_revisions,
+    )
+    to.add_argument(
+        "--ports",
+        metavar="PORT",
+        nargs="+",
+        type=endpoint_port,
+        default=[],
+        help="its ports, if no plan has them",
+    )
+    to.add_argument(
+        "--wait",
+        action="store_true",
+        help="waits for the end of the attempt, which gives the exit status",
+    )
     _timeout(to, "--wait")
 
 
 def _promote(to: argparse.ArgumentParser) -> None:
-    _completed(to.add_argument("name", metavar="NAME", nargs="?",
-                               help="the revision to be promoted: nothing is sent if another one is the newest"), names_of_revisions)
+    _completed(
+        to.add_argument(
+            "name",
+            metavar="NAME",
+            nargs="?",
+            help="the revision to be promoted: nothing is sent if another one is the newest",
+        ),
+        names_of_revisions,
+    )
     _json(to)
-    to.add_argument("--full", action="store_true", help="skips the analyses and pauses of the attempt")
+    to.add_argument(
+        "--full", action="store_true", help="skips the analyses and pauses of the attempt"
+    )
 
 
 def _wait(to: argparse.ArgumentParser) -> None:
-    _completed(to.add_argument("conditions", metavar="CONDITION", nargs="+", help=CONDITION_SYNTAX), conditions)
+    _completed(
+        to.add_argument("conditions", metavar="CONDITION", nargs="+", help=CONDITION_SYNTAX),
+        conditions,
+    )
     _json(to)
     _timeout(to, "it")
 
 
 def _history(to: argparse.ArgumentParser) -> None:
     _json(to)
-    to.add_argument("--last", type=count_of, default=20, metavar="N", help="how many attempts are shown (20)")
+    to.add_argument(
+        "--last", type=count_of, default=20, metavar="N", help="how many attempts are shown (20)"
+    )
 
 
 def _line(to: argparse.ArgumentParser) -> None:
-    _completed(to.add_argument("words", metavar="WORD", nargs="*", help="the words of the line"), line_words)
+    _completed(
+        to.add_argument("words", metavar="WORD", nargs="*", help="the words of the line"),
+        line_words,
+    )
     _json(to)
     to.add_argument("--yes", action="store_true", help="a `tick` more than a day ahead is sent")
 
 
 def _help(to: argparse.ArgumentParser) -> None:
-    to.add_argument("name", metavar="COMMAND", nargs="?", choices=NAMES, help="the command that is explained")
+    to.add_argument(
+        "name", metavar="COMMAND", nargs="?", choices=NAMES, help="the command that is explained"
+    )
 
 
 def _shutdown(to: argparse.ArgumentParser) -> None:
@@ -190,20 +300,53 @@ def _shutdown(to: argparse.ArgumentParser) -> None:
 
 
 def _dashboard(to: argparse.ArgumentParser) -> None:
-    to.add_argument("--fleet", default="", metavar="FLEET.json", help="the fleet file of a fleet, which has a page too")
-    to.add_argument("--agent-state", default="", metavar="PATH", help="where the agent of this machine keeps its files")
-    to.add_argument("--listen", type=listened_port, required=True, metavar="PORT", help="the port of the page")
-    to.add_argument("--log", default="", metavar="FILE", help="the access log of the switch, BG_SWITCH_ACCESS_LOG")
-    to.add_argument("--read-only", action="store_true", help="the page has no buttons, and no line can be sent through it")
+    to.add_argument(
+        "--fleet",
+        default="",
+        metavar="FLEET.json",
+        help="the fleet file of a fleet, which has a page too",
+    )
+    to.add_argument(
+        "--agent-state",
+        default="",
+        metavar="PATH",
+        help="where the agent of this machine keeps its files",
+    )
+    to.add_argument(
+        "--listen", type=listened_port, required=True, metavar="PORT", help="the port of the page"
+    )
+    to.add_argument(
+        "--log",
+        default="",
+        metavar="FILE",
+        help="the access log of the switch, BG_SWITCH_ACCESS_LOG",
+    )
+    to.add_argument(
+        "--read-only",
+        action="store_true",
+        help="the page has no buttons, and no line can be sent through it",
+    )
 
 
 ARGUMENTS: dict[str, Callable[[argparse.ArgumentParser], None]] = {
-    "status": _json, "deploy": _deploy, "undo": _undo, "promote": _promote, "abort": _json, "retry": _json, "wait": _wait,
-    "history": _history, "line": _line, "shutdown": _shutdown, "dashboard": _dashboard, "help": _help}
+    "status": _json,
+    "deploy": _deploy,
+    "undo": _undo,
+    "promote": _promote,
+    "abort": _json,
+    "retry": _json,
+    "wait": _wait,
+    "history": _history,
+    "line": _line,
+    "shutdown": _shutdown,
+    "dashboard": _dashboard,
+    "help": _help,
+}
 
 
 def parser(files: object = None) -> Parser:
-    """The parser of bgctl. What `files` is, each argument that is a file is marked with for shtab."""
+    """The parser of bgctl. What `files` is, each argument that is a file is marked with for
+    shtab."""
     building = Building(files)
     for command in BGCTL_COMMANDS:
         if command.name == "analysis":
@@ -211,12 +354,25 @@ def parser(files: object = None) -> Parser:
             continue
         made = building.add(command)
         if command.name in ("check", "controller"):
-            building.mark_file(made.add_argument("path", metavar="PLAN", nargs="?", help="the plan, in the place of --plan"))
+            building.mark_file(
+                made.add_argument(
+                    "path", metavar="PLAN", nargs="?", help="the plan, in the place of --plan"
+                )
+            )
         if command.name == "check":
-            building.mark_file(made.add_argument("--rollout", metavar="FILE", help="compares the plan with this Rollout, with which the "
-                                                 "switch is started"))
+            building.mark_file(
+                made.add_argument(
+                    "--rollout",
+                    metavar="FILE",
+                    help="compares the plan with this Rollout, with which the " "switch is started",
+                )
+            )
         if command.name == "controller":
-            made.add_argument("--json", action="store_true", help="writes each line of the log as an object of JSON")
+            made.add_argument(
+                "--json",
+                action="store_true",
+                help="writes each line of the log as an object of JSON",
+            )
         if command.name in ARGUMENTS:
             ARGUMENTS[command.name](made)
     return building.whole()

@@ -51,14 +51,23 @@ class CommandRun:
         return self.session().wait_for(self.given.conditions)
 
     def deploy(self) -> int:
-        return deploy(self.session(), self.target, PlannedRevision(self.given.name, tuple(self.given.ports)), self.given.wait)
+        return deploy(
+            self.session(),
+            self.target,
+            PlannedRevision(self.given.name, tuple(self.given.ports)),
+            self.given.wait,
+        )
 
     def undo(self) -> int:
         return undo(self.session(), self.target, self.given.to, self.given.ports, self.given.wait)
 
     def promote(self) -> int:
         line = "promote full" if self.given.full else "promote"
-        return self.session().line_for(self.given.name, line) if self.given.name else self.session().line(line)
+        return (
+            self.session().line_for(self.given.name, line)
+            if self.given.name
+            else self.session().line(line)
+        )
 
     def abort(self) -> int:
         return self.session().line("abort")
@@ -86,7 +95,11 @@ class CommandRun:
         return self.session().shut_down()
 
     def history(self) -> int:
-        return show(self.target.needed_path("the controller of a plan keeps the history"), self.given.last, self.given.json)
+        return show(
+            self.target.needed_path("the controller of a plan keeps the history"),
+            self.given.last,
+            self.given.json,
+        )
 
     def pause(self) -> int:
         path = self.target.needed_path(PAUSED_BY_PLAN)
@@ -101,15 +114,20 @@ class CommandRun:
         return DONE
 
     def check(self) -> int:
-        from bg_switch_tools.controller import cli as controller_cli  # here, since few commands need it and its HTTP
+        from bg_switch_tools.controller import (
+            cli as controller_cli,
+        )  # here, since few commands need it and its HTTP
+
         return controller_cli.check(self.plan_path("a plan is judged"), self.given.rollout)
 
     def controller(self) -> int:
         from bg_switch_tools.controller import cli as controller_cli
+
         return controller_cli.run(self.plan_path("a controller runs a plan"), self.given.json)
 
     def plan_path(self, why: str) -> str:
-        """The plan that stands after the command, or else that of the target. `Unusable` where its file can't be read."""
+        """The plan that stands after the command, or else that of the target. `Unusable` where its
+        file can't be read."""
         return readable(self.given.path) if self.given.path else self.target.needed_path(why)
 
     def analysis(self) -> int:
@@ -117,11 +135,19 @@ class CommandRun:
         return analysis_cli.main([*self.words, *(["--control", str(port)] if port else [])])
 
     def dashboard(self) -> int:
-        words = [str(self.target.port()), "--listen", str(self.given.listen), "--log", self.given.log]
+        words = [
+            str(self.target.port()),
+            "--listen",
+            str(self.given.listen),
+            "--log",
+            self.given.log,
+        ]
         fleet = ["--fleet", self.given.fleet] if self.given.fleet else []
         fleet += ["--agent-state", self.given.agent_state] if self.given.agent_state else []
         plan = ["--plan", self.target.path] if self.target.path else []
-        return dashboard_cli.main([*words, *fleet, *plan, *(["--read-only"] if self.given.read_only else [])])
+        return dashboard_cli.main(
+            [*words, *fleet, *plan, *(["--read-only"] if self.given.read_only else [])]
+        )
 
     def help(self) -> int:
         parser().parse_args([*([self.given.name] if self.given.name else []), "--help"])
@@ -147,7 +173,8 @@ def judge(made: argparse.ArgumentParser, given: argparse.Namespace) -> None:
 
 
 def complete() -> int:
-    """Answers a shell that asks for completions by argcomplete's protocol. Gives the exit status."""
+    """Answers a shell that asks for completions by argcomplete's protocol. Gives the exit
+    status."""
     try:
         importlib.import_module("argcomplete").autocomplete(parser())
     except ImportError:
@@ -189,4 +216,4 @@ def main(words: Sequence[str]) -> int:
     judge(made, given)
     if hasattr(sys.stdout, "reconfigure"):
         sys.stdout.reconfigure(errors="replace")
-    return guarded(CommandRun(given, [] if place is None else words[place + 1:]).run)
+    return guarded(CommandRun(given, [] if place is None else words[place + 1 :]).run)

@@ -1,4 +1,5 @@
-"""Deploys a revision: by an edit of the plan, which its controller then deploys, or by the line `deploy` without a plan."""
+"""Deploys a revision: by an edit of the plan, which its controller then deploys, or by the line
+`deploy` without a plan."""
 import contextlib
 import os
 from collections.abc import Sequence
@@ -35,7 +36,9 @@ def tell_pause(path: str) -> None:
     except OSError:
         return
     if paused:
-        tell(f"the controller is {paused.text()}: it sends no deploy and no verdict until bgctl resume")
+        tell(
+            f"the controller is {paused.text()}: it sends no deploy and no verdict until bgctl resume"
+        )
 
 
 def _edit(path: str, revision: PlannedRevision) -> int:
@@ -51,7 +54,9 @@ def _edit(path: str, revision: PlannedRevision) -> int:
         tell(f"{path} can't be written: {error.strerror}")
         return REFUSED
     for overtaken in (each for each in author.overtaken() if each.by == revision.name):
-        tell(f"{overtaken.name}, which {overtaken.who} had named last, was not deployed yet, and is overtaken")
+        tell(
+            f"{overtaken.name}, which {overtaken.who} had named last, was not deployed yet, and is overtaken"
+        )
     tell_missing_commands(path)
     tell_pause(path)
     tell_absence(path)
@@ -59,17 +64,22 @@ def _edit(path: str, revision: PlannedRevision) -> int:
 
 
 def tell_missing_commands(path: str) -> None:
-    """Tells which commands of a plan are not there: its controller could not start the endpoints, or judge the revision."""
+    """Tells which commands of a plan are not there: its controller could not start the endpoints,
+    or judge the revision."""
     with contextlib.suppress(WrongPlan):  # somebody else has just edited it
-        for problem in missing_commands(read_whole_plan(path), os.path.dirname(os.path.abspath(path))):
+        for problem in missing_commands(
+            read_whole_plan(path), os.path.dirname(os.path.abspath(path))
+        ):
             tell(f"{path}: {problem}")
 
 
 def deploy(session: Session, target: Target, revision: PlannedRevision, waits: bool) -> int:
-    """Deploys a revision, and waits for the end of its attempt where that is needed. Gives the exit status.
+    """Deploys a revision, and waits for the end of its attempt where that is needed. Gives the exit
+    status.
 
-    A plan that was deployed already and names the revision last is not deployed again by its controller: somebody has undone
-    it, or it is live. Then the line `deploy` is sent, which the switch judges.
+    A plan that was deployed already and names the revision last is not deployed again by its
+    controller: somebody has undone it, or it is live. Then the line `deploy` is sent, which the
+    switch judges.
     """
     status = DONE
     if target.path is None:
@@ -77,7 +87,9 @@ def deploy(session: Session, target: Target, revision: PlannedRevision, waits: b
     else:
         was_last = (plan := target.plan()) is not None and plan.last == revision
         is_over = was_last and AnnouncedDeploy(target.path).look().name is None
-        status = _edit(target.path, revision) or (session.line(f"deploy {revision.words}") if is_over else DONE)
+        status = _edit(target.path, revision) or (
+            session.line(f"deploy {revision.words}") if is_over else DONE
+        )
     return session.wait_for([f"stable={revision.name}"]) if waits and status == DONE else status
 
 
@@ -89,14 +101,18 @@ def _attempts(target: Target) -> list[Attempt]:
         return []
 
 
-def undo(session: Session, target: Target, to: str | None, ports: Sequence[int], waits: bool) -> int:
-    """Deploys the revision that was stable before the newest one, or the one of this name or number. Gives the exit status.
-    `Unusable` where it or its ports are not known."""
+def undo(
+    session: Session, target: Target, to: str | None, ports: Sequence[int], waits: bool
+) -> int:
+    """Deploys the revision that was stable before the newest one, or the one of this name or
+    number. Gives the exit status. `Unusable` where it or its ports are not known."""
     report = session.report()
     if report is None:
         raise Unusable("no book is open, so there is nothing to undo")
     kept = kept_revisions(target.path) if target.path else {}
-    revision = revision_to_undo_to(KnownRevisions(report, _attempts(target), target.plan(), kept), to, ports)
+    revision = revision_to_undo_to(
+        KnownRevisions(report, _attempts(target), target.plan(), kept), to, ports
+    )
     if revision.name != report.newest.name:
         tell(f"takes {revision.name} again, in the place of {report.newest.name}")
     return deploy(session, target, revision, waits)

@@ -22,7 +22,9 @@ def duration(seconds: float) -> str:
 
 def _by(attempt: Attempt) -> str:
     """By whom, and how it began where that was no deploy."""
-    return attempt.by if attempt.began in (DEPLOYED, UNDEPLOYED) else f"{attempt.by} ({attempt.began})"
+    return (
+        attempt.by if attempt.began in (DEPLOYED, UNDEPLOYED) else f"{attempt.by} ({attempt.began})"
+    )
 
 
 def _live_for(attempt: Attempt, now: str) -> str:
@@ -37,25 +39,44 @@ def _cells(attempt: Attempt, now: str) -> tuple[str, ...]:
     how = attempt.how or ("runs" if attempt.begun else "")
     if attempt.began == UNDEPLOYED:
         return (attempt.begun, f"- {attempt.name}", _by(attempt), f"not deployed: {how}", "-")
-    return (attempt.begun or "before", f"{attempt.number} {attempt.name}", _by(attempt), how, _live_for(attempt, now))
+    return (
+        attempt.begun or "before",
+        f"{attempt.number} {attempt.name}",
+        _by(attempt),
+        how,
+        _live_for(attempt, now),
+    )
 
 
 def as_json(attempt: Attempt, now: str) -> dict[str, object]:
     """An attempt as an object of JSON; what is not known, or has not come yet, is null."""
-    return {"begun": attempt.begun or None, "began": attempt.began if attempt.began in (*BEGINNINGS, UNDEPLOYED) else None,
-            "name": attempt.name, "number": attempt.number or None, "ports": list(attempt.ports), "by": attempt.by or None, "how": attempt.how or None,
-            "ended": attempt.ended or None, "live_seconds": attempt.live_seconds(now), "is_live": bool(attempt.live_since)}
+    return {
+        "begun": attempt.begun or None,
+        "began": attempt.began if attempt.began in (*BEGINNINGS, UNDEPLOYED) else None,
+        "name": attempt.name,
+        "number": attempt.number or None,
+        "ports": list(attempt.ports),
+        "by": attempt.by or None,
+        "how": attempt.how or None,
+        "ended": attempt.ended or None,
+        "live_seconds": attempt.live_seconds(now),
+        "is_live": bool(attempt.live_since),
+    }
 
 
 def table(attempts: list[Attempt], now: str) -> list[str]:
     """The lines of a table with a row for each attempt."""
     lines_of_cells = [TITLES, *(_cells(attempt, now) for attempt in attempts)]
     widths = [max(len(cells[column]) for cells in lines_of_cells) for column in range(len(TITLES))]
-    return ["  ".join(cell.ljust(width) for cell, width in zip(cells, widths)).rstrip() for cells in lines_of_cells]
+    return [
+        "  ".join(cell.ljust(width) for cell, width in zip(cells, widths)).rstrip()
+        for cells in lines_of_cells
+    ]
 
 
 def show(plan_path: str, last: int, is_json: bool) -> int:
-    """Prints the latest attempts, `last` of them at most, the oldest first. Gives the exit status."""
+    """Prints the latest attempts, `last` of them at most, the oldest first. Gives the exit
+    status."""
     file, now = HistoryFile(plan_path), local_time()
     try:
         attempts, unreadable = file.read()

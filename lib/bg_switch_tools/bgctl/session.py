@@ -16,7 +16,8 @@ def tell(text: str) -> None:
 
 
 class Session(Operator):
-    """An operator at the control port of a run. What is told beside the replies begins with `bgctl`."""
+    """An operator at the control port of a run. What is told beside the replies begins with
+    `bgctl`."""
 
     def __init__(self, target: Target, given: argparse.Namespace) -> None:
         """`Unusable` where the control port is not known."""

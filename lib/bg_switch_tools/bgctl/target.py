@@ -8,7 +8,10 @@ from bg_switch_tools.controller.plan_file import read_whole_plan
 from bg_switch_tools.controller.plan_reader import WrongPlan
 from bg_switch_tools.switch.arguments import port_of
 
-CONTROL, PLAN = "BG_CONTROL", "BG_PLAN"  # variables of the environment; one that is empty counts as not set
+CONTROL, PLAN = (
+    "BG_CONTROL",
+    "BG_PLAN",
+)  # variables of the environment; one that is empty counts as not set
 
 BEFORE = "before_"  # begins the names of the options that stand before the command
 
@@ -18,7 +21,8 @@ class Unusable(Exception):
 
 
 def _option(given: argparse.Namespace, name: str) -> Any:
-    """The value of an option after the command, or else of the one before it; None where it stands at neither place."""
+    """The value of an option after the command, or else of the one before it; None where it stands
+    at neither place."""
     told = getattr(given, name, None)
     return getattr(given, BEFORE + name, None) if told is None else told
 
@@ -33,14 +37,16 @@ def readable(path: str) -> str:
 
 
 class Target:
-    """The plan and the control port: each by its option, or else by its variable. A port that neither names is the plan's."""
+    """The plan and the control port: each by its option, or else by its variable. A port that
+    neither names is the plan's."""
 
     def __init__(self, given: argparse.Namespace) -> None:
         self.given_port: int | None = _option(given, "control")
         self.path: str | None = _option(given, "plan") or os.environ.get(PLAN) or None
 
     def needed_path(self, why: str) -> str:
-        """The path of the plan, whose file can be read. `Unusable` where none is named (then `why` says what it is for)."""
+        """The path of the plan, whose file can be read. `Unusable` where none is named (then `why`
+        says what it is for)."""
         if self.path is None:
             raise Unusable(f"{why}: --plan FILE or the variable {PLAN} names the plan")
         return readable(self.path)
@@ -55,8 +61,11 @@ class Target:
             raise Unusable(f"{self.path} is not a plan: {wrong}") from None
 
     def known_port(self) -> int | None:
-        """The control port; None where nothing names it. `Unusable` where what names it is wrong."""
-        plan = self.plan()  # a plan that is named and wrong is told, also where its port is not needed
+        """The control port; None where nothing names it. `Unusable` where what names it is
+        wrong."""
+        plan = (
+            self.plan()
+        )  # a plan that is named and wrong is told, also where its port is not needed
         if self.given_port is not None:
             return self.given_port
         if told := os.environ.get(CONTROL):
@@ -70,6 +79,8 @@ class Target:
         """The control port. `Unusable` where nothing names it."""
         port = self.known_port()
         if port is None:
-            raise Unusable(f"the control port is not known: --control PORT names it, or the variable {CONTROL}, or a plan "
-                           f"(--plan FILE, {PLAN})")
+            raise Unusable(
+                f"the control port is not known: --control PORT names it, or the variable {CONTROL}, or a plan "
+                f"(--plan FILE, {PLAN})"
+            )
         return port

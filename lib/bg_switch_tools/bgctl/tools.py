@@ -1,4 +1,5 @@
-"""The tools by their names: bin/NAME, the one file that `make tools` makes, and the commands of an installed package start them."""
+"""The tools by their names: bin/NAME, the one file that `make tools` makes, and the commands of an
+installed package start them."""
 import contextlib
 import importlib
 import io
@@ -10,8 +11,8 @@ TOOLS = ("bgctl", "operator", "controller", "analysis", "dashboard", "fleet")  #
 
 
 def prepare_streams() -> None:
-    """Opens each standard stream that was closed, so that no file or socket takes its place. A path that is not UTF-8 can be
-    printed."""
+    """Opens each standard stream that was closed, so that no file or socket takes its place. A path
+    that is not UTF-8 can be printed."""
     while (opened := os.open(os.devnull, os.O_RDWR)) <= 2:
         pass
     os.close(opened)
@@ -23,7 +24,8 @@ def prepare_streams() -> None:
 
 
 def finish_streams() -> None:
-    """Writes what is left of the output. Where nobody takes it, it is dropped: the exit status still tells the result."""
+    """Writes what is left of the output. Where nobody takes it, it is dropped: the exit status
+    still tells the result."""
     for stream in (sys.stdout, sys.stderr):
         try:
             stream.flush()
@@ -45,7 +47,10 @@ def main(words: Sequence[str]) -> int:
     """Runs the tool that the first word names. Gives the exit status."""
     if not words or words[0] not in TOOLS:
         prepare_streams()
-        print("name a tool first: bgctl, operator, controller, analysis, dashboard or fleet; its own words follow", file=sys.stderr)
+        print(
+            "name a tool first: bgctl, operator, controller, analysis, dashboard or fleet; its own words follow",
+            file=sys.stderr,
+        )
         return 2
     return run(words[0], words[1:])
 

@@ -7,12 +7,17 @@ from bg_switch_tools.controller.plan import PlannedRevision
 from bg_switch_tools.controller.process_groups import Group, ProcessId
 from bg_switch_tools.switch.reports import Revision
 
-ANALYSIS_OF_PHASE = {"preAnalysis": "pre", "postAnalysis": "post"}  # by the phase: the analysis that it waits for
+ANALYSIS_OF_PHASE = {
+    "preAnalysis": "pre",
+    "postAnalysis": "post",
+}  # by the phase: the analysis that it waits for
 VERDICTS = {0: "successful", 1: "failed"}  # by the exit status; any other is an error
 
 
 class AnalysisCommand(NamedTuple):
-    """A command that judges a revision: its words, the folder in which it runs, and the seconds that it has."""
+    """A command that judges a revision: its words, the folder in which it runs, and the seconds
+    that it has."""
+
     words: tuple[str, ...]
     folder: str
     seconds: float
@@ -21,8 +26,16 @@ class AnalysisCommand(NamedTuple):
 class Analysis:
     """A command that runs for the analysis `name` of the revision of this number."""
 
-    def __init__(self, name: str, number: int, revision: PlannedRevision, command: AnalysisCommand, control: int) -> None:
-        """Begins it, for the switch at this control port. `fault` says why it can't be run, where it can't."""
+    def __init__(
+        self,
+        name: str,
+        number: int,
+        revision: PlannedRevision,
+        command: AnalysisCommand,
+        control: int,
+    ) -> None:
+        """Begins it, for the switch at this control port. `fault` says why it can't be run, where
+        it can't."""
         self.name = name
         self.number = number
         self.revision = revision
@@ -32,8 +45,12 @@ class Analysis:
         self.fault = ""
         self.is_fault_told = False
         self.group: Group | None = None
-        told = {"BG_REVISION": revision.name, "BG_REVISION_NUMBER": str(number), "BG_PORTS": " ".join(map(str, revision.ports)),
-                "BG_CONTROL": str(control)}
+        told = {
+            "BG_REVISION": revision.name,
+            "BG_REVISION_NUMBER": str(number),
+            "BG_PORTS": " ".join(map(str, revision.ports)),
+            "BG_CONTROL": str(control),
+        }
         try:
             self.group = Group(command.words, command.folder, told)
         except (OSError, ValueError) as error:
@@ -49,10 +66,15 @@ class Analysis:
 
     def is_for(self, name: str | None, revision: Revision) -> bool:
         """Whether it judges this revision in the analysis of this name."""
-        return (self.name, self.number, self.revision.name) == (name, revision.number, revision.name)
+        return (self.name, self.number, self.revision.name) == (
+            name,
+            revision.number,
+            revision.name,
+        )
 
     def verdict(self) -> str | None:
-        """`successful`, `failed` or `error` once it has ended, and None while it runs. `fault` says why it is an error."""
+        """`successful`, `failed` or `error` once it has ended, and None while it runs. `fault` says
+        why it is an error."""
         if self.group is None:
             return "error"
         status = self.group.status()
@@ -66,8 +88,8 @@ class Analysis:
         return VERDICTS.get(status, "error")
 
     def stop(self, grace: float) -> threading.Thread | None:
-        """Ends the command and what it has started, where the command still runs: SIGTERM, and `grace` seconds later SIGKILL.
-        The thread, where there is one, ends with them."""
+        """Ends the command and what it has started, where the command still runs: SIGTERM, and
+        `grace` seconds later SIGKILL. The thread, where there is one, ends with them."""
         if self.group is None:
             return None
         if self.group.status() is None:

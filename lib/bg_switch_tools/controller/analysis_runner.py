@@ -18,9 +18,12 @@ LAST_GRACE = 0.5  # the same where the controller ends
 
 
 class AnalysisRunner:
-    """The analysis that runs. At most one does, also where a controller before this one was killed and has left one behind."""
+    """The analysis that runs. At most one does, also where a controller before this one was killed
+    and has left one behind."""
 
-    def __init__(self, folder: str, log: Log, once: OncePerRevision, memory: Memory, probes: Probes) -> None:
+    def __init__(
+        self, folder: str, log: Log, once: OncePerRevision, memory: Memory, probes: Probes
+    ) -> None:
         self.folder = folder
         self.log = log
         self.once = once
@@ -29,12 +32,18 @@ class AnalysisRunner:
         self.analysis: Analysis | None = None
         self.ending: threading.Thread | None = None  # of the analysis before
         if left := memory.state.analysis:
-            self.log.say("analysis", f"the analysis that the controller before has left behind, process {left.pid}, is stopped")
+            self.log.say(
+                "analysis",
+                f"the analysis that the controller before has left behind, process {left.pid}, is stopped",
+            )
             self.ending = begin_end(left, GRACE)
 
-    def judge(self, book: Book, connection: Connection, plan: Plan, report: Report, source: LineSource) -> None:
-        """Runs the analysis that the phase asks for. A verdict is handed in on the connection whose report shows that the
-        phase and the revision are those of the analysis, once the source of lines allows it."""
+    def judge(
+        self, book: Book, connection: Connection, plan: Plan, report: Report, source: LineSource
+    ) -> None:
+        """Runs the analysis that the phase asks for. A verdict is handed in on the connection whose
+        report shows that the phase and the revision are those of the analysis, once the source of
+        lines allows it."""
         self._note_end()
         name, newest = ANALYSIS_OF_PHASE.get(report.phase), report.newest
         if self.analysis and not self.analysis.is_for(name, newest):
@@ -48,17 +57,26 @@ class AnalysisRunner:
             if source.may_hand_in(report, name, verdict, self.analysis.fault):
                 self._hand_in(book, connection, plan, verdict, newest)
 
-    def _hand_in(self, book: Book, connection: Connection, plan: Plan, verdict: str, newest: Revision) -> None:
-        """Hands a verdict in. `successful` waits until an endpoint of the revision is up: what is down was not judged."""
+    def _hand_in(
+        self, book: Book, connection: Connection, plan: Plan, verdict: str, newest: Revision
+    ) -> None:
+        """Hands a verdict in. `successful` waits until an endpoint of the revision is up: what is
+        down was not judged."""
         if self.analysis is None:
             return
         if self.analysis.fault and not self.analysis.is_fault_told:
             self.analysis.is_fault_told = True
             self.log.say("analysis", f"{self.analysis.title()}: {self.analysis.fault}")
         planned = self.memory.known(plan, newest.name)
-        if verdict == "successful" and not (planned and newest.available and self.probes.count_up(planned.ports)):
-            self.once.say("held", newest, f"gets no verdict {self.analysis.name} successful while none of its endpoints is up",
-                          "analysis")
+        if verdict == "successful" and not (
+            planned and newest.available and self.probes.count_up(planned.ports)
+        ):
+            self.once.say(
+                "held",
+                newest,
+                f"gets no verdict {self.analysis.name} successful while none of its endpoints is up",
+                "analysis",
+            )
             return
         if was_carried_out(book.send(connection, f"verdict {self.analysis.name} {verdict}")):
             self.end("")
@@ -75,7 +93,9 @@ class AnalysisRunner:
             return
         planned, command = self.memory.known(plan, newest.name), plan.analyses.commands.get(name)
         if planned is None or command is None:
-            self.once.say(name, newest, f"waits for verdict {name} by hand: the plan has no command for it")
+            self.once.say(
+                name, newest, f"waits for verdict {name} by hand: the plan has no command for it"
+            )
             return
         told = AnalysisCommand(command, self.folder, plan.analyses.seconds)
         self.analysis = Analysis(name, newest.number, planned, told, plan.control)
@@ -83,7 +103,8 @@ class AnalysisRunner:
         self.log.say("analysis", f"{self.analysis.title()} begins")
 
     def take_plan(self, plan: Plan) -> None:
-        """Goes on by another plan: another command begins anew, and another limit holds from the begin of the analysis."""
+        """Goes on by another plan: another command begins anew, and another limit holds from the
+        begin of the analysis."""
         if self.analysis is None:
             return
         if plan.analyses.commands.get(self.analysis.name) != self.analysis.command:

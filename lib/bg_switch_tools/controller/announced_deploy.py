@@ -1,4 +1,5 @@
-"""Which deploy a plan has announced and its controller has not carried out yet, and what the controller holds back."""
+"""Which deploy a plan has announced and its controller has not carried out yet, and what the
+controller holds back."""
 from collections.abc import Collection
 from typing import NamedTuple
 
@@ -11,9 +12,11 @@ from bg_switch_tools.controller.state_file import HeldBack, NoState, State, Stat
 
 
 class Announcement(NamedTuple):
-    """The name of the revision whose deploy is announced; None where none is. `refusal` says why it is held back, `absence` why no
-    controller deploys it, and `trouble` why it is not deployed yet; empty where nothing prevents it. `overtaken` says that another
-    edit has overtaken a deploy that is awaited."""
+    """The name of the revision whose deploy is announced; None where none is. `refusal` says why it
+    is held back, `absence` why no controller deploys it, and `trouble` why it is not deployed yet;
+    empty where nothing prevents it. `overtaken` says that another edit has overtaken a deploy that
+    is awaited."""
+
     name: str | None = None
     refusal: str = ""
     absence: str = ""
@@ -25,29 +28,35 @@ class AnnouncedDeploy:
     """Looks at a plan and at the state file that its controller keeps beside it."""
 
     def __init__(self, path: str, awaited: Collection[str] = ()) -> None:
-        """`awaited` are the names of the revisions whose deploy is awaited. `WrongPlan` where the file is not a plan."""
+        """`awaited` are the names of the revisions whose deploy is awaited. `WrongPlan` where the
+        file is not a plan."""
         self.file = PlanFile(path)
         self.plan: Plan = self.file.first()
         self.state = StateFile(path)
         self.author = Author(path)
         self.path = path
         self.awaited = awaited
-        self.pending: PlannedRevision | None = None  # what the plan named last, and was not deployed, at the look before
+        self.pending: PlannedRevision | None = (
+            None  # what the plan named last, and was not deployed, at the look before
+        )
         self.overtaken: dict[str, str] = {}  # by the names of what was overtaken: why
 
     def _take_overtaken(self, last: PlannedRevision, deployed: PlannedRevision | None) -> None:
-        """Takes in what an edit has overtaken: by bgctl, which has noted it, or by other means, between two looks."""
+        """Takes in what an edit has overtaken: by bgctl, which has noted it, or by other means,
+        between two looks."""
         before, self.pending = self.pending, None if last == deployed else last
         if last == before:
             return
         self.overtaken |= {each.name: each.text() for each in self.author.overtaken()}
         if before and before != deployed:
-            self.overtaken[before.name] = f"{before.name} was overtaken before its deploy: the plan names {last.name} last"
+            self.overtaken[
+                before.name
+            ] = f"{before.name} was overtaken before its deploy: the plan names {last.name} last"
         self.overtaken.pop(last.name, None)
 
     def look(self) -> Announcement:
-        """The plan's last revision, where it was not deployed for the plan yet. A plan that turns wrong announces what it did
-        before, as the controller continues by the one before."""
+        """The plan's last revision, where it was not deployed for the plan yet. A plan that turns
+        wrong announces what it did before, as the controller continues by the one before."""
         try:
             self.plan = self.file.read() or self.plan
         except WrongPlan:
@@ -58,17 +67,24 @@ class AnnouncedDeploy:
             state = State()
         last = self.plan.last
         self._take_overtaken(last, state.deployed)
-        overtaken = next((self.overtaken[name] for name in self.awaited if name in self.overtaken), "")
+        overtaken = next(
+            (self.overtaken[name] for name in self.awaited if name in self.overtaken), ""
+        )
         if state.deployed == last:
             return Announcement(overtaken=overtaken)
         controller = life_of(self.path)
-        refusal, trouble = (next((each.reason for each in told if each.revision == last), "") for told in (state.held, state.failing))
-        return Announcement(last.name, refusal, controller.text if controller.is_wrong else "", trouble, overtaken)
+        refusal, trouble = (
+            next((each.reason for each in told if each.revision == last), "")
+            for told in (state.held, state.failing)
+        )
+        return Announcement(
+            last.name, refusal, controller.text if controller.is_wrong else "", trouble, overtaken
+        )
 
 
 def held_back(path: str) -> list[HeldBack]:
-    """What the controller of a plan holds back of the revisions that the plan names now, also since the start of its last one fails;
-    none where no state tells it."""
+    """What the controller of a plan holds back of the revisions that the plan names now, also since
+    the start of its last one fails; none where no state tells it."""
     try:
         state = StateFile(path).read()[0]
         plan = PlanFile(path).first()

@@ -1,4 +1,5 @@
-"""What was deployed, and what became of it: the events of a history, and the attempts that they make up."""
+"""What was deployed, and what became of it: the events of a history, and the attempts that they
+make up."""
 import dataclasses
 import datetime
 import json
@@ -10,15 +11,23 @@ ENDED, LIVE, LOST = "ended", "live", "lost"
 UNDEPLOYED = "undeployed"  # the plan named a revision last, and it was not deployed
 BEGINNINGS = (OPENED, DEPLOYED, RETRIED)
 KINDS = (*BEGINNINGS, ENDED, LIVE, LOST, UNDEPLOYED)
-STABLE, ABORTED, UNDONE, REPLACED = "stable", "aborted", "undone", "replaced"  # how one ends, and `lost`
+STABLE, ABORTED, UNDONE, REPLACED = (
+    "stable",
+    "aborted",
+    "undone",
+    "replaced",
+)  # how one ends, and `lost`
 MOST_ATTEMPTS = 10_000  # that are kept, the latest ones
 
 
 @dataclasses.dataclass(frozen=True)
 class Event:
-    """An event of the revision of this name and number. `opened`, `deployed` and `retried` begin an attempt, `by` whom; `ended`
-    tells `how` it ended; from `live` on the active service selects the revision; `lost` says that the switch was started again,
-    and is of no revision; `undeployed` tells `how` a revision, which has no number then, was not deployed."""
+    """An event of the revision of this name and number. `opened`, `deployed` and `retried` begin an
+    attempt, `by` whom; `ended` tells `how` it ended; from `live` on the active service selects the
+    revision; `lost` says that the switch was started again, and is of no revision; `undeployed`
+    tells `how` a revision, which has no number then, was not deployed.
+    """
+
     time: str  # ISO 8601
     event: str
     name: str = ""
@@ -50,12 +59,23 @@ def read_event(line: bytes) -> Event | None:
         told = decoded(line)
     except ValueError:
         return None
-    if not isinstance(told, dict) or told.get("event") not in KINDS or not _is_time(told.get("time")):
+    if (
+        not isinstance(told, dict)
+        or told.get("event") not in KINDS
+        or not _is_time(told.get("time"))
+    ):
         return None
     name, number = told.get("name", ""), told.get("number", 0)
-    if not isinstance(name, str) or type(number) is not int or (told["event"] != LOST and not NAME.fullmatch(name)):
+    if (
+        not isinstance(name, str)
+        or type(number) is not int
+        or (told["event"] != LOST and not NAME.fullmatch(name))
+    ):
         return None
-    by, how = (text if isinstance(text, str) and text.isprintable() else "" for text in (told.get("by"), told.get("how")))
+    by, how = (
+        text if isinstance(text, str) and text.isprintable() else ""
+        for text in (told.get("by"), told.get("how"))
+    )
     return Event(told["time"], told["event"], name, number, by, how, _ports(told.get("ports")))
 
 
@@ -67,8 +87,9 @@ def seconds_between(begin: str, end: str) -> float:
 
 @dataclasses.dataclass
 class Attempt:
-    """An attempt. `how` and `ended` are empty while it runs. It was live for `seconds`, and has been since `live_since` where
-    that is not empty."""
+    """An attempt. `how` and `ended` are empty while it runs. It was live for `seconds`, and has
+    been since `live_since` where that is not empty."""
+
     name: str
     number: int
     begun: str = ""
@@ -89,7 +110,8 @@ class Attempt:
 
 
 class Attempts:
-    """The attempts of a history, oldest first. `is_lost` says that the switch was started again, and no report came since."""
+    """The attempts of a history, oldest first. `is_lost` says that the switch was started again,
+    and no report came since."""
 
     def __init__(self) -> None:
         self.all: list[Attempt] = []
@@ -99,7 +121,9 @@ class Attempts:
     @property
     def newest(self) -> Attempt | None:
         """The latest one that has begun."""
-        return next((attempt for attempt in reversed(self.all) if attempt.began != UNDEPLOYED), None)
+        return next(
+            (attempt for attempt in reversed(self.all) if attempt.began != UNDEPLOYED), None
+        )
 
     def take(self, event: Event) -> None:
         """Takes in the event that comes next."""
@@ -109,9 +133,21 @@ class Attempts:
             return
         if event.event in BEGINNINGS:
             self.is_lost = False
-            self._add(Attempt(event.name, event.number, event.time, event.event, event.by, event.ports))
+            self._add(
+                Attempt(event.name, event.number, event.time, event.event, event.by, event.ports)
+            )
         elif event.event == UNDEPLOYED:
-            self._add(Attempt(event.name, event.number, event.time, event.event, event.by, how=event.how, ended=event.time))
+            self._add(
+                Attempt(
+                    event.name,
+                    event.number,
+                    event.time,
+                    event.event,
+                    event.by,
+                    how=event.how,
+                    ended=event.time,
+                )
+            )
         elif event.event == ENDED:
             attempt = self._latest(event)
             attempt.how, attempt.ended = event.how, event.time
@@ -131,7 +167,8 @@ class Attempts:
         self.live = None
 
     def _latest(self, event: Event) -> Attempt:
-        """The latest attempt of the event's revision. One whose begin is no longer in the file has no begin."""
+        """The latest attempt of the event's revision. One whose begin is no longer in the file has
+        no begin."""
         for attempt in reversed(self.all):
             if attempt.is_of(event.name, event.number):
                 return attempt

@@ -12,13 +12,16 @@ AGAIN = 60  # seconds until a line that is refused again and again goes into the
 
 
 class Book:
-    """Reads reports and sends lines. Each change that a report shows, and each line that is not a tick, goes into the log."""
+    """Reads reports and sends lines. Each change that a report shows, and each line that is not a
+    tick, goes into the log."""
 
     def __init__(self, log: Log) -> None:
         self.log = log
         self.latest: Report | None = None  # the latest report of the book that is open
         self.seen = 0.0  # the time of the latest report
-        self.lost: Report | None = None  # the latest report of the book that was open before, up to the next opening
+        self.lost: Report | None = (
+            None  # the latest report of the book that was open before, up to the next opening
+        )
         self.was_lost = False  # whether the book of an earlier report was found to be gone
         self.has_sent = False  # whether a line was carried out since the latest report
         self.refused: dict[str, float] = {}  # by the line: from when on its refusal is told again
@@ -44,7 +47,9 @@ class Book:
     def _take_in(self, report: Report) -> None:
         self.log.moment = report.moment
         if self.latest is None:
-            selected = ", ".join(f"{service} {report.title(report.selected[service])}" for service in SERVICES)
+            selected = ", ".join(
+                f"{service} {report.title(report.selected[service])}" for service in SERVICES
+            )
             self.log.say("switch", f"a book is open: phase {report.phase}, {selected}")
         for change in changes(self.latest, report) if self.latest else []:
             self.log.say("change", change)
@@ -62,7 +67,8 @@ class Book:
         return self.note(line, connection.answer(line.encode("ascii"))[0])
 
     def note(self, line: str, reply: str) -> str:
-        """Puts the reply to a line into the log: that of a tick only where it is refused, a refusal once a minute."""
+        """Puts the reply to a line into the log: that of a tick only where it is refused, a refusal
+        once a minute."""
         kind, now = "tick" if line.startswith("tick ") else line, time.monotonic()
         if was_carried_out(reply):
             self.has_sent = True

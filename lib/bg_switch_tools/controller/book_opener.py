@@ -25,13 +25,17 @@ class CannotOpen(Exception):
 class BookOpener:
     """What is done while no book is open, and directly after one was opened."""
 
-    def __init__(self, log: Log, memory: Memory, book: Book, availability: Availability, source: LineSource) -> None:
+    def __init__(
+        self, log: Log, memory: Memory, book: Book, availability: Availability, source: LineSource
+    ) -> None:
         self.log = log
         self.memory = memory
         self.book = book
         self.availability = availability
         self.source = source
-        self.sent: PlannedRevision | None = None  # with which an opening was sent whose reply has not come
+        self.sent: PlannedRevision | None = (
+            None  # with which an opening was sent whose reply has not come
+        )
         self.begun = time.monotonic()
         self.waits_since: float | None = None  # from when on an opening has waited for an endpoint
         self.next = 0.0
@@ -62,7 +66,9 @@ class BookOpener:
             self._take_opened(plan, revision)
             return True
         hint = f". {COMPARED}" if reply == "refused BadPorts" else ""
-        self._refuse(f"the switch can't be opened with {revision.name}: open {revision.words} => {with_meaning(reply)}{hint}")
+        self._refuse(
+            f"the switch can't be opened with {revision.name}: open {revision.words} => {with_meaning(reply)}{hint}"
+        )
         return False
 
     def _refuse(self, why: str) -> None:
@@ -86,8 +92,8 @@ class BookOpener:
             print(f"controller: {text}", file=sys.stderr, flush=True)
 
     def _waits_for_endpoints(self, plan: Plan, revision: PlannedRevision) -> bool:
-        """Whether the first probes, or the endpoints that the plan starts, are waited for: clients wait as well, while an open
-        book without an endpoint answers 503."""
+        """Whether the first probes, or the endpoints that the plan starts, are waited for: clients
+        wait as well, while an open book without an endpoint answers 503."""
         now, up = time.monotonic(), self.availability.probes.count_up(revision.ports)
         if up or not plan.commands.start:
             return up is None and self.is_early()
@@ -101,8 +107,11 @@ class BookOpener:
             line = down.words(ports)
             down.take_in(line, ports, connection.answer(line.encode("ascii"))[0])
         up = self.availability.count(plan, revision.ports)
-        lines = [f"open {revision.words}", *([down.words(ports)] if ports and down.is_known and plan.redispatch else []),
-                 *([f"available 1 {up}"] if up else [])]
+        lines = [
+            f"open {revision.words}",
+            *([down.words(ports)] if ports and down.is_known and plan.redispatch else []),
+            *([f"available 1 {up}"] if up else []),
+        ]
         self.sent = revision
         # In one piece: clients that wait for the opening find its endpoints.
         replies = connection.answers([line.encode("ascii") for line in lines])
@@ -124,9 +133,13 @@ class BookOpener:
         self.memory.set_opened(revision)
 
     def check_sizes(self, plan: Plan, report: Report) -> None:
-        """Tells, when the controller starts, that the plan's revisions have not one port for each replica."""
+        """Tells, when the controller starts, that the plan's revisions have not one port for each
+        replica."""
         ports, replicas = len(plan.first.ports), report.stable.desired
         if not self.has_had_book and ports != replicas:
-            self._tell("plan", f"the number of ports of each revision of the plan is {ports}, and the switch needs one for each of "
-                       f"{replicas} replicas. {COMPARED}")
+            self._tell(
+                "plan",
+                f"the number of ports of each revision of the plan is {ports}, and the switch needs one for each of "
+                f"{replicas} replicas. {COMPARED}",
+            )
         self.has_had_book = True

@@ -68,7 +68,10 @@ line of the log means.
 Exit status: 0 after SIGTERM or ctrl-C, and for a plan in which `check` finds nothing wrong; 1 if the plan is wrong when it starts,
 by `check` or after `deploy`, if the switch can't be opened with it, or if another controller runs it; 2 if the words are wrong.
 """
-CONNECT, ANSWER = 1.0, 10.0  # seconds within which a connection is taken, and for the answers of a round
+CONNECT, ANSWER = (
+    1.0,
+    10.0,
+)  # seconds within which a connection is taken, and for the answers of a round
 RETRY = 0.2  # seconds between two tries where the switch gives no answer
 MINUTE = 60.0
 LOOK = 0.05  # seconds between two looks at whether a signal has come
@@ -120,7 +123,11 @@ class Runner:
                 self.connection = connection
                 connection.allow(ANSWER)
                 self._read_again()  # the plan may have changed while the switch was down
-                pause = self.controller.do_round(connection) if connection.port == self.controller.plan.control else 0.0
+                pause = (
+                    self.controller.do_round(connection)
+                    if connection.port == self.controller.plan.control
+                    else 0.0
+                )
             self.silence.end()
             return pause
         except (Unreachable, NoReport) as reason:
@@ -133,7 +140,8 @@ class Runner:
         return RETRY
 
     def stop(self) -> None:
-        """Ends the rounds, within a second or so: a connection that waits is cut, and an analysis that runs is stopped."""
+        """Ends the rounds, within a second or so: a connection that waits is cut, and an analysis
+        that runs is stopped."""
         self.stopping.set()
         if connection := self.connection:
             connection.cut()
@@ -169,7 +177,9 @@ def run(path: str, as_json: bool) -> int:
         tell(str(reason))
         return 1
     except OSError as error:
-        tell(f"the lock file beside {path} cannot be made, so a second controller is not noticed: {error.strerror}")
+        tell(
+            f"the lock file beside {path} cannot be made, so a second controller is not noticed: {error.strerror}"
+        )
         return run_locked(file, plan, as_json, None)
     return run_locked(file, plan, as_json, lock)
 
@@ -180,6 +190,7 @@ def run_locked(file: PlanFile, plan: Plan, as_json: bool, lock: StateLock | None
 
     def note(number: int, _: FrameType | None) -> None:
         signals.append(number)
+
     for number in (signal.SIGTERM, signal.SIGINT):
         signal.signal(number, note)
     runner = Runner(file, plan, Log(sys.stdout, as_json), lock)
@@ -194,8 +205,8 @@ def run_locked(file: PlanFile, plan: Plan, as_json: bool, lock: StateLock | None
 
 
 def check(path: str, rollout: str | None = None) -> int:
-    """Prints what is wrong with a plan, with its commands, and with its revisions by the files beside it; and in what the Rollout of
-    this file does not fit the plan. Gives the exit status."""
+    """Prints what is wrong with a plan, with its commands, and with its revisions by the files
+    beside it; and in what the Rollout of this file does not fit the plan. Gives the exit status."""
     try:
         with open(path, "rb"):
             pass
@@ -210,7 +221,8 @@ def check(path: str, rollout: str | None = None) -> int:
 
 
 def deploy(path: str, name: str, ports: Sequence[str]) -> int:
-    """Makes a revision the last one of a plan, which a controller then deploys. Gives the exit status."""
+    """Makes a revision the last one of a plan, which a controller then deploys. Gives the exit
+    status."""
     try:
         print(deploy_by_plan(path, name, [port_or_none(port) for port in ports]))
     except OtherPorts as wrong:
@@ -231,17 +243,44 @@ def port_or_none(text: str) -> int:
 
 
 def main(words: Sequence[str]) -> int:
-    parser = argparse.ArgumentParser(prog="controller", usage=named(USAGE), description="Runs a rollout by a plan.", epilog=named(ABOUT),
-                                     formatter_class=argparse.RawDescriptionHelpFormatter)
-    parser.add_argument("--json", action="store_true", help="writes each line of the log as an object of JSON")
-    parser.add_argument("words", nargs="+", metavar="[check | deploy] PLAN", help="the file of the plan; `check` judges it without a run, "
-                        "`deploy` makes a revision its last one")
-    parser.add_argument("--rollout", metavar="FILE", help="`check` compares the plan with this Rollout, with which the switch is started")
+    parser = argparse.ArgumentParser(
+        prog="controller",
+        usage=named(USAGE),
+        description="Runs a rollout by a plan.",
+        epilog=named(ABOUT),
+        formatter_class=argparse.RawDescriptionHelpFormatter,
+    )
+    parser.add_argument(
+        "--json", action="store_true", help="writes each line of the log as an object of JSON"
+    )
+    parser.add_argument(
+        "words",
+        nargs="+",
+        metavar="[check | deploy] PLAN",
+        help="the file of the plan; `check` judges it without a run, "
+        "`deploy` makes a revision its last one",
+    )
+    parser.add_argument(
+        "--rollout",
+        metavar="FILE",
+        help="`check` compares the plan with this Rollout, with which the switch is started",
+    )
     given = parser.parse_args(words)
-    if len(given.words) == 1 and given.words[0] not in ("check", "deploy") and given.rollout is None:
+    if (
+        len(given.words) == 1
+        and given.words[0] not in ("check", "deploy")
+        and given.rollout is None
+    ):
         return run(given.words[0], given.json)
     if len(given.words) == 2 and given.words[0] == "check" and not given.json:
         return check(given.words[1], given.rollout)
-    if len(given.words) >= 4 and given.words[0] == "deploy" and not given.json and given.rollout is None:
+    if (
+        len(given.words) >= 4
+        and given.words[0] == "deploy"
+        and not given.json
+        and given.rollout is None
+    ):
         return deploy(given.words[1], given.words[2], given.words[3:])
-    parser.error("give the file of one plan: PLAN runs it, check PLAN checks it, and deploy PLAN NAME PORT.. deploys a revision by it")
+    parser.error(
+        "give the file of one plan: PLAN runs it, check PLAN checks it, and deploy PLAN NAME PORT.. deploys a revision by it"
+    )

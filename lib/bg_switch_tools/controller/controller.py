@@ -1,5 +1,5 @@
-"""The rounds of a controller: it ticks, reports availability, runs analyses, starts and stops endpoints, and sends the lines of
-its source."""
+"""The rounds of a controller: it ticks, reports availability, runs analyses, starts and stops
+endpoints, and sends the lines of its source."""
 import os
 import time
 from collections.abc import Callable
@@ -32,7 +32,9 @@ MOST_LINES = 6  # of the source, in one round
 
 
 class ControllerFiles(NamedTuple):
-    """The path beside which a controller keeps its files, and the folder in which its commands run."""
+    """The path beside which a controller keeps its files, and the folder in which its commands
+    run."""
+
     path: str
     folder: str
 
@@ -44,6 +46,7 @@ def files_beside(plan_path: str) -> ControllerFiles:
 
 class Makers(NamedTuple):
     """How the memory and the source of lines of a controller are made."""
+
     memory: Callable[[str, Plan, Log], Memory] = Memory
     source: MakeSource = PlanLines
 
@@ -51,7 +54,14 @@ class Makers(NamedTuple):
 class Controller:
     """What is done in a round, over a connection of its own."""
 
-    def __init__(self, files: ControllerFiles, plan: Plan, log: Log, probes: Probes, makers: Makers = Makers()) -> None:
+    def __init__(
+        self,
+        files: ControllerFiles,
+        plan: Plan,
+        log: Log,
+        probes: Probes,
+        makers: Makers = Makers(),
+    ) -> None:
         path, folder = files
         self.plan = plan
         self.log = log
@@ -68,7 +78,9 @@ class Controller:
         self.analyses = AnalysisRunner(folder, log, self.once, self.memory, probes)
         self.launcher = Launcher(folder, log, self.memory, probes)
         self.held = HeldRevisions(log, self.memory)
-        self.source: LineSource = makers.source(SourceParts(log, self.memory, self.history, self.pause, self.launcher, self.held))
+        self.source: LineSource = makers.source(
+            SourceParts(log, self.memory, self.history, self.pause, self.launcher, self.held)
+        )
         self.opening = BookOpener(log, self.memory, self.book, self.availability, self.source)
         self.progress = ProgressClock()
         self.next_line = 0.0  # the time from which on the source is asked for a line
@@ -77,11 +89,16 @@ class Controller:
 
     def _watch_endpoints(self) -> None:
         revisions = [*self.plan.revisions, *self.memory.revisions(self.plan).values()]
-        self.probes.watch([port for revision in revisions for port in revision.ports], self.plan.health)
+        self.probes.watch(
+            [port for revision in revisions for port in revision.ports], self.plan.health
+        )
 
     def take_plan(self, plan: Plan) -> None:
         """Goes on by another plan, and tells that it has changed."""
-        self.log.say("plan", f"the plan has changed: its control port is {plan.control}, its last revision {plan.last.name}")
+        self.log.say(
+            "plan",
+            f"the plan has changed: its control port is {plan.control}, its last revision {plan.last.name}",
+        )
         self.go_by(plan)
 
     def go_by(self, plan: Plan) -> None:
@@ -100,7 +117,8 @@ class Controller:
         self._watch_endpoints()
 
     def do_round(self, connection: Connection) -> float:
-        """One round. Gives the seconds until the next one. `Unreachable` where the switch stops answering in the middle."""
+        """One round. Gives the seconds until the next one. `Unreachable` where the switch stops
+        answering in the middle."""
         self.pause.look()
         self.held.look(self.plan)
         report = self._open_book(connection)
@@ -110,15 +128,24 @@ class Controller:
         self.history.take_in(report, self.memory.noted(self.plan))
         report = self._tick(connection, report)
         self.source.take_report(self.plan, report)
-        for step in (self._report_availability, self._judge, self._limit_progress, self._launch, self._send_lines):
+        for step in (
+            self._report_availability,
+            self._judge,
+            self._limit_progress,
+            self._launch,
+            self._send_lines,
+        ):
             step(connection, report)
-        latest = self.book.open_report(connection) if self.book.has_sent else self.book.latest or report
+        latest = (
+            self.book.open_report(connection) if self.book.has_sent else self.book.latest or report
+        )
         self.memory.take_in(self.plan, latest)
         self._watch_endpoints()
         return ROUND
 
     def end(self) -> None:
-        """The last thing that is done: the commands that run are stopped, and the moment is kept."""
+        """The last thing that is done: the commands that run are stopped, and the moment is
+        kept."""
         self.launcher.begin_end()
         self.analyses.end_at_last()
         self.launcher.end()
@@ -126,14 +153,17 @@ class Controller:
             self.memory.write()
 
     def _open_book(self, connection: Connection) -> Report | None:
-        """The report of the book, which is opened where none is open; None where that has to wait."""
+        """The report of the book, which is opened where none is open; None where that has to
+        wait."""
         report = self.book.report(connection)
         if self.book.was_lost:
             self._forget_book()
         if report is not None:
             self.opening.settle(self.plan, report)
             return report
-        coming = None if self.memory.why_not_opened(self.plan) else self.source.to_open(self.plan)[0]
+        coming = (
+            None if self.memory.why_not_opened(self.plan) else self.source.to_open(self.plan)[0]
+        )
         self.launcher.start_and_stop(self.plan, None, self.memory.revisions(self.plan), coming)
         if not self.opening.open(connection, self.plan):
             return None
@@ -151,7 +181,8 @@ class Controller:
         self.next_line = 0.0
 
     def _tick(self, connection: Connection, report: Report) -> Report:
-        """Ticks each second. Where somebody has ticked further, or the book was open before, the seconds count on from there."""
+        """Ticks each second. Where somebody has ticked further, or the book was open before, the
+        seconds count on from there."""
         self.clock.follow(report.moment)
         if self.clock.moment() <= report.moment:
             return report
@@ -171,14 +202,19 @@ class Controller:
             self.analyses.judge(self.book, connection, self.plan, report, self.source)
 
     def _limit_progress(self, connection: Connection, report: Report) -> None:
-        """Tells of an attempt whose endpoints are not there in time, and aborts it where the plan says so."""
+        """Tells of an attempt whose endpoints are not there in time, and aborts it where the plan
+        says so."""
         newest, limit = report.newest, self.plan.progress
         waited = self.progress.waited(report, time.monotonic())
         if waited < limit.seconds:
             self.once.forget("progress", newest)
             return
-        self.once.say("progress", newest, f"has made no progress for {limit.seconds:g} seconds: {newest.available} of "
-                      f"{newest.desired} endpoints are up")
+        self.once.say(
+            "progress",
+            newest,
+            f"has made no progress for {limit.seconds:g} seconds: {newest.available} of "
+            f"{newest.desired} endpoints are up",
+        )
         if limit.abort:
             self.book.send(connection, "abort")
 
@@ -189,7 +225,11 @@ class Controller:
     def _send_lines(self, connection: Connection, report: Report) -> None:
         """Sends the lines of the source, each by the report after the one before."""
         for _ in range(MOST_LINES):
-            line = self.source.next_line(self.plan, report) if time.monotonic() >= self.next_line else None
+            line = (
+                self.source.next_line(self.plan, report)
+                if time.monotonic() >= self.next_line
+                else None
+            )
             if line is None:
                 return
             reply = self.book.send(connection, line)

@@ -1,4 +1,5 @@
-"""Whether a controller runs a plan: by its lock, and by the time at which it has last touched the file of the lock."""
+"""Whether a controller runs a plan: by its lock, and by the time at which it has last touched the
+file of the lock."""
 import enum
 import fcntl
 import os
@@ -7,7 +8,9 @@ from typing import NamedTuple
 
 from bg_switch_tools.controller.state_file import LOCK, SUFFIX
 
-STALE = 30.0  # seconds without a touch after which a controller hangs: the longest round takes eleven
+STALE = (
+    30.0  # seconds without a touch after which a controller hangs: the longest round takes eleven
+)
 
 
 class Life(enum.Enum):
@@ -19,6 +22,7 @@ class Life(enum.Enum):
 
 class ControllerLife(NamedTuple):
     """How a controller lives. `text` says what is wrong; empty where nothing is."""
+
     life: Life
     text: str = ""
 
@@ -29,7 +33,8 @@ class ControllerLife(NamedTuple):
 
 
 def _is_locked(descriptor: int) -> bool:
-    """Whether a controller has the lock. A controller that starts just then waits for the lock of this look."""
+    """Whether a controller has the lock. A controller that starts just then waits for the lock of
+    this look."""
     try:
         fcntl.flock(descriptor, fcntl.LOCK_SH | fcntl.LOCK_NB)
     except BlockingIOError:
@@ -47,7 +52,10 @@ def life_of(plan_path: str) -> ControllerLife:
     except FileNotFoundError:
         return down
     except OSError as error:
-        return ControllerLife(Life.UNKNOWN, f"whether a controller runs is not known: {path} can't be read: {error.strerror}")
+        return ControllerLife(
+            Life.UNKNOWN,
+            f"whether a controller runs is not known: {path} can't be read: {error.strerror}",
+        )
     try:
         if not _is_locked(descriptor):
             return down
@@ -56,4 +64,7 @@ def life_of(plan_path: str) -> ControllerLife:
         os.close(descriptor)
     if abs(age) < STALE:
         return ControllerLife(Life.UP)
-    return ControllerLife(Life.HANGS, f"the controller of the plan {plan_path} hangs: its last round was {age:.0f} seconds ago")
+    return ControllerLife(
+        Life.HANGS,
+        f"the controller of the plan {plan_path} hangs: its last round was {age:.0f} seconds ago",
+    )

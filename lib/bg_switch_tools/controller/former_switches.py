@@ -1,4 +1,5 @@
-"""The switches that a plan named before, at other control ports: their requests may still be open after an upgrade."""
+"""The switches that a plan named before, at other control ports: their requests may still be open
+after an upgrade."""
 import socket
 import time
 
@@ -12,10 +13,14 @@ CONNECT, ANSWER = 0.3, 1.0  # seconds within which a switch takes a connection, 
 
 
 def needed_names(report: Report) -> list[str]:
-    """The revisions whose endpoints a report needs: those that a service selects, that are sized, or that have requests open. An
-    aborted revision is the newest one, and no service selects it."""
+    """The revisions whose endpoints a report needs: those that a service selects, that are sized,
+    or that have requests open. An aborted revision is the newest one, and no service selects it."""
     selected = [report.selected[service] for service in SELECTING]
-    return [revision.name for number, revision in report.revisions.items() if revision.desired or revision.open or number in selected]
+    return [
+        revision.name
+        for number, revision in report.revisions.items()
+        if revision.desired or revision.open or number in selected
+    ]
 
 
 def _is_gone(port: int) -> bool:
@@ -54,13 +59,21 @@ class FormerSwitches:
         self.next = 0.0
 
     def names(self, control: int) -> set[str] | None:
-        """The names of the revisions that are needed there; None where one of the switches does not tell, so that any may be.
-        `control` is the port that the plan names now."""
+        """The names of the revisions that are needed there; None where one of the switches does not
+        tell, so that any may be. `control` is the port that the plan names now."""
         if not self.memory.state.former:
             return set()
         if time.monotonic() >= self.next:
             self.next = time.monotonic() + PAUSE
-            self.memory.set_former(tuple(port for port in self.memory.state.former if port != control and not _is_gone(port)))
+            self.memory.set_former(
+                tuple(
+                    port
+                    for port in self.memory.state.former
+                    if port != control and not _is_gone(port)
+                )
+            )
             told = [_names_at(port) for port in self.memory.state.former]
-            self.needed = None if None in told else {name for names in told if names for name in names}
+            self.needed = (
+                None if None in told else {name for names in told if names for name in names}
+            )
         return self.needed

@@ -1,4 +1,5 @@
-"""What a controller holds back of its plan: revisions that it does not deploy, and whose ports in the plan it does not use."""
+"""What a controller holds back of its plan: revisions that it does not deploy, and whose ports in
+the plan it does not use."""
 import contextlib
 import sys
 
@@ -11,16 +12,21 @@ from bg_switch_tools.switch.lines import with_meaning
 
 
 class HeldRevisions:
-    """Judges the plan again and again, keeps what is held back in the state, and tells what is new, also on standard error."""
+    """Judges the plan again and again, keeps what is held back in the state, and tells what is new,
+    also on standard error."""
 
     def __init__(self, log: Log, memory: Memory) -> None:
         self.log = log
         self.memory = memory
-        self.refused: HeldBack | None = None  # the revision whose deploy the switch has refused last
+        self.refused: HeldBack | None = (
+            None  # the revision whose deploy the switch has refused last
+        )
 
     def refuse(self, plan: Plan, revision: PlannedRevision, reply: str) -> None:
         """The switch has refused to deploy this revision."""
-        self.refused = HeldBack(revision, f"the switch refuses to deploy {revision.words}: {with_meaning(reply)}")
+        self.refused = HeldBack(
+            revision, f"the switch refuses to deploy {revision.words}: {with_meaning(reply)}"
+        )
         self.look(plan)
 
     def accept(self, plan: Plan) -> None:
@@ -30,9 +36,16 @@ class HeldRevisions:
 
     def look(self, plan: Plan) -> None:
         """Judges the plan by what is known now."""
-        judged = [HeldBack(revision, why_refused(revision, self.memory.kept)) for revision in plan.revisions]
+        judged = [
+            HeldBack(revision, why_refused(revision, self.memory.kept))
+            for revision in plan.revisions
+        ]
         held = [each for each in judged if each.reason]
-        is_refused = self.refused is not None and self.refused.revision == plan.last and not why_refused(plan.last, self.memory.kept)
+        is_refused = (
+            self.refused is not None
+            and self.refused.revision == plan.last
+            and not why_refused(plan.last, self.memory.kept)
+        )
         held += [self.refused] if self.refused and is_refused else []
         before = self.memory.state.held
         self.memory.set_held(tuple(held))

@@ -9,8 +9,9 @@ MOST_BYTES = 1 << 20  # of one file, some 8,000 events; with the older one at mo
 
 
 class HistoryFile:
-    """`PLAN.state.history`. A file that would grow above `MOST_BYTES` becomes `PLAN.state.history.1`, in the place of the one
-    before. So the latest `MOST_BYTES` are always kept."""
+    """`PLAN.state.history`. A file that would grow above `MOST_BYTES` becomes
+    `PLAN.state.history.1`, in the place of the one before. So the latest `MOST_BYTES` are always
+    kept."""
 
     def __init__(self, plan_path: str) -> None:
         self.path = plan_path + SUFFIX + HISTORY

@@ -1,6 +1,20 @@
 """Writes the history of a plan's rollout, from the reports that its controller reads."""
-from bg_switch_tools.controller.attempts import (ABORTED, DEPLOYED, ENDED, LIVE, LOST, OPENED, REPLACED, RETRIED, STABLE,
-                                            UNDEPLOYED, UNDONE, Attempt, Attempts, Event)
+from bg_switch_tools.controller.attempts import (
+    ABORTED,
+    DEPLOYED,
+    ENDED,
+    LIVE,
+    LOST,
+    OPENED,
+    REPLACED,
+    RETRIED,
+    STABLE,
+    UNDEPLOYED,
+    UNDONE,
+    Attempt,
+    Attempts,
+    Event,
+)
 from bg_switch_tools.controller.history_file import HistoryFile
 from bg_switch_tools.controller.log import Log, local_time
 from bg_switch_tools.controller.memory import Revisions
@@ -15,7 +29,8 @@ class HistoryRecorder:
     """Notes what a report shows that the ones before have not shown."""
 
     def __init__(self, plan_path: str, log: Log, deployed: PlannedRevision | None) -> None:
-        """`deployed` is what a controller before this one has deployed by the plan: it may have ended before it noted that."""
+        """`deployed` is what a controller before this one has deployed by the plan: it may have
+        ended before it noted that."""
         self.file = HistoryFile(plan_path)
         self.author = Author(plan_path)
         self.log = log
@@ -27,17 +42,22 @@ class HistoryRecorder:
             self._fail(error)
         newest = self.attempts.newest
         is_noted = deployed is None or newest is not None and newest.name == deployed.name
-        self.announced = deployed.name if deployed and not is_noted else ""  # what the controller deploys by its plan
+        self.announced = (
+            deployed.name if deployed and not is_noted else ""
+        )  # what the controller deploys by its plan
         self.planned: PlannedRevision | None = None  # the last revision of the plan
         self.planned_by = PLAN  # who has made it the last one
-        self.failed: PlannedRevision | None = None  # the revision whose start was noted to have failed
+        self.failed: PlannedRevision | None = (
+            None  # the revision whose start was noted to have failed
+        )
 
     def announce(self, revision: PlannedRevision) -> None:
         """The controller is about to deploy this revision by its plan."""
         self.announced = revision.name
 
     def take_plan(self, last: PlannedRevision, deployed: PlannedRevision | None) -> None:
-        """The plan names this revision last; `deployed` is what was deployed by the plan. Notes what was overtaken before its deploy."""
+        """The plan names this revision last; `deployed` is what was deployed by the plan. Notes
+        what was overtaken before its deploy."""
         before, before_by = self.planned, self.planned_by
         if last == before:
             return
@@ -45,17 +65,25 @@ class HistoryRecorder:
         overtaken = self.author.overtaken()
         for each in overtaken:
             self._note_undeployed(each.name, each.who, f"overtaken by {each.by}", each.when)
-        if before and before != deployed and before.name not in (last.name, *(each.name for each in overtaken)):
+        if (
+            before
+            and before != deployed
+            and before.name not in (last.name, *(each.name for each in overtaken))
+        ):
             self._note_undeployed(before.name, before_by, f"overtaken by {last.name}", local_time())
 
     def take_failure(self, revision: PlannedRevision) -> None:
-        """The command that starts an endpoint of this revision, which is to be deployed, has failed. That is noted once."""
+        """The command that starts an endpoint of this revision, which is to be deployed, has
+        failed. That is noted once."""
         if revision != self.failed:
             self.failed = revision
             self._note_undeployed(revision.name, self.planned_by, "start fails", local_time())
 
     def _note_undeployed(self, name: str, who: str, how: str, when: str) -> None:
-        if not any((each.began, each.name, each.how, each.begun) == (UNDEPLOYED, name, how, when) for each in self.attempts.all):
+        if not any(
+            (each.began, each.name, each.how, each.begun) == (UNDEPLOYED, name, how, when)
+            for each in self.attempts.all
+        ):
             self._note(Event(when, UNDEPLOYED, name, by=who, how=how))
 
     def lose_book(self) -> None:
@@ -73,9 +101,26 @@ class HistoryRecorder:
         if beginning:
             self._end_the_one_before(report)
             ports = known[newest.name].ports if newest.name in known else ()
-            self._note(Event(local_time(), beginning, newest.name, newest.number, self._by(beginning, newest, known), ports=ports))
+            self._note(
+                Event(
+                    local_time(),
+                    beginning,
+                    newest.name,
+                    newest.number,
+                    self._by(beginning, newest, known),
+                    ports=ports,
+                )
+            )
         if not report.is_running and self._running():
-            self._note(Event(local_time(), ENDED, newest.name, newest.number, how=ABORTED if report.phase == "aborted" else STABLE))
+            self._note(
+                Event(
+                    local_time(),
+                    ENDED,
+                    newest.name,
+                    newest.number,
+                    how=ABORTED if report.phase == "aborted" else STABLE,
+                )
+            )
         active, live = report.service("active"), self.attempts.live
         if live is None or not live.is_of(active.name, active.number):
             self._note(Event(local_time(), LIVE, active.name, active.number))
@@ -110,7 +155,8 @@ class HistoryRecorder:
         return self.author.name() or PLAN
 
     def _note(self, event: Event) -> None:
-        """Adds an event. Where the file can't be written, the event is lost there, and the log tells it once."""
+        """Adds an event. Where the file can't be written, the event is lost there, and the log
+        tells it once."""
         self.attempts.take(event)
         try:
             self.file.append(event)
@@ -121,5 +167,7 @@ class HistoryRecorder:
 
     def _fail(self, error: OSError) -> None:
         if not self.is_failing:
-            self.log.say("state", f"the history can't be kept in {self.file.path}: {error.strerror}")
+            self.log.say(
+                "state", f"the history can't be kept in {self.file.path}: {error.strerror}"
+            )
         self.is_failing = True

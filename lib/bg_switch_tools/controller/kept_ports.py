@@ -13,12 +13,15 @@ def by_name(revisions: Iterable[PlannedRevision]) -> dict[str, PlannedRevision]:
 
 
 def kept_in_history(plan_path: str) -> dict[str, PlannedRevision]:
-    """The revisions that the history of a plan has with their ports; none where it can't be read."""
+    """The revisions that the history of a plan has with their ports; none where it can't be
+    read."""
     try:
         attempts = HistoryFile(plan_path).read()[0].all
     except OSError:
         return {}
-    return by_name(PlannedRevision(attempt.name, attempt.ports) for attempt in attempts if attempt.ports)
+    return by_name(
+        PlannedRevision(attempt.name, attempt.ports) for attempt in attempts if attempt.ports
+    )
 
 
 def kept_revisions(plan_path: str) -> dict[str, PlannedRevision]:
@@ -36,11 +39,16 @@ def why_refused(revision: PlannedRevision, kept: Kept) -> str:
     if before is None or before.ports == revision.ports:
         return ""
     own, other = (" ".join(map(str, ports)) for ports in (before.ports, revision.ports))
-    return (f"{revision.name} has the ports {own}, and a name keeps its ports: deploy the ports {other} by a new name "
-            f"(bgctl deploy NEW-NAME {other})")
+    return (
+        f"{revision.name} has the ports {own}, and a name keeps its ports: deploy the ports {other} by a new name "
+        f"(bgctl deploy NEW-NAME {other})"
+    )
 
 
 def refusals(plan: Plan, kept: Kept) -> list[str]:
     """A problem for each revision of a plan whose name has other ports."""
-    return [f"revisions[{number}].ports: {why}" for number, revision in enumerate(plan.revisions)
-            if (why := why_refused(revision, kept))]
+    return [
+        f"revisions[{number}].ports: {why}"
+        for number, revision in enumerate(plan.revisions)
+        if (why := why_refused(revision, kept))
+    ]

@@ -11,13 +11,15 @@ from bg_switch_tools.switch.reports import Revision
 
 
 def local_time(seconds: float | None = None) -> str:
-    """The local time with its zone, as ISO 8601 has it: 2026-11-25T18:03:12+01:00. It is that of a Unix time, or of now."""
+    """The local time with its zone, as ISO 8601 has it: 2026-11-25T18:03:12+01:00. It is that of a
+    Unix time, or of now."""
     text = time.strftime("%Y-%m-%dT%H:%M:%S%z", time.localtime(seconds))
     return f"{text[:-2]}:{text[-2:]}"
 
 
 class Log:
-    """Writes the log. `moment` is the moment of the latest report, which each line is given; None before the first one."""
+    """Writes the log. `moment` is the moment of the latest report, which each line is given; None
+    before the first one."""
 
     def __init__(self, out: TextIO, as_json: bool) -> None:
         self.out = out
@@ -25,16 +27,23 @@ class Log:
         self.moment: int | None = None
         self.lock = threading.Lock()  # of `out`
         self.telling = threading.Lock()  # of `tell`, since several threads of an agent write lines
-        self.tell: Callable[[dict[str, object]], None] | None = None  # is given each line as an object
+        self.tell: Callable[
+            [dict[str, object]], None
+        ] | None = None  # is given each line as an object
 
     def say(self, event: str, text: str) -> None:
-        """Writes a line. `event` is its kind, which only JSON shows: plan, switch, state, change, analysis, outage, command, fleet, leader,
-        end."""
+        """Writes a line. `event` is its kind, which only JSON shows: plan, switch, state, change,
+        analysis, outage, command, fleet, leader, end."""
         self._write(event, text, {})
 
     def say_reply(self, line: str, reply: str) -> None:
         """Writes an operator's line and its reply."""
-        told = {"line": line, "reply": reply, "carried_out": was_carried_out(reply), "meaning": meaning_of(reply)}
+        told = {
+            "line": line,
+            "reply": reply,
+            "carried_out": was_carried_out(reply),
+            "meaning": meaning_of(reply),
+        }
         self._write("order", f"{line} => {with_meaning(reply)}", told)
 
     def say_beside(self, event: str, text: str) -> None:
@@ -60,14 +69,16 @@ class Log:
 
 
 class OncePerRevision:
-    """What is told of a revision, and told once. What a revision is told by is its number, so a new book begins anew."""
+    """What is told of a revision, and told once. What a revision is told by is its number, so a new
+    book begins anew."""
 
     def __init__(self, log: Log) -> None:
         self.log = log
         self.told: set[tuple[str, int]] = set()
 
     def say(self, kind: str, revision: Revision, text: str, event: str = "plan") -> None:
-        """Writes that this holds of a revision, unless a line of this kind was written for it already."""
+        """Writes that this holds of a revision, unless a line of this kind was written for it
+        already."""
         if (kind, revision.number) not in self.told:
             self.told.add((kind, revision.number))
             self.log.say(event, f"{revision.title()} {text}")

@@ -22,7 +22,8 @@ LAST_JOIN = 0.2  # seconds after that for the threads
 
 
 class Notifier:
-    """Runs the plan's command `notify` for each event: a line of the log as an object of JSON, on standard input."""
+    """Runs the plan's command `notify` for each event: a line of the log as an object of JSON, on
+    standard input."""
 
     def __init__(self, folder: str, log: Log, commands: Commands) -> None:
         self.folder = folder
@@ -36,7 +37,8 @@ class Notifier:
         self.threads: list[threading.Thread] = []
 
     def take(self, event: Mapping[str, object]) -> None:
-        """Takes an event, and returns at once. `number` counts the events, since a later one can be told before."""
+        """Takes an event, and returns at once. `number` counts the events, since a later one can be
+        told before."""
         if not self.commands.notify:
             return
         while len(self.threads) < MOST_AT_ONCE:
@@ -44,7 +46,9 @@ class Notifier:
             self.threads[-1].start()
         self.number += 1
         try:
-            self.events.put_nowait((json.dumps({"number": self.number, **event}) + "\n").encode("ascii"))
+            self.events.put_nowait(
+                (json.dumps({"number": self.number, **event}) + "\n").encode("ascii")
+            )
         except queue.Full:
             self._fail("too many events wait")
 
@@ -62,8 +66,13 @@ class Notifier:
         with self.lock:
             if self.is_ending:
                 return
-            process = subprocess.Popen(self.commands.notify, cwd=self.folder, stdin=subprocess.PIPE, stdout=TO_STDERR,
-                                       start_new_session=True)
+            process = subprocess.Popen(
+                self.commands.notify,
+                cwd=self.folder,
+                stdin=subprocess.PIPE,
+                stdout=TO_STDERR,
+                start_new_session=True,
+            )
             self.processes.add(process)
         try:
             process.communicate(event, timeout)
@@ -79,12 +88,15 @@ class Notifier:
 
     @staticmethod
     def _end(process: "subprocess.Popen[bytes]") -> None:
-        """Ends a command that took too long, with what it has started. It is reaped last, so that its number stays its own."""
+        """Ends a command that took too long, with what it has started. It is reaped last, so that
+        its number stays its own."""
         for number, seconds in ((signal.SIGTERM, GRACE), (signal.SIGKILL, 0.0)):
             with contextlib.suppress(ProcessLookupError, PermissionError):
                 os.killpg(process.pid, number)
             deadline = time.monotonic() + seconds
-            while time.monotonic() < deadline and not os.waitid(os.P_PID, process.pid, os.WEXITED | os.WNOHANG | os.WNOWAIT):
+            while time.monotonic() < deadline and not os.waitid(
+                os.P_PID, process.pid, os.WEXITED | os.WNOHANG | os.WNOWAIT
+            ):
                 time.sleep(LOOK)
         process.wait()
         if process.stdin:
@@ -99,7 +111,9 @@ class Notifier:
             if is_due:
                 self.failures, self.next_told = 0, time.monotonic() + MINUTE
         if is_due:
-            self.log.say_beside("command", f"notify has failed, {count} times since it was told: {why}")
+            self.log.say_beside(
+                "command", f"notify has failed, {count} times since it was told: {why}"
+            )
 
     def end(self) -> None:
         """Leaves the events that wait a moment, and ends the commands that still run then."""

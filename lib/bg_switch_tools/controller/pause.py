@@ -14,6 +14,7 @@ UNKNOWN = "somebody"
 
 class Paused(NamedTuple):
     """Who has paused the controller, and when (ISO 8601; empty where the file does not tell)."""
+
     who: str
     when: str
 
@@ -27,13 +28,15 @@ def _text_of(told: object, key: str) -> str:
 
 
 class PauseFile:
-    """The file `PLAN.state.paused`. The controller is paused while it exists, whatever stands in it."""
+    """The file `PLAN.state.paused`. The controller is paused while it exists, whatever stands in
+    it."""
 
     def __init__(self, plan_path: str) -> None:
         self.path = plan_path + SUFFIX + PAUSED
 
     def read(self) -> Paused | None:
-        """Who has paused the controller; None where nobody has. `OSError` where that can't be told."""
+        """Who has paused the controller; None where nobody has. `OSError` where that can't be
+        told."""
         try:
             with open(self.path, "rb") as file:
                 told = decoded(file.read(MOST_BYTES))
@@ -44,7 +47,8 @@ class PauseFile:
         return Paused(_text_of(told, "who") or UNKNOWN, _text_of(told, "when"))
 
     def pause(self) -> Paused:
-        """Pauses the controller in the caller's name. Gives who has paused it, which may be somebody before."""
+        """Pauses the controller in the caller's name. Gives who has paused it, which may be
+        somebody before."""
         paused = self.read()
         if paused is None:
             paused = Paused(login_name(), local_time())
@@ -61,7 +65,8 @@ class PauseFile:
 
 
 class Pause:
-    """What a controller knows of its pause. It looks in each round, and tells in the log what has changed."""
+    """What a controller knows of its pause. It looks in each round, and tells in the log what has
+    changed."""
 
     def __init__(self, plan_path: str, log: Log) -> None:
         self.file = PauseFile(plan_path)
@@ -79,7 +84,9 @@ class Pause:
         except OSError:
             return
         if paused and not self.paused:
-            self.log.say("plan", f"{paused.text()}: no deploy and no verdict is sent until bgctl resume")
+            self.log.say(
+                "plan", f"{paused.text()}: no deploy and no verdict is sent until bgctl resume"
+            )
         elif self.paused and not paused:
             self.log.say("plan", "resumed: deploys and verdicts are sent again")
         self.paused = paused

@@ -6,6 +6,7 @@ from collections.abc import Mapping
 @dataclasses.dataclass(frozen=True)
 class PlannedRevision:
     """A revision by its name and its ports, one for each replica."""
+
     name: str
     ports: tuple[int, ...]
 
@@ -16,7 +17,9 @@ class PlannedRevision:
 
 
 class Revisions:
-    """What plans say of their revisions, which go from the first one to the one that is to be live."""
+    """What plans say of their revisions, which go from the first one to the one that is to be
+    live."""
+
     revisions: tuple[PlannedRevision, ...]
 
     @property
@@ -33,8 +36,9 @@ class Revisions:
 
 @dataclasses.dataclass(frozen=True)
 class Health:
-    """How endpoints are probed: a GET of `path` every `interval` seconds, which ends within `timeout` seconds. An endpoint is
-    down after `failures` failed probes in a row."""
+    """How endpoints are probed: a GET of `path` every `interval` seconds, which ends within
+    `timeout` seconds. An endpoint is down after `failures` failed probes in a row."""
+
     path: str = "/"
     interval: float = 2
     timeout: float = 2
@@ -43,16 +47,19 @@ class Health:
 
 @dataclasses.dataclass(frozen=True)
 class Analyses:
-    """The commands of the analyses, by `pre` and `post`, and the seconds within which each has to end."""
+    """The commands of the analyses, by `pre` and `post`, and the seconds within which each has to
+    end."""
+
     commands: Mapping[str, tuple[str, ...]]
     seconds: float = 600
 
 
 @dataclasses.dataclass(frozen=True)
 class Progress:
-    """Within how many seconds an attempt has to make progress (Argo's `progressDeadlineSeconds`), and whether it is aborted
-    else (`progressDeadlineAbort`). After `outage` seconds without an endpoint that is up behind live traffic, an attempt that
-    has switched goes back."""
+    """Within how many seconds an attempt has to make progress (Argo's `progressDeadlineSeconds`),
+    and whether it is aborted else (`progressDeadlineAbort`). After `outage` seconds without an
+    endpoint that is up behind live traffic, an attempt that has switched goes back."""
+
     seconds: float = 600
     abort: bool = False
     outage: float = 5
@@ -60,8 +67,9 @@ class Progress:
 
 @dataclasses.dataclass(frozen=True)
 class Commands:
-    """The commands that start and stop an endpoint, and the one that is told each event; each may take `timeout` seconds. An
-    empty one is not run."""
+    """The commands that start and stop an endpoint, and the one that is told each event; each may
+    take `timeout` seconds. An empty one is not run."""
+
     start: tuple[str, ...] = ()
     stop: tuple[str, ...] = ()
     notify: tuple[str, ...] = ()
@@ -70,8 +78,11 @@ class Commands:
 
 @dataclasses.dataclass(frozen=True)
 class Plan(Revisions):
-    """A whole plan. `revisions` go from the first one to the one that is to be live. `services` are the ports of the active and
-    the preview service, where the plan names them. `redispatch` says whether the switch passes over endpoints that are down."""
+    """A whole plan. `revisions` go from the first one to the one that is to be live. `services` are
+    the ports of the active and the preview service, where the plan names them. `redispatch` says
+    whether the switch passes over endpoints that are down.
+    """
+
     control: int
     health: Health
     analyses: Analyses

@@ -20,7 +20,8 @@ PLAN = "plan"  # by whom: an edit of the plan by other means than bgctl
 
 
 def login_name() -> str:
-    """The login name of who runs this process; that of who called sudo(8), where root runs it by that."""
+    """The login name of who runs this process; that of who called sudo(8), where root runs it by
+    that."""
     user = os.getuid()
     if user == 0 and os.environ.get("SUDO_USER"):
         return os.environ["SUDO_USER"][:LONGEST_NAME]
@@ -32,7 +33,9 @@ def login_name() -> str:
 
 @dataclasses.dataclass(frozen=True)
 class Overtaken:
-    """A revision that the plan named last, by `who`, and that was not deployed when `by` took its place at the time `when` (ISO 8601)."""
+    """A revision that the plan named last, by `who`, and that was not deployed when `by` took its
+    place at the time `when` (ISO 8601)."""
+
     name: str
     who: str
     by: str
@@ -43,7 +46,11 @@ class Overtaken:
 
 
 def _read_overtaken(told: object) -> Overtaken | None:
-    values = [told.get(field.name) for field in dataclasses.fields(Overtaken)] if isinstance(told, dict) else []
+    values = (
+        [told.get(field.name) for field in dataclasses.fields(Overtaken)]
+        if isinstance(told, dict)
+        else []
+    )
     texts = [value for value in values if isinstance(value, str) and value.isprintable()]
     if len(texts) != len(dataclasses.fields(Overtaken)) or not NAME.fullmatch(texts[0]):
         return None
@@ -51,7 +58,8 @@ def _read_overtaken(told: object) -> Overtaken | None:
 
 
 def write_for_all(path: str, told: Mapping[str, object]) -> None:
-    """Writes an object of JSON that a controller of another user can read, whatever the umask is."""
+    """Writes an object of JSON that a controller of another user can read, whatever the umask
+    is."""
     write_whole(path, (json.dumps(told) + "\n").encode("ascii"))
     os.chmod(path, 0o644)
 
@@ -61,23 +69,30 @@ def _digest(text: bytes) -> str:
 
 
 class Author:
-    """The file `PLAN.state.author`: who has made the plan what it is. It has the digest of the plan's text, so that a later edit
-    by other means is nobody's of these."""
+    """The file `PLAN.state.author`: who has made the plan what it is. It has the digest of the
+    plan's text, so that a later edit by other means is nobody's of these."""
 
     def __init__(self, plan_path: str) -> None:
         self.plan_path = plan_path
         self.path = plan_path + SUFFIX + AUTHOR
 
     def sign(self, text: bytes) -> None:
-        """Notes the caller as the author of the text that the plan is about to have, and what that text overtakes. `OSError` where the
-        file can't be written."""
+        """Notes the caller as the author of the text that the plan is about to have, and what that
+        text overtakes. `OSError` where the file can't be written."""
         when = local_time()
-        told = {"who": login_name(), "when": when, "digest": _digest(text),
-                "overtaken": [dataclasses.asdict(each) for each in self._overtaken_by(read_plan(text), when)]}
+        told = {
+            "who": login_name(),
+            "when": when,
+            "digest": _digest(text),
+            "overtaken": [
+                dataclasses.asdict(each) for each in self._overtaken_by(read_plan(text), when)
+            ],
+        }
         write_for_all(self.path, told)
 
     def _overtaken_by(self, plan: Plan, when: str) -> list[Overtaken]:
-        """What was overtaken, once this plan takes the place of the one in the file; what went before the latest deploy is past."""
+        """What was overtaken, once this plan takes the place of the one in the file; what went
+        before the latest deploy is past."""
         try:
             with open(self.plan_path, "rb") as file:
                 last = read_plan(file.read(LARGEST + 1)).last
@@ -86,11 +101,16 @@ class Author:
             return []
         if last == deployed:
             return []
-        more = [] if last.name == plan.last.name else [Overtaken(last.name, self.name() or PLAN, plan.last.name, when)]
+        more = (
+            []
+            if last.name == plan.last.name
+            else [Overtaken(last.name, self.name() or PLAN, plan.last.name, when)]
+        )
         return [*self.overtaken(), *more][-MOST_OVERTAKEN:]
 
     def _told(self) -> Mapping[str, object]:
-        """What the file says of the plan's file as it is now; nothing where nobody has edited it with bgctl since."""
+        """What the file says of the plan's file as it is now; nothing where nobody has edited it
+        with bgctl since."""
         try:
             with open(self.path, "rb") as file, open(self.plan_path, "rb") as plan:
                 told, digest = decoded(file.read(MOST_BYTES)), _digest(plan.read(LARGEST + 1))
@@ -99,12 +119,14 @@ class Author:
         return told if isinstance(told, dict) and told.get("digest") == digest else {}
 
     def name(self) -> str | None:
-        """The author of the plan's file as it is now; None where nobody has edited it with bgctl since."""
+        """The author of the plan's file as it is now; None where nobody has edited it with bgctl
+        since."""
         who = self._told().get("who")
         return who[:LONGEST_NAME] if isinstance(who, str) and who else None
 
     def overtaken(self) -> list[Overtaken]:
-        """The revisions that the edits with bgctl have overtaken, up to the plan's file as it is now, the oldest first."""
+        """The revisions that the edits with bgctl have overtaken, up to the plan's file as it is
+        now, the oldest first."""
         told = self._told().get("overtaken")
         found = [_read_overtaken(one) for one in told] if isinstance(told, list) else []
         return [one for one in found if one is not None]

@@ -1,4 +1,5 @@
-"""What `check` finds wrong with a plan, beside what makes it none: with its commands, the files beside it, and the Rollout."""
+"""What `check` finds wrong with a plan, beside what makes it none: with its commands, the files
+beside it, and the Rollout."""
 import os
 
 from bg_switch_tools.analysis.cli import fault_of_words
@@ -11,9 +12,14 @@ from bg_switch_tools.controller.unopened import why_plan_opens_none
 
 
 def _wrong_analyses(plan: Plan) -> list[str]:
-    """A problem for each analysis of these tools that would end at once by its words, which takes a good revision back."""
+    """A problem for each analysis of these tools that would end at once by its words, which takes a
+    good revision back."""
     told = {name: words_of_tool(command) for name, command in plan.analyses.commands.items()}
-    return [f"analyses.{name}: {fault}" for name, words in told.items() if words is not None and (fault := fault_of_words(words))]
+    return [
+        f"analyses.{name}: {fault}"
+        for name, words in told.items()
+        if words is not None and (fault := fault_of_words(words))
+    ]
 
 
 def _misfits(plan: Plan, rollout: str) -> list[str]:
@@ -27,9 +33,13 @@ def _misfits(plan: Plan, rollout: str) -> list[str]:
 
 
 def problems_of(path: str, plan: Plan, rollout: str | None) -> list[str]:
-    """What is wrong with the plan of this file, a line each. `rollout` is the file of the Rollout with which the switch is started; None
-    where it is not named."""
+    """What is wrong with the plan of this file, a line each. `rollout` is the file of the Rollout
+    with which the switch is started; None where it is not named."""
     opens_none = why_plan_opens_none(path, plan)
-    return [*missing_commands(plan, os.path.dirname(os.path.abspath(path))), *_wrong_analyses(plan),
-            *refusals(plan, kept_revisions(path)), *([f"revisions: {opens_none}"] if opens_none else []),
-            *(_misfits(plan, rollout) if rollout else [])]
+    return [
+        *missing_commands(plan, os.path.dirname(os.path.abspath(path))),
+        *_wrong_analyses(plan),
+        *refusals(plan, kept_revisions(path)),
+        *([f"revisions: {opens_none}"] if opens_none else []),
+        *(_misfits(plan, rollout) if rollout else []),
+    ]

@@ -19,22 +19,22 @@ class OtherPorts(WrongPlan):
 
 
 def judge_ports(path: str, plan: Plan, revision: PlannedRevision) -> None:
-    """`OtherPorts` where the name of the revision has other ports: by the history and the state, which an edit of the plan can't
-    change, or else by the plan."""
+    """`OtherPorts` where the name of the revision has other ports: by the history and the state,
+    which an edit of the plan can't change, or else by the plan."""
     problem = why_refused(revision, {**by_name(plan.revisions), **kept_revisions(path)})
     if problem:
         raise OtherPorts([problem])
 
 
 def with_last(told: object, name: str, ports: Sequence[int]) -> object:
-    """The value of a plan with this revision as its last one. One of this name is moved; where there are too many, the first
-    one goes."""
+    """The value of a plan with this revision as its last one. One of this name is moved; where
+    there are too many, the first one goes."""
     if not isinstance(told, dict) or not isinstance(told.get("revisions"), list):
         return told
     named = [one for one in told["revisions"] if isinstance(one, dict) and one.get("name") == name]
     others = [one for one in told["revisions"] if one not in named]
     last = {**(named[-1] if named else {}), "name": name, "ports": list(ports)}
-    return {**told, "revisions": [*others[-(MOST_REVISIONS - 1):], last]}
+    return {**told, "revisions": [*others[-(MOST_REVISIONS - 1) :], last]}
 
 
 def _unsigned(_: bytes) -> None:
@@ -52,7 +52,8 @@ def _make_like(descriptor: int, before: os.stat_result) -> None:
 
 
 def _put_in_place(path: str, text: bytes) -> None:
-    """Writes a file in one step, which keeps its mode and owner; where it is a link, the file that this leads to."""
+    """Writes a file in one step, which keeps its mode and owner; where it is a link, the file that
+    this leads to."""
     whole = os.path.realpath(path)
     before = os.stat(whole)
     fresh = os.open(f"{whole}.new", os.O_WRONLY | os.O_CREAT | os.O_TRUNC, 0o600)
@@ -63,10 +64,15 @@ def _put_in_place(path: str, text: bytes) -> None:
     write_whole(whole, text)
 
 
-def deploy_by_plan(path: str, name: str, ports: Sequence[int], sign: Callable[[bytes], None] = _unsigned) -> str:
-    """Makes a revision the last one of a plan's file, in one step, and says so. A file that names it last with these ports stays
-    as it is. `sign` is given the new text before it is in place. `WrongPlan` where the result is not a plan, or the name has other
-    ports (`OtherPorts`), and `OSError` where the file can't be written, or another edit does not end: then nothing is changed."""
+def deploy_by_plan(
+    path: str, name: str, ports: Sequence[int], sign: Callable[[bytes], None] = _unsigned
+) -> str:
+    """Makes a revision the last one of a plan's file, in one step, and says so. A file that names
+    it last with these ports stays as it is. `sign` is given the new text before it is in place.
+    `WrongPlan` where the result is not a plan, or the name has other ports (`OtherPorts`), and
+    `OSError` where the file can't be written, or another edit does not end: then nothing is
+    changed.
+    """
     with EditLock(path):
         file = PlanFile(path)
         plan = file.first()
@@ -76,7 +82,11 @@ def deploy_by_plan(path: str, name: str, ports: Sequence[int], sign: Callable[[b
         try:
             told = decoded(file.text or b"")
         except ValueError:
-            raise WrongPlan(["it is YAML, whose comments this edit would lose: name the revision in the file by hand"]) from None
+            raise WrongPlan(
+                [
+                    "it is YAML, whose comments this edit would lose: name the revision in the file by hand"
+                ]
+            ) from None
         edited = (json.dumps(with_last(told, name, ports), indent=2) + "\n").encode("ascii")
         read_plan(edited)
         sign(edited)

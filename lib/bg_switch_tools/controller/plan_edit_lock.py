@@ -16,7 +16,8 @@ class EditGoesOn(OSError):
 
 
 class EditLock:
-    """Holds the lock (flock(2)) of `PLAN.state.edit.lock` in a `with` block. The system lets it go when the process ends."""
+    """Holds the lock (flock(2)) of `PLAN.state.edit.lock` in a `with` block. The system lets it go
+    when the process ends."""
 
     def __init__(self, plan_path: str, longest: float = LONGEST) -> None:
         self.path = plan_path + SUFFIX + LOCK
@@ -24,13 +25,18 @@ class EditLock:
         self.descriptor = -1
 
     def __enter__(self) -> None:
-        """Waits for the lock. `EditGoesOn` after `longest` seconds; `OSError` where the folder takes no file."""
-        self.descriptor = os.open(self.path, os.O_RDONLY | os.O_CREAT | os.O_CLOEXEC, 0o644)  # a lock needs no right to write
+        """Waits for the lock. `EditGoesOn` after `longest` seconds; `OSError` where the folder
+        takes no file."""
+        self.descriptor = os.open(
+            self.path, os.O_RDONLY | os.O_CREAT | os.O_CLOEXEC, 0o644
+        )  # a lock needs no right to write
         deadline = time.monotonic() + self.longest
         while not self._is_taken():
             if time.monotonic() >= deadline:
                 self._release()
-                raise EditGoesOn(0, f"another edit has had the lock {self.path} for {self.longest:g} seconds")
+                raise EditGoesOn(
+                    0, f"another edit has had the lock {self.path} for {self.longest:g} seconds"
+                )
             time.sleep(PAUSE)
 
     def _is_taken(self) -> bool:
@@ -44,5 +50,10 @@ class EditLock:
         os.close(self.descriptor)
         self.descriptor = -1
 
-    def __exit__(self, kind: type[BaseException] | None, error: BaseException | None, trace: TracebackType | None) -> None:
+    def __exit__(
+        self,
+        kind: type[BaseException] | None,
+        error: BaseException | None,
+        trace: TracebackType | None,
+    ) -> None:
         self._release()

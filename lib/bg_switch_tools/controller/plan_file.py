@@ -29,7 +29,8 @@ class PlanFile:
             return file.read(LARGEST + 1)
 
     def read(self) -> Plan | None:
-        """The plan, or None where the file is as it was at the last read. `WrongPlan` where it is no plan any more."""
+        """The plan, or None where the file is as it was at the last read. `WrongPlan` where it is
+        no plan any more."""
         try:
             text = self._bytes()
         except OSError as error:

@@ -1,4 +1,5 @@
-"""The lines that the file of a plan asks for: each revision that the plan names last is deployed once."""
+"""The lines that the file of a plan asks for: each revision that the plan names last is deployed
+once."""
 from bg_switch_tools.controller.kept_ports import why_refused
 from bg_switch_tools.controller.line_source import SourceParts
 from bg_switch_tools.controller.plan import Plan, PlannedRevision
@@ -7,8 +8,8 @@ from bg_switch_tools.switch.reports import Report
 
 
 class PlanLines:
-    """The source of lines of a controller that has a plan of its own. What is undone by hand stays undone until the plan names
-    another revision last."""
+    """The source of lines of a controller that has a plan of its own. What is undone by hand stays
+    undone until the plan names another revision last."""
 
     def __init__(self, parts: SourceParts) -> None:
         self.log = parts.log
@@ -22,7 +23,8 @@ class PlanLines:
         return self.memory.to_open(plan)
 
     def take_opened(self, plan: Plan, opened: PlannedRevision) -> PlannedRevision | None:
-        """The plan's last revision is deployed again after an opening where its attempt ran and nobody had undone it."""
+        """The plan's last revision is deployed again after an opening where its attempt ran and
+        nobody had undone it."""
         state, last = self.memory.state, plan.last
         if state.deployed == last and state.attempt == last:
             self.log.say("plan", f"the attempt of {last.name}, which ran, is begun again")
@@ -37,8 +39,8 @@ class PlanLines:
         """The state file knows what was deployed."""
 
     def take_report(self, plan: Plan, report: Report) -> None:
-        """Without a state file, a book that is open is gone on with as it stands. What somebody else has deployed again needs no
-        deploy by the plan."""
+        """Without a state file, a book that is open is gone on with as it stands. What somebody
+        else has deployed again needs no deploy by the plan."""
         last = plan.last
         self.history.take_plan(last, self.memory.state.deployed)
         existing = report.named(last.name)
@@ -46,31 +48,44 @@ class PlanLines:
             if self._is_unnoted(plan, report) and self.memory.kept.get(last.name) == last:
                 self.memory.set_deployed(last)
                 self.held.accept(plan)
-            is_known = last.name in self.memory.kept or last in [each.revision for each in self.memory.state.held]
+            is_known = last.name in self.memory.kept or last in [
+                each.revision for each in self.memory.state.held
+            ]
             is_asked = self._is_unnoted(plan, report) and not is_known and not self.pause.is_on
             self.memory.asked = last.name if is_asked else ""
             return
         if existing is None:
             self.log.say("plan", f"{last.name} does not exist yet, so it is deployed")
         elif existing != report.newest:
-            self.log.say("plan", f"{last.name} exists and is not the newest revision, so it counts as undone and not deployed")
+            self.log.say(
+                "plan",
+                f"{last.name} exists and is not the newest revision, so it counts as undone and not deployed",
+            )
         self.memory.set_deployed(last if existing and existing != report.newest else None)
 
     def coming(self, plan: Plan, report: Report) -> PlannedRevision | None:
-        """The plan's last revision, where it is to be deployed: once, so that what is undone by hand stays undone until the plan
-        names another, and never with other ports than its name has."""
+        """The plan's last revision, where it is to be deployed: once, so that what is undone by
+        hand stays undone until the plan names another, and never with other ports than its name
+        has."""
         last = plan.last
-        if last == self.memory.state.deployed or report.newest.name == last.name or why_refused(last, self.memory.kept):
+        if (
+            last == self.memory.state.deployed
+            or report.newest.name == last.name
+            or why_refused(last, self.memory.kept)
+        ):
             return None
         return last
 
     def _is_unnoted(self, plan: Plan, report: Report) -> bool:
-        """Whether the newest revision has the name of the plan's last one, which was not deployed by the plan."""
+        """Whether the newest revision has the name of the plan's last one, which was not deployed
+        by the plan."""
         return report.newest.name == plan.last.name and plan.last != self.memory.state.deployed
 
     def next_line(self, plan: Plan, report: Report) -> str | None:
-        """Deploys the plan's last revision, once its endpoints were started. A report has no ports: whether the newest revision,
-        which somebody else has deployed, has those of the plan, the same line asks, which changes nothing then."""
+        """Deploys the plan's last revision, once its endpoints were started. A report has no ports:
+        whether the newest revision, which somebody else has deployed, has those of the plan, the
+        same line asks, which changes nothing then.
+        """
         if self.pause.is_on:
             return None
         if self._is_unnoted(plan, report):

@@ -1,4 +1,5 @@
-"""The text of a plan: JSON, or YAML where Debian's python3-yaml is installed. Both give the same values."""
+"""The text of a plan: JSON, or YAML where Debian's python3-yaml is installed. Both give the same
+values."""
 import importlib
 from typing import Any
 
@@ -23,7 +24,12 @@ def _value(yaml: Any, loader: Any, node: Any, depth: int) -> object:
         raise ValueError(f"it is nested more than {DEEPEST} levels deep")
     line = f"line {node.start_mark.line + 1}"
     if isinstance(node, yaml.MappingNode) and node.tag == MAP:
-        return JsonObject([(_key(loader, key), _value(yaml, loader, value, depth + 1)) for key, value in node.value])
+        return JsonObject(
+            [
+                (_key(loader, key), _value(yaml, loader, value, depth + 1))
+                for key, value in node.value
+            ]
+        )
     if isinstance(node, yaml.SequenceNode) and node.tag == LIST:
         return [_value(yaml, loader, one, depth + 1) for one in node.value]
     if node.tag not in SCALARS:
@@ -40,7 +46,8 @@ def _key(loader: Any, node: Any) -> str:
 
 
 def _value_of_yaml(yaml: Any, text: bytes) -> object:
-    """The value of a text in YAML. `ValueError` where it is none, or has what JSON does not have."""
+    """The value of a text in YAML. `ValueError` where it is none, or has what JSON does not
+    have."""
     try:
         loader = yaml.SafeLoader(text.decode("utf-8"))
         if any(isinstance(event, yaml.AliasEvent) for event in yaml.parse(text.decode("utf-8"))):
@@ -50,13 +57,16 @@ def _value_of_yaml(yaml: Any, text: bytes) -> object:
     except yaml.YAMLError as error:
         mark = getattr(error, "problem_mark", None)
         place = f" in line {mark.line + 1}" if mark else ""
-        raise ValueError(f"{getattr(error, 'problem', None) or 'a character is not allowed'}{place}") from None
+        raise ValueError(
+            f"{getattr(error, 'problem', None) or 'a character is not allowed'}{place}"
+        ) from None
     except RecursionError:
         raise ValueError("it is nested too deep") from None
 
 
 def value_of(text: bytes) -> object:
-    """The value of a plan's text. `ValueError` where it is neither JSON nor YAML; a text that begins with a bracket is JSON."""
+    """The value of a plan's text. `ValueError` where it is neither JSON nor YAML; a text that
+    begins with a bracket is JSON."""
     try:
         return decoded(text)
     except ValueError as error:
@@ -64,7 +74,9 @@ def value_of(text: bytes) -> object:
             raise ValueError(f"it is not JSON: {error}") from None
         yaml = _yaml()
         if yaml is None:
-            raise ValueError(f"it is not JSON: {error}; YAML is read only where python3-yaml is installed") from None
+            raise ValueError(
+                f"it is not JSON: {error}; YAML is read only where python3-yaml is installed"
+            ) from None
     try:
         return _value_of_yaml(yaml, text)
     except ValueError as error:

@@ -1,7 +1,8 @@
 """The request of a probe: a GET by http.client, whose response has to come whole and in time.
 
-http.client alone takes a head that is cut for one that has ended, ignores a length that is not a number, and limits each read but
-not the whole. The switch answers 502 for such responses, and so a probe has to notice them.
+http.client alone takes a head that is cut for one that has ended, ignores a length that is not a
+number, and limits each read but not the whole. The switch answers 502 for such responses, and so a
+probe has to notice them.
 """
 import asyncio
 import concurrent.futures
@@ -25,7 +26,9 @@ class Malformed(http.client.HTTPException):
 
 
 class Lines(io.BufferedReader):
-    """The lines of a response: each has an end, and at most `most` follow one another without an empty one."""
+    """The lines of a response: each has an end, and at most `most` follow one another without an
+    empty one."""
+
     most: float = 1 + MOST_FIELDS  # the line of the status, and the fields
     count = 0
 
@@ -40,7 +43,13 @@ class Lines(io.BufferedReader):
 class Response(http.client.HTTPResponse):
     """A response whose head and body have to be whole."""
 
-    def __init__(self, sock: socket.socket, debuglevel: int = 0, method: str | None = None, url: str | None = None) -> None:
+    def __init__(
+        self,
+        sock: socket.socket,
+        debuglevel: int = 0,
+        method: str | None = None,
+        url: str | None = None,
+    ) -> None:
         super().__init__(sock, debuglevel, method, url)
         self.fp = self.lines = Lines(self.fp.detach())
 
@@ -51,7 +60,11 @@ class Response(http.client.HTTPResponse):
             self.headers = self.msg = None  # type: ignore[assignment]  # so that another head is read
             super().begin()
         self.lines.most = math.inf  # what follows are the lines of chunks
-        if self.length is None and not self.chunked and {"content-length", "transfer-encoding"} & set(map(str.lower, self.headers)):
+        if (
+            self.length is None
+            and not self.chunked
+            and {"content-length", "transfer-encoding"} & set(map(str.lower, self.headers))
+        ):
             raise Malformed  # a length that is not a number, or a coding that is not `chunked` alone
 
     def drop_body(self) -> None:
@@ -69,7 +82,11 @@ def _get(connected: socket.socket, port: int, path: str) -> int:
     connection.sock = connected
     with contextlib.closing(connection):
         connection.putrequest("GET", path, skip_accept_encoding=True)
-        for name, value in (("User-Agent", "bg-switch-controller"), ("Accept", "*/*"), ("Connection", "close")):
+        for name, value in (
+            ("User-Agent", "bg-switch-controller"),
+            ("Accept", "*/*"),
+            ("Connection", "close"),
+        ):
             connection.putheader(name, value)
         connection.endheaders()
         with contextlib.closing(connection.getresponse()) as response:
@@ -92,9 +109,9 @@ async def _connected(port: int) -> socket.socket:
 
 
 async def status_of(port: int, health: Health) -> int:
-    """The status that an endpoint answers a probe with. `TimeoutError` where the whole takes longer than the limit. The connection
-    is cut then, and where the caller is cancelled, so that no thread waits for it any more. `RuntimeError` where no thread can be
-    started."""
+    """The status that an endpoint answers a probe with. `TimeoutError` where the whole takes longer
+    than the limit. The connection is cut then, and where the caller is cancelled, so that no thread
+    waits for it any more. `RuntimeError` where no thread can be started."""
     async with asyncio.timeout(health.timeout):
         connected = await _connected(port)
         try:

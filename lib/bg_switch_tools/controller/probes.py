@@ -1,4 +1,5 @@
-"""Which endpoints are up. An event loop begins and ends the probes, so that no endpoint delays another's."""
+"""Which endpoints are up. An event loop begins and ends the probes, so that no endpoint delays
+another's."""
 import asyncio
 import contextlib
 import errno
@@ -10,13 +11,15 @@ from collections.abc import Collection, Iterable, Sequence
 from bg_switch_tools.controller.plan import Health
 from bg_switch_tools.controller.probe_request import status_of
 
-# Where the system refuses the controller itself a descriptor or memory, a probe says nothing of its endpoint.
+# Where the system refuses the controller itself a descriptor or memory, a probe says nothing of its
+# endpoint.
 OWN_FAULTS = (errno.EMFILE, errno.ENFILE, errno.ENOBUFS, errno.ENOMEM)
 END = 1.0  # seconds within which the probes that run are cut
 
 
 async def is_up(port: int, health: Health) -> bool | None:
-    """Whether an endpoint answers whole, with a status from 200 to 399, within the limit; None where no probe could be made."""
+    """Whether an endpoint answers whole, with a status from 200 to 399, within the limit; None
+    where no probe could be made."""
     try:
         return 200 <= await status_of(port, health) < 400
     except OSError as error:
@@ -33,8 +36,12 @@ class Probes:
     def __init__(self) -> None:
         self.health = Health()
         self.failed: dict[int, int] = {}  # by port: failures in a row, once a probe has ended
-        self.failing_since: dict[int, float] = {}  # by port: when the first of the failures in a row was seen
-        self.generation: dict[int, int] = {}  # by port: how often what was known of it was forgotten
+        self.failing_since: dict[
+            int, float
+        ] = {}  # by port: when the first of the failures in a row was seen
+        self.generation: dict[
+            int, int
+        ] = {}  # by port: how often what was known of it was forgotten
         self.tasks: dict[int, asyncio.Task[None]] = {}
         self.watched: frozenset[int] = frozenset()
         self.loop = asyncio.new_event_loop()
@@ -80,7 +87,8 @@ class Probes:
             await asyncio.sleep(begun + self.health.interval - self.loop.time())
 
     def _take_in(self, port: int, up: bool | None) -> None:
-        """The first probe alone decides; later on an endpoint is down after so many failures in a row."""
+        """The first probe alone decides; later on an endpoint is down after so many failures in a
+        row."""
         if up is True:
             self.failed[port] = 0
             self.failing_since.pop(port, None)
@@ -89,7 +97,8 @@ class Probes:
             self.failed[port] = self.failed.get(port, self.health.failures) + 1
 
     def forget(self, port: int) -> None:
-        """What is known of an endpoint holds no longer, since a command starts or stops it: its next probe decides alone."""
+        """What is known of an endpoint holds no longer, since a command starts or stops it: its
+        next probe decides alone."""
         self.generation[port] = self.generation.get(port, 0) + 1
         self.failed.pop(port, None)
 
@@ -114,8 +123,9 @@ class Probes:
         return None if downs is None else downs.count(False)
 
     def outage(self, ports: Sequence[int]) -> float:
-        """For how many seconds no probe of these endpoints has succeeded, where all of them are down; else 0. The seconds count
-        from the first failed probe of the endpoint that failed last."""
+        """For how many seconds no probe of these endpoints has succeeded, where all of them are
+        down; else 0. The seconds count from the first failed probe of the endpoint that failed
+        last."""
         since = [self.failing_since.get(port) for port in ports]
         if not ports or None in since or not all(self.is_down(port) for port in ports):
             return 0.0

@@ -1,4 +1,5 @@
-"""Commands that run in a session of their own, so that they end together with what they have started (setsid(2), kill(2))."""
+"""Commands that run in a session of their own, so that they end together with what they have
+started (setsid(2), kill(2))."""
 import contextlib
 import dataclasses
 import os
@@ -8,20 +9,28 @@ import threading
 import time
 from collections.abc import Mapping, Sequence
 
-TO_STDERR = 2  # the descriptor that a command prints to, since the log alone stands on standard output
+TO_STDERR = (
+    2  # the descriptor that a command prints to, since the log alone stands on standard output
+)
 LOOK = 0.02  # seconds between two looks at whether a group has ended
-SESSION, START_TIME = 3, 19  # places in /proc/PID/stat behind the name of the program (proc(5): fields 6 and 22)
+SESSION, START_TIME = (
+    3,
+    19,
+)  # places in /proc/PID/stat behind the name of the program (proc(5): fields 6 and 22)
 
 
 @dataclasses.dataclass(frozen=True)
 class ProcessId:
-    """A process by its number, and its start in clock ticks since the system's: a number is given again, the two are not."""
+    """A process by its number, and its start in clock ticks since the system's: a number is given
+    again, the two are not."""
+
     pid: int
     start: int
 
 
 def _stat(pid: int) -> list[str] | None:
-    """The fields of /proc/PID/stat from the state on, or None where the process is not there, or has ended."""
+    """The fields of /proc/PID/stat from the state on, or None where the process is not there, or
+    has ended."""
     try:
         with open(f"/proc/{pid}/stat", "rb") as file:
             fields = file.read().rpartition(b")")[2].decode("ascii", "replace").split()
@@ -48,8 +57,10 @@ def is_running(process: ProcessId) -> bool:
 
 
 def has_members(process: ProcessId) -> bool:
-    """Whether the leader of a session, or a process that it has left behind, runs. A number stands for the session for as long
-    as a member of it runs, so another process that has the number tells that the session is over."""
+    """Whether the leader of a session, or a process that it has left behind, runs. A number stands
+    for the session for as long as a member of it runs, so another process that has the number tells
+    that the session is over.
+    """
     found = identity(process.pid)
     return found == process if found else bool(members(process.pid))
 
@@ -60,7 +71,8 @@ def _signal(group: int, number: int) -> None:
 
 
 def end_session(process: ProcessId, grace: float) -> None:
-    """Sends SIGTERM to a session, and after `grace` seconds SIGKILL to what is left of it. Returns once that is sent."""
+    """Sends SIGTERM to a session, and after `grace` seconds SIGKILL to what is left of it. Returns
+    once that is sent."""
     if not has_members(process):
         return
     _signal(process.pid, signal.SIGTERM)
@@ -79,17 +91,25 @@ def begin_end(process: ProcessId, grace: float) -> threading.Thread:
 
 
 class Group:
-    """A command that runs as the leader of a session. Its number stays its own up to `reap` or the end of `stop`."""
+    """A command that runs as the leader of a session. Its number stays its own up to `reap` or the
+    end of `stop`."""
 
     def __init__(self, command: Sequence[str], folder: str, variables: Mapping[str, str]) -> None:
         """Starts it in a folder. `OSError` or `ValueError` where it can't be run."""
-        self.process = subprocess.Popen(command, cwd=folder, env={**os.environ, **variables}, stdin=subprocess.DEVNULL,
-                                        stdout=TO_STDERR, start_new_session=True)
+        self.process = subprocess.Popen(
+            command,
+            cwd=folder,
+            env={**os.environ, **variables},
+            stdin=subprocess.DEVNULL,
+            stdout=TO_STDERR,
+            start_new_session=True,
+        )
         fields = _stat(self.process.pid)
         self.id = ProcessId(self.process.pid, int(fields[START_TIME]) if fields else 0)
 
     def status(self) -> int | None:
-        """The exit status, the signal below 0, or None while the command runs. The process is not reaped."""
+        """The exit status, the signal below 0, or None while the command runs. The process is not
+        reaped."""
         if self.process.returncode is not None:
             return self.process.returncode
         ended = os.waitid(os.P_PID, self.process.pid, os.WEXITED | os.WNOHANG | os.WNOWAIT)
@@ -102,7 +122,8 @@ class Group:
         self.process.wait()
 
     def stop(self, grace: float) -> threading.Thread:
-        """Ends the command and what it has started: SIGTERM, and after `grace` seconds SIGKILL. The thread ends with them."""
+        """Ends the command and what it has started: SIGTERM, and after `grace` seconds SIGKILL. The
+        thread ends with them."""
         thread = threading.Thread(target=self._stop, args=(grace,), daemon=True)
         thread.start()
         return thread

@@ -1,11 +1,15 @@
 """Whether an attempt makes progress, as Argo Rollouts' `progressDeadlineSeconds` asks."""
 from bg_switch_tools.switch.reports import Report
 
-WAITS = ("scaling", "sizing")  # the phases that wait for endpoints; a pause and an analysis do not count
+WAITS = (
+    "scaling",
+    "sizing",
+)  # the phases that wait for endpoints; a pause and an analysis do not count
 
 
 class ProgressClock:
-    """Since when the attempt that runs has waited for endpoints without one more of them having come up."""
+    """Since when the attempt that runs has waited for endpoints without one more of them having
+    come up."""
 
     def __init__(self) -> None:
         self.attempt: tuple[str, int] | None = None  # the phase and the number of the revision
@@ -13,7 +17,8 @@ class ProgressClock:
         self.since = 0.0
 
     def waited(self, report: Report, now: float) -> float:
-        """For how many seconds there was no progress by this report, at the time `now`. 0 in a phase that waits for none."""
+        """For how many seconds there was no progress by this report, at the time `now`. 0 in a
+        phase that waits for none."""
         newest = report.newest
         attempt = (report.phase, newest.number) if report.phase in WAITS else None
         if attempt is None or attempt != self.attempt or newest.available > self.most:

@@ -1,4 +1,5 @@
-"""What a controller remembers beside its plan, so that it outlives a crash of the switch, of itself, and of both."""
+"""What a controller remembers beside its plan, so that it outlives a crash of the switch, of
+itself, and of both."""
 import contextlib
 import dataclasses
 import fcntl
@@ -17,17 +18,32 @@ GREATEST_MOMENT = 1 << 53
 GREATEST_TIME = 1 << 40  # seconds of Unix time, and above each number and start of a process
 MOST_STARTED = 1000  # revisions, and commands that run at a time
 TOUCH = 1.0  # seconds between two touches of the lock's file
-LONGEST_LOOK, LOCK_PAUSE = 0.5, 0.02  # seconds for which the lock is tried for, and between two tries
+LONGEST_LOOK, LOCK_PAUSE = (
+    0.5,
+    0.02,
+)  # seconds for which the lock is tried for, and between two tries
 LONGEST_REASON = 1000  # characters
 MISSING = "is not there"  # what is the matter with a file that does not exist
 NEEDED = ("moment", "stable", "deployed", "attempt")
 # the keys that a file of an earlier controller has not
-LATER = ("since", "analysis", "started", "commands", "former", "ports", "held", "unknown", "failing")
+LATER = (
+    "since",
+    "analysis",
+    "started",
+    "commands",
+    "former",
+    "ports",
+    "held",
+    "unknown",
+    "failing",
+)
 
 
 @dataclasses.dataclass(frozen=True)
 class HeldBack:
-    """A revision of the plan that is not deployed, or whose ports in the plan are not used, and why."""
+    """A revision of the plan that is not deployed, or whose ports in the plan are not used, and
+    why."""
+
     revision: PlannedRevision
     reason: str
 
@@ -35,19 +51,26 @@ class HeldBack:
         return f"{self.revision.name} is held back: {self.reason}"
 
     def as_json(self) -> dict[str, object]:
-        return {"name": self.revision.name, "ports": list(self.revision.ports), "reason": self.reason}
+        return {
+            "name": self.revision.name,
+            "ports": list(self.revision.ports),
+            "reason": self.reason,
+        }
 
 
 @dataclasses.dataclass(frozen=True)
 class State:
-    """`stable` is the revision that was stable last, of those whose ports are known. `deployed` is the plan's last revision
-    that was deployed because the plan names it. `attempt` is the newest revision while its attempt runs. `since` is the time at
-    which the moment was 0, in seconds of the system's clock (0 where that is not known). `analysis` is the process of the
-    analysis that runs. `started` are the revisions that were started and not stopped yet, `commands` the processes of the
-    commands that start and stop them and run. `former` are the control ports that the plan named before. `ports` are the
-    revisions of the book whose ports are known for sure, `held` those of the plan that are held back. `unknown` is the name of the
-    stable revision where its ports are not known, and those of none before are; else it is empty. `failing` are the revisions whose
-    command `start` has failed and has not succeeded since."""
+    """`stable` is the revision that was stable last, of those whose ports are known. `deployed` is
+    the plan's last revision that was deployed because the plan names it. `attempt` is the newest
+    revision while its attempt runs. `since` is the time at which the moment was 0, in seconds of
+    the system's clock (0 where that is not known). `analysis` is the process of the analysis that
+    runs. `started` are the revisions that were started and not stopped yet, `commands` the
+    processes of the commands that start and stop them and run. `former` are the control ports that
+    the plan named before. `ports` are the revisions of the book whose ports are known for sure,
+    `held` those of the plan that are held back. `unknown` is the name of the stable revision where
+    its ports are not known, and those of none before are; else it is empty. `failing` are the
+    revisions whose command `start` has failed and has not succeeded since."""
+
     moment: int = 0
     stable: PlannedRevision | None = None
     deployed: PlannedRevision | None = None
@@ -64,12 +87,14 @@ class State:
 
     @property
     def names(self) -> list[str]:
-        """The names of the revisions that were stable and deployed last, each once: none before a book was open."""
+        """The names of the revisions that were stable and deployed last, each once: none before a
+        book was open."""
         known = [revision.name for revision in (self.stable, self.deployed) if revision]
         return list(dict.fromkeys([*([self.unknown] if self.unknown else []), *known]))
 
     def belongs_to(self, plan: Plan) -> bool:
-        """Whether this was written for this plan: the plan has one of the names, or there is none yet."""
+        """Whether this was written for this plan: the plan has one of the names, or there is none
+        yet."""
         return not self.names or any(plan.named(name) for name in self.names)
 
     def keeps(self, other: "State") -> bool:
@@ -91,32 +116,58 @@ def _told_held(held: tuple[HeldBack, ...]) -> object:
 
 def written(state: State) -> bytes:
     """The bytes of a state file."""
-    return (json.dumps({
-        "moment": state.moment, "stable": _told(state.stable), "deployed": _told(state.deployed), "attempt": _told(state.attempt),
-        "since": state.since, "analysis": state.analysis and dataclasses.asdict(state.analysis),
-        "started": [_told(revision) for revision in state.started],
-        "commands": [dataclasses.asdict(command) for command in state.commands], "former": list(state.former),
-        "ports": [_told(revision) for revision in state.ports],
-        "held": _told_held(state.held), "unknown": state.unknown, "failing": _told_held(state.failing)}, indent=1) + "\n").encode("ascii")
+    return (
+        json.dumps(
+            {
+                "moment": state.moment,
+                "stable": _told(state.stable),
+                "deployed": _told(state.deployed),
+                "attempt": _told(state.attempt),
+                "since": state.since,
+                "analysis": state.analysis and dataclasses.asdict(state.analysis),
+                "started": [_told(revision) for revision in state.started],
+                "commands": [dataclasses.asdict(command) for command in state.commands],
+                "former": list(state.former),
+                "ports": [_told(revision) for revision in state.ports],
+                "held": _told_held(state.held),
+                "unknown": state.unknown,
+                "failing": _told_held(state.failing),
+            },
+            indent=1,
+        )
+        + "\n"
+    ).encode("ascii")
 
 
 def _read_revision(judge: Judge, told: object, place: str) -> PlannedRevision:
     members = judge.members(told, place, ("name", "ports"), ("name", "ports"))
-    return PlannedRevision(judge.member(members, "name", place, judge.name, ""),
-                           judge.member(members, "ports", place, judge.ports, ()))
+    return PlannedRevision(
+        judge.member(members, "name", place, judge.name, ""),
+        judge.member(members, "ports", place, judge.ports, ()),
+    )
 
 
 def _read_process(judge: Judge, told: object, place: str) -> ProcessId:
     members = judge.members(told, place, ("pid", "start"), ("pid", "start"))
-    pid, start = (judge.member(members, key, place, lambda value, at: judge.whole_number(value, at, least, GREATEST_TIME), 2)
-                  for key, least in (("pid", 2), ("start", 0)))
+    pid, start = (
+        judge.member(
+            members,
+            key,
+            place,
+            lambda value, at: judge.whole_number(value, at, least, GREATEST_TIME),
+            2,
+        )
+        for key, least in (("pid", 2), ("start", 0))
+    )
     return ProcessId(pid, start)
 
 
 def _read_held(judge: Judge, told: object, place: str) -> HeldBack:
     members = judge.members(told, place, ("revision", "reason"), ("revision", "reason"))
     reason = judge.member(members, "reason", place, judge.text, "")
-    return HeldBack(_read_revision(judge, members.get("revision"), f"{place}.revision"), reason[:LONGEST_REASON])
+    return HeldBack(
+        _read_revision(judge, members.get("revision"), f"{place}.revision"), reason[:LONGEST_REASON]
+    )
 
 
 def _read_list(judge: Judge, told: object, place: str) -> list[object]:
@@ -127,28 +178,52 @@ def _read_list(judge: Judge, told: object, place: str) -> list[object]:
 
 
 def _read_values(judge: Judge, members: JsonObject) -> State:
-    stable, deployed, attempt = (None if members[key] is None else _read_revision(judge, members[key], key) for key in NEEDED[1:])
+    stable, deployed, attempt = (
+        None if members[key] is None else _read_revision(judge, members[key], key)
+        for key in NEEDED[1:]
+    )
     started = _read_list(judge, members.get("started", []), "started")
     commands = _read_list(judge, members.get("commands", []), "commands")
     ports = _read_list(judge, members.get("ports", []), "ports")
-    held, failing = ([_read_held(judge, one, f"{key}[{number}]") for number, one in enumerate(_read_list(judge, members.get(key, []), key))]
-                     for key in ("held", "failing"))
+    held, failing = (
+        [
+            _read_held(judge, one, f"{key}[{number}]")
+            for number, one in enumerate(_read_list(judge, members.get(key, []), key))
+        ]
+        for key in ("held", "failing")
+    )
     # an earlier controller has opened and deployed these, and kept no other ports
-    earlier = () if "ports" in members else tuple(dict.fromkeys(filter(None, (deployed, attempt, stable))))
+    earlier = (
+        ()
+        if "ports" in members
+        else tuple(dict.fromkeys(filter(None, (deployed, attempt, stable))))
+    )
     analysis = members.get("analysis")
     return State(
-        judge.whole_number(members["moment"], "moment", 0, GREATEST_MOMENT), stable, deployed, attempt,
+        judge.whole_number(members["moment"], "moment", 0, GREATEST_MOMENT),
+        stable,
+        deployed,
+        attempt,
         judge.whole_number(members.get("since", 0), "since", 0, GREATEST_TIME),
         None if analysis is None else _read_process(judge, analysis, "analysis"),
-        tuple(_read_revision(judge, one, f"started[{number}]") for number, one in enumerate(started)),
-        tuple(_read_process(judge, one, f"commands[{number}]") for number, one in enumerate(commands)),
+        tuple(
+            _read_revision(judge, one, f"started[{number}]") for number, one in enumerate(started)
+        ),
+        tuple(
+            _read_process(judge, one, f"commands[{number}]") for number, one in enumerate(commands)
+        ),
         judge.ports(members["former"], "former") if members.get("former") else (),
-        earlier + tuple(_read_revision(judge, one, f"ports[{number}]") for number, one in enumerate(ports)),
-        tuple(held), judge.name(members["unknown"], "unknown") if members.get("unknown") else "", tuple(failing))
+        earlier
+        + tuple(_read_revision(judge, one, f"ports[{number}]") for number, one in enumerate(ports)),
+        tuple(held),
+        judge.name(members["unknown"], "unknown") if members.get("unknown") else "",
+        tuple(failing),
+    )
 
 
 def read_state(text: bytes) -> State:
-    """The state of a file's bytes. `NoState` where they are cut, or are none: a name and ports of it are those of a plan."""
+    """The state of a file's bytes. `NoState` where they are cut, or are none: a name and ports of
+    it are those of a plan."""
     judge = Judge()
     if not text.strip():
         raise NoState("is empty")
@@ -167,7 +242,8 @@ def read_state(text: bytes) -> State:
 
 
 def write_whole(path: str, text: bytes) -> None:
-    """Puts a file in place, so that a reader, also one after a crash, finds either the one before or this one."""
+    """Puts a file in place, so that a reader, also one after a crash, finds either the one before
+    or this one."""
     fresh = f"{path}.new"
     with open(fresh, "wb") as file:
         file.write(text)
@@ -189,15 +265,16 @@ def _why_neither(file: str, copy: str) -> str:
 
 
 class StateFile:
-    """The state file of a plan, and a copy of it, which is read where the file itself can't be used."""
+    """The state file of a plan, and a copy of it, which is read where the file itself can't be
+    used."""
 
     def __init__(self, plan_path: str) -> None:
         self.path = plan_path + SUFFIX
         self.copy = self.path + COPY
 
     def read(self) -> tuple[State, str]:
-        """The state, and why that of the copy was taken; an empty text where it is that of the file itself. `NoState` where
-        neither can be used."""
+        """The state, and why that of the copy was taken; an empty text where it is that of the file
+        itself. `NoState` where neither can be used."""
         try:
             return self._read_one(self.path), ""
         except NoState as reason:
@@ -218,7 +295,8 @@ class StateFile:
             raise NoState(f"can't be read: {error.strerror}") from None
 
     def write(self, state: State) -> None:
-        """Writes the file and its copy, one after the other. `OSError` where the folder takes no file."""
+        """Writes the file and its copy, one after the other. `OSError` where the folder takes no
+        file."""
         text = written(state)
         write_whole(self.path, text)
         write_whole(self.copy, text)
@@ -229,12 +307,12 @@ class IsLocked(Exception):
 
 
 class StateLock:
-    """The lock of a plan's state (flock(2)): one controller has it. The system lets it go when the process ends, however. The time
-    of the file's last change shows that its holder goes on."""
+    """The lock of a plan's state (flock(2)): one controller has it. The system lets it go when the
+    process ends, however. The time of the file's last change shows that its holder goes on."""
 
     def __init__(self, plan_path: str, other: str = "another controller runs this plan") -> None:
-        """Takes the lock. `IsLocked` where another process has it, which is told as `other`; `OSError` where the folder takes no
-        file."""
+        """Takes the lock. `IsLocked` where another process has it, which is told as `other`;
+        `OSError` where the folder takes no file."""
         self.path = plan_path + SUFFIX + LOCK
         self.descriptor = os.open(self.path, os.O_RDWR | os.O_CREAT, 0o644)
         self.next = 0.0  # from when on the file is touched again
@@ -246,7 +324,8 @@ class StateLock:
         os.write(self.descriptor, f"{os.getpid()}\n".encode("ascii"))
 
     def _is_taken(self) -> bool:
-        """Tries for a moment: who looks at whether a controller runs has the lock for less than that."""
+        """Tries for a moment: who looks at whether a controller runs has the lock for less than
+        that."""
         deadline = time.monotonic() + LONGEST_LOOK
         while True:
             try:

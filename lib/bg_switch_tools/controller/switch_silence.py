@@ -5,7 +5,8 @@ from bg_switch_tools.controller.log import Log
 
 
 class SwitchSilence:
-    """Tells in the log when the switch gives no answer: when that begins, again and again, and when it ends."""
+    """Tells in the log when the switch gives no answer: when that begins, again and again, and when
+    it ends."""
 
     def __init__(self, log: Log, period: float) -> None:
         """`period` are the seconds between two lines of the log while it lasts."""
@@ -25,5 +26,7 @@ class SwitchSilence:
 
     def end(self) -> None:
         if self.lasts:
-            self.log.say("switch", f"answers again, after {time.monotonic() - self.since:.0f} seconds")
+            self.log.say(
+                "switch", f"answers again, after {time.monotonic() - self.since:.0f} seconds"
+            )
         self.lasts = False

@@ -4,11 +4,14 @@ from typing import TypedDict
 from bg_switch_tools.switch.access_log import CLIENT_SERVICES
 from bg_switch_tools.switch.reports import Report
 
-ALARMED = "active"  # the preview service has no endpoint while a new revision starts, which is no fault
+ALARMED = (
+    "active"  # the preview service has no endpoint while a new revision starts, which is no fault
+)
 
 
 class Alarm(TypedDict):
     """An alarm: the service and the revision that it is about, and what it says."""
+
     service: str
     revision: str
     text: str
@@ -20,7 +23,8 @@ def has_endpoint(report: Report, service: str) -> bool:
 
 
 def without_endpoint(report: Report) -> dict[str, bool]:
-    """For each service of clients, whether the revision that it selects has no available endpoint."""
+    """For each service of clients, whether the revision that it selects has no available
+    endpoint."""
     return {service: not has_endpoint(report, service) for service in CLIENT_SERVICES}
 
 

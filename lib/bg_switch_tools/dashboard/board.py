@@ -20,8 +20,10 @@ MOST_OF_A_BATCH = 20  # failed requests that one look adds
 
 
 class Happening(TypedDict):
-    """Something that happened. `kind` is `switch`, `abort`, `change`, `order`, `alarm`, `silence`, `answer`, `controller`, `log` or
-    `fault`; `mark` is the text of its mark in the charts, where it has one."""
+    """Something that happened. `kind` is `switch`, `abort`, `change`, `order`, `alarm`, `silence`,
+    `answer`, `controller`, `log` or `fault`; `mark` is the text of its mark in the charts, where it
+    has one."""
+
     id: int
     time: float
     moment: int | None
@@ -34,13 +36,18 @@ class Board:
     """Takes in what is read, and tells all of it, or what has changed since the time before."""
 
     def __init__(self, control: int, log_path: str, is_read_only: bool, plan: str = "") -> None:
-        """`plan` is the path of the plan of the switch's controller; empty where that is not looked at."""
+        """`plan` is the path of the plan of the switch's controller; empty where that is not looked
+        at."""
         self.control = control
         self.log_path = log_path
         self.is_read_only = is_read_only
         self.plan = plan
-        self.controller: ControllerView | None = None  # from the first look on, where there is a plan
-        self.session = secrets.token_hex(8)  # by which a page notices that another dashboard has taken the place
+        self.controller: ControllerView | None = (
+            None  # from the first look on, where there is a plan
+        )
+        self.session = secrets.token_hex(
+            8
+        )  # by which a page notices that another dashboard has taken the place
         self.report: Report | None = None
         self.earlier: Report | None = None  # of the same book, before the last one
         self.has_asked = False  # whether the switch has answered before
@@ -60,8 +67,16 @@ class Board:
 
     def say(self, kind: str, text: str, mark: str = "") -> None:
         moment = self.report.moment if self.report else None
-        self.happened.append({"id": self.next_id, "time": round(time.time(), 3), "moment": moment, "kind": kind, "text": text,
-                              "mark": mark})
+        self.happened.append(
+            {
+                "id": self.next_id,
+                "time": round(time.time(), 3),
+                "moment": moment,
+                "kind": kind,
+                "text": text,
+                "mark": mark,
+            }
+        )
         del self.happened[:-MOST_HAPPENED]
         self.next_id += 1
 
@@ -76,26 +91,37 @@ class Board:
         if report is None or is_another:
             self.names = {}
         if report is not None:
-            self.names.update({number: revision.name for number, revision in report.revisions.items()})
+            self.names.update(
+                {number: revision.name for number, revision in report.revisions.items()}
+            )
             self.totals.begin(report)
             self.totals.take_changes(None if is_another else before, report)
             self.attempt.take(report)
         is_first, self.has_asked = not self.has_asked, True
         for change in changes(before, report) if not is_first else []:
-            kind = "switch" if change.startswith("active: ") else "abort" if change.endswith(" -> aborted") else "change"
+            kind = (
+                "switch"
+                if change.startswith("active: ")
+                else "abort"
+                if change.endswith(" -> aborted")
+                else "change"
+            )
             self.say(kind, change, self._mark(kind, report))
         self._say_alarms(None if is_another else before, report)
 
     def _say_alarms(self, before: Report | None, now: Report | None) -> None:
-        """Says which alarms have come between two reports, and which have gone. A book that is new has no endpoint yet, which
-        has no mark."""
+        """Says which alarms have come between two reports, and which have gone. A book that is new
+        has no endpoint yet, which has no mark."""
         was, is_now = alarms(before), alarms(now)
         for alarm in is_now:
             if alarm not in was:
                 self.say("alarm", alarm["text"], "" if before is None else "no endpoint")
         if was and not is_now and now is not None:
             active = now.service("active")
-            self.say("answer", f"an endpoint of {active.name} is up again: {active.available} of {active.desired}")
+            self.say(
+                "answer",
+                f"an endpoint of {active.name} is up again: {active.available} of {active.desired}",
+            )
 
     def take_controller(self, view: ControllerView) -> None:
         """Takes in what the controller tells of its plan."""
@@ -108,10 +134,14 @@ class Board:
         self.controller = view
 
     def take_fault(self, fault: str) -> bool:
-        """Takes in what has ended a look, or with an empty text that none has. Gives whether that is new."""
+        """Takes in what has ended a look, or with an empty text that none has. Gives whether that
+        is new."""
         is_new = fault != self.own_fault
         if is_new and fault:
-            self.say("fault", f"the dashboard could not look at the switch: {fault}; some requests may not be counted")
+            self.say(
+                "fault",
+                f"the dashboard could not look at the switch: {fault}; some requests may not be counted",
+            )
         elif is_new:
             self.say("answer", "the dashboard looks at the switch again")
         self.own_fault = fault
@@ -132,10 +162,15 @@ class Board:
         self.fault = reason
 
     def take_batch(self, batch: Batch, fault: str, is_counted: bool = True) -> None:
-        """Takes in what has come into the log. What stood there before the dashboard began is shown, and not counted."""
-        selected = {service: self._selected(service) if is_counted else "" for service in CLIENT_SERVICES}
+        """Takes in what has come into the log. What stood there before the dashboard began is
+        shown, and not counted."""
+        selected = {
+            service: self._selected(service) if is_counted else "" for service in CLIENT_SERVICES
+        }
         for entry in batch.entries:
-            revision = selected[entry.service] if entry.is_without_endpoint else self.name(entry.revision)
+            revision = (
+                selected[entry.service] if entry.is_without_endpoint else self.name(entry.revision)
+            )
             self.traffic.add(entry, revision)
             if is_counted:
                 self.totals.add(entry, revision)
@@ -145,22 +180,45 @@ class Board:
         self.totals.lost += batch.lost
         self.totals.unreadable += batch.unreadable
         if fault != self.log_fault:
-            self.say("log", f"the log {self.log_path} can't be read: {fault}" if fault else f"the log {self.log_path} is read")
+            self.say(
+                "log",
+                f"the log {self.log_path} can't be read: {fault}"
+                if fault
+                else f"the log {self.log_path} is read",
+            )
         self.log_fault = fault
 
     def _selected(self, service: str) -> str:
-        """The name of the revision that a service has selected in the last two reports; empty where it is none."""
-        if self.report is None or self.earlier is None or self.report.selected[service] != self.earlier.selected[service]:
+        """The name of the revision that a service has selected in the last two reports; empty where
+        it is none."""
+        if (
+            self.report is None
+            or self.earlier is None
+            or self.report.selected[service] != self.earlier.selected[service]
+        ):
             return ""
         return self.report.service(service).name
 
     def _take_failed(self, entries: Sequence[LogEntry], selected: Mapping[str, str]) -> None:
         for entry in entries[-MOST_OF_A_BATCH:]:
-            revision = selected[entry.service] if entry.is_without_endpoint else self.name(entry.revision)
-            self.failed.append({
-                "id": self.next_id, "time": entry.time, "service": entry.service, "revision": revision, "port": entry.port,
-                "method": entry.method, "target": entry.target, "status": entry.status, "end": entry.end, "reason": entry.reason,
-                "duration_ms": entry.duration_ms})
+            revision = (
+                selected[entry.service] if entry.is_without_endpoint else self.name(entry.revision)
+            )
+            self.failed.append(
+                {
+                    "id": self.next_id,
+                    "time": entry.time,
+                    "service": entry.service,
+                    "revision": revision,
+                    "port": entry.port,
+                    "method": entry.method,
+                    "target": entry.target,
+                    "status": entry.status,
+                    "end": entry.end,
+                    "reason": entry.reason,
+                    "duration_ms": entry.duration_ms,
+                }
+            )
             self.next_id += 1
         del self.failed[:-MOST_FAILED]
 
@@ -175,34 +233,61 @@ class Board:
         """All but what is told piece by piece."""
         now, report = time.time(), self.report
         return {
-            "time": now, "session": self.session, "control": self.control, "read_only": self.is_read_only,
+            "time": now,
+            "session": self.session,
+            "control": self.control,
+            "read_only": self.is_read_only,
             "switch": {"answers": not self.fault, "fault": self.fault, "since": self.since},
-            "alarms": alarms(report) if not self.fault else [], "fault": self.own_fault,
+            "alarms": alarms(report) if not self.fault else [],
+            "fault": self.own_fault,
             "controller": self._told_controller(),
-            "log": {"path": self.log_path, "fault": self.log_fault, "lost": self.totals.lost,
-                    "unreadable": self.totals.unreadable},
+            "log": {
+                "path": self.log_path,
+                "fault": self.log_fault,
+                "lost": self.totals.lost,
+                "unreadable": self.totals.unreadable,
+            },
             "report": as_json(report) if report else None,
             "steps": steps(report, self.attempt.seen, self.attempt.failed_at) if report else [],
             "waits_for": WAITS_FOR[report.phase] if report else NO_BOOK,
-            "orders": {command: can and not self.fault and not self.is_read_only for command, can in possible_commands(report).items()},
-            "recent": self.traffic.recent(now)}
+            "orders": {
+                command: can and not self.fault and not self.is_read_only
+                for command, can in possible_commands(report).items()
+            },
+            "recent": self.traffic.recent(now),
+        }
 
     def _told_controller(self) -> dict[str, object] | None:
         if self.controller is None:
             return None
-        return {"plan": self.plan, "life": self.controller.life.life.value,
-                "held_back": [each.as_json() for each in self.controller.held], "faults": self.controller.faults()}
+        return {
+            "plan": self.plan,
+            "life": self.controller.life.life.value,
+            "held_back": [each.as_json() for each in self.controller.held],
+            "faults": self.controller.faults(),
+        }
 
     def state(self) -> dict[str, object]:
         """All that is known."""
         self.traffic.forget(time.time())
-        return {**self.head(), "slot_seconds": SLOT, "kept_seconds": KEPT, "slots": self.traffic.told(list(self.traffic.slots)),
-                "happened": self.happened, "failed": self.failed}
+        return {
+            **self.head(),
+            "slot_seconds": SLOT,
+            "kept_seconds": KEPT,
+            "slots": self.traffic.told(list(self.traffic.slots)),
+            "happened": self.happened,
+            "failed": self.failed,
+        }
 
     def update(self) -> dict[str, object]:
         """What has changed since the time before."""
         self.traffic.forget(time.time())
         known, self.told_up_to = self.told_up_to, self.next_id - 1
-        return {**self.head(), "slots": self.traffic.take_changed(),
-                "happened": [each for each in self.happened if each["id"] > known],
-                "failed": [each for each in self.failed if isinstance(each["id"], int) and each["id"] > known]}
+        return {
+            **self.head(),
+            "slots": self.traffic.take_changed(),
+            "happened": [each for each in self.happened if each["id"] > known],
+            "failed": [
+                each for each in self.failed if isinstance(each["id"], int) and each["id"] > known
+            ],
+        }

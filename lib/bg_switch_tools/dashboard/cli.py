@@ -28,29 +28,65 @@ def listened_port(text: str) -> int:
 
 
 def parser() -> argparse.ArgumentParser:
-    made = argparse.ArgumentParser(prog="dashboard", usage=named(USAGE), description=ABOUT, epilog=named(END),
-                                   formatter_class=argparse.RawDescriptionHelpFormatter)
-    made.add_argument("port", type=port_of, nargs="?", metavar="PORT", help="the control port of the switch")
-    made.add_argument("--fleet", default="", metavar="FLEET.json", help="the fleet file of the fleet, which needs no machine")
-    made.add_argument("--agent-state", default="", metavar="PATH",
-                      help="where the agent of this machine keeps its files, if that is not the folder of the fleet file")
-    made.add_argument("--listen", type=listened_port, required=True, metavar="PORT", help="the port of the page")
-    made.add_argument("--log", default="", metavar="FILE", help="the access log of the switch, BG_SWITCH_ACCESS_LOG")
-    made.add_argument("--plan", default="", metavar="PLAN", help="the plan of the switch's controller, which is shown too")
-    made.add_argument("--read-only", action="store_true", help="the page has no buttons, and no line can be sent through it")
+    made = argparse.ArgumentParser(
+        prog="dashboard",
+        usage=named(USAGE),
+        description=ABOUT,
+        epilog=named(END),
+        formatter_class=argparse.RawDescriptionHelpFormatter,
+    )
+    made.add_argument(
+        "port", type=port_of, nargs="?", metavar="PORT", help="the control port of the switch"
+    )
+    made.add_argument(
+        "--fleet",
+        default="",
+        metavar="FLEET.json",
+        help="the fleet file of the fleet, which needs no machine",
+    )
+    made.add_argument(
+        "--agent-state",
+        default="",
+        metavar="PATH",
+        help="where the agent of this machine keeps its files, if that is not the folder of the fleet file",
+    )
+    made.add_argument(
+        "--listen", type=listened_port, required=True, metavar="PORT", help="the port of the page"
+    )
+    made.add_argument(
+        "--log",
+        default="",
+        metavar="FILE",
+        help="the access log of the switch, BG_SWITCH_ACCESS_LOG",
+    )
+    made.add_argument(
+        "--plan",
+        default="",
+        metavar="PLAN",
+        help="the plan of the switch's controller, which is shown too",
+    )
+    made.add_argument(
+        "--read-only",
+        action="store_true",
+        help="the page has no buttons, and no line can be sent through it",
+    )
     return made
 
 
 def judge(made: argparse.ArgumentParser, given: argparse.Namespace) -> None:
     """Ends with status 2 where the words say nothing that can be shown."""
     if given.port is None and not given.fleet:
-        made.error("name what is shown: the control port of a switch, a fleet file with --fleet, or both")
+        made.error(
+            "name what is shown: the control port of a switch, a fleet file with --fleet, or both"
+        )
     if given.port is None and given.log:
         made.error("--log is the access log of a switch: name its control port too")
     if given.port is None and given.plan:
         made.error("--plan is that of the controller of a switch: name its control port too")
     if given.agent_state and (given.port is None or not given.fleet):
-        made.error("--agent-state is of the agent of a switch: name its control port and the fleet file too")
+        made.error(
+            "--agent-state is of the agent of a switch: name its control port and the fleet file too"
+        )
 
 
 def fleet_file(path: str) -> FleetFile | None:
@@ -69,11 +105,18 @@ def main(words: Sequence[str]) -> int:
         package = PACKAGES.get(str(missing.name).split(".")[0])
         if package is None:
             raise
-        print(f"dashboard: {sys.executable} has no {missing.name}. On Debian: apt-get install {package}, which installs it for "
-              "/usr/bin/python3", file=sys.stderr)
+        print(
+            f"dashboard: {sys.executable} has no {missing.name}. On Debian: apt-get install {package}, which installs it for "
+            "/usr/bin/python3",
+            file=sys.stderr,
+        )
         return 1
     try:
-        board = None if given.port is None else Board(given.port, given.log, given.read_only, given.plan)
+        board = (
+            None
+            if given.port is None
+            else Board(given.port, given.log, given.read_only, given.plan)
+        )
         file = fleet_file(given.fleet)
         agent = local_agent(file, given.agent_state) if file and board else None
         server.run(board, file, agent, given.listen)
@@ -82,6 +125,9 @@ def main(words: Sequence[str]) -> int:
             print(f"dashboard: {given.fleet}: {problem}", file=sys.stderr)
         return 1
     except OSError as error:
-        print(f"dashboard: port {given.listen} cannot be used: {os.strerror(error.errno or 0)}", file=sys.stderr)
+        print(
+            f"dashboard: port {given.listen} cannot be used: {os.strerror(error.errno or 0)}",
+            file=sys.stderr,
+        )
         return 1
     return 0

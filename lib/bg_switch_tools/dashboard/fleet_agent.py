@@ -13,12 +13,13 @@ class LocalAgent:
     """The agent of this machine."""
 
     def __init__(self, file: FleetFile, state: str) -> None:
-        """`state` is where the agent keeps its files, as its own option has it; empty: beside the fleet file."""
+        """`state` is where the agent keeps its files, as its own option has it; empty: beside the
+        fleet file."""
         self.path = path_of(file, pathlib.Path(state or file.folder)) + SUFFIX
 
     def status(self, now: float) -> AgentStatus | None:
-        """What the agent tells; None where there is no file, where it can't be read, and where nobody has kept it up to date at this
-        Unix time."""
+        """What the agent tells; None where there is no file, where it can't be read, and where
+        nobody has kept it up to date at this Unix time."""
         try:
             with open(self.path, "rb") as file:
                 status = read_agent_status(file.read(LARGEST))

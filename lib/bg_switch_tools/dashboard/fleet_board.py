@@ -1,4 +1,5 @@
-"""What the dashboard knows of a fleet: the latest read of its keys, since when each thing is as it is, and what has happened."""
+"""What the dashboard knows of a fleet: the latest read of its keys, since when each thing is as it
+is, and what has happened."""
 import secrets
 import time
 from typing import NamedTuple, TypedDict
@@ -15,7 +16,9 @@ LONGEST_TEXT = 500  # characters of a text of the fleet's keys that are shown
 
 
 class FleetHappening(TypedDict):
-    """Something that happened. `kind` is one of a `FleetChange`, or `silence`, `answer` or `fault`."""
+    """Something that happened. `kind` is one of a `FleetChange`, or `silence`, `answer` or
+    `fault`."""
+
     id: int
     time: float
     kind: str
@@ -23,7 +26,9 @@ class FleetHappening(TypedDict):
 
 
 class Since(NamedTuple):
-    """When something was seen first (Unix time). Where it stood at the first read, it is older: `is_exact` is False."""
+    """When something was seen first (Unix time). Where it stood at the first read, it is older:
+    `is_exact` is False."""
+
     time: float
     is_exact: bool
 
@@ -35,29 +40,42 @@ class Seen:
         self.values: dict[str, tuple[object, Since]] = {}
 
     def take(self, values: dict[str, object], at: float, is_first: bool) -> None:
-        """Takes in all values that there are now. Those that were there at the first read may be older."""
+        """Takes in all values that there are now. Those that were there at the first read may be
+        older."""
         known = self.values
-        self.values = {name: known[name] if name in known and known[name][0] == value else (value, Since(at, not is_first))
-                       for name, value in values.items()}
+        self.values = {
+            name: known[name]
+            if name in known and known[name][0] == value
+            else (value, Since(at, not is_first))
+            for name, value in values.items()
+        }
 
     def since(self, name: str) -> Since:
         return self.values[name][1]
 
 
 def shown_text(text: str) -> str:
-    """A text of the fleet's keys as it is shown: not at any length, and without what changes the text around it."""
+    """A text of the fleet's keys as it is shown: not at any length, and without what changes the
+    text around it."""
     cut = text if len(text) <= LONGEST_TEXT else text[:LONGEST_TEXT] + ".."
     return "".join(each if each.isprintable() else "\N{REPLACEMENT CHARACTER}" for each in cut)
 
 
 class FleetBoard:
-    """Takes in what is read, and tells all of it. Its times are seconds of `unix_time`, and what it measures is of `now`."""
+    """Takes in what is read, and tells all of it. Its times are seconds of `unix_time`, and what it
+    measures is of `now`."""
 
-    def __init__(self, fleet: str, now: Clock = time.monotonic, unix_time: Clock = time.time) -> None:
+    def __init__(
+        self, fleet: str, now: Clock = time.monotonic, unix_time: Clock = time.time
+    ) -> None:
         self.fleet = fleet
         self.now, self.unix_time = now, unix_time
-        self.session = secrets.token_hex(8)  # by which a page notices that another dashboard has taken the place
-        self.state: FleetState | None = None  # of the latest read that was answered; None before the first one
+        self.session = secrets.token_hex(
+            8
+        )  # by which a page notices that another dashboard has taken the place
+        self.state: FleetState | None = (
+            None  # of the latest read that was answered; None before the first one
+        )
         self.read_at: float | None = None  # when that read was
         self.fault = "etcd has not been asked yet"  # why the latest read was not answered; empty where it was
         self.since = unix_time()  # when etcd began to answer, or not to
@@ -65,14 +83,25 @@ class FleetBoard:
         self.own_fault = ""  # what has ended the last look, where it was not expected
         self.own_faults = 0
         self.seen = Seen()
-        self.leaders: dict[int, str] = {}  # hosts by the `created` revision of the leader's key, those that were seen first first
+        self.leaders: dict[
+            int, str
+        ] = (
+            {}
+        )  # hosts by the `created` revision of the leader's key, those that were seen first first
         self.failed_at = ""  # the stage in which the attempt was aborted, where that was seen
         self.happened: list[FleetHappening] = []
         self.next_id = 1
         self.told_up_to = 0
 
     def say(self, kind: str, text: str) -> None:
-        self.happened.append({"id": self.next_id, "time": round(self.unix_time(), 3), "kind": kind, "text": shown_text(text)})
+        self.happened.append(
+            {
+                "id": self.next_id,
+                "time": round(self.unix_time(), 3),
+                "kind": kind,
+                "text": shown_text(text),
+            }
+        )
         del self.happened[:-MOST_HAPPENED]
         self.next_id += 1
 
@@ -86,7 +115,8 @@ class FleetBoard:
         return 0.0 if self.answers else max(self.now() - self.lost_at, 0.0)
 
     def attempt_seconds(self) -> float | None:
-        """For how long the attempt has been in its stage, by the leader's clock and this one; None where that is not known."""
+        """For how long the attempt has been in its stage, by the leader's clock and this one; None
+        where that is not known."""
         record = self.state.record if self.state else None
         return max(self.unix_time() - record.time, 0.0) if record and record.time else None
 
@@ -105,11 +135,15 @@ class FleetBoard:
             self.leaders[state.leader_created] = state.status.leader
             for created in list(self.leaders)[:-MOST_LEADERS]:
                 del self.leaders[created]
-        values: dict[str, object] = {f"machine {host}": machine.state for host, machine in state.machines.items()}
+        values: dict[str, object] = {
+            f"machine {host}": machine.state for host, machine in state.machines.items()
+        }
         self.seen.take({**values, "leader": state.leader}, at, before is None)
         for change in changes(before, state) if before else []:
             self.say(change.kind, change.text)
-        if state.status.problem and (before is None or before.status.problem != state.status.problem):
+        if state.status.problem and (
+            before is None or before.status.problem != state.status.problem
+        ):
             self.say("fault", state.status.problem)
 
     def _take_record(self, before: Record | None, now: Record | None) -> None:
@@ -127,7 +161,8 @@ class FleetBoard:
         self.fault = shown_text(fault)
 
     def take_fault(self, fault: str) -> bool:
-        """Takes in what has ended a look, or with an empty text that none has. Gives whether that is new."""
+        """Takes in what has ended a look, or with an empty text that none has. Gives whether that
+        is new."""
         is_new = fault != self.own_fault
         if is_new and fault:
             self.say("fault", f"the dashboard could not look at the fleet: {fault}")

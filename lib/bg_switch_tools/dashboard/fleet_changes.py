@@ -7,19 +7,32 @@ from bg_switch_tools.fleet.record import ABORTED, PROMOTING, SUCCESSFUL
 from bg_switch_tools.fleet.status import FleetStatus, MemberStatus
 from bg_switch_tools.fleet.status_text import attempt_title
 
-KINDS = {ABORTED: "abort", PROMOTING: "switch", SUCCESSFUL: "switch"}  # of changes to a stage; `change` for others
+KINDS = {
+    ABORTED: "abort",
+    PROMOTING: "switch",
+    SUCCESSFUL: "switch",
+}  # of changes to a stage; `change` for others
 
 
 class FleetChange(NamedTuple):
-    """A change. `kind` is `switch`, `abort`, `change`, `member`, `away`, `leader`, `order` or `plan`."""
+    """A change. `kind` is `switch`, `abort`, `change`, `member`, `away`, `leader`, `order` or
+    `plan`."""
+
     kind: str
     text: str
 
 
 def changes(before: FleetState, now: FleetState) -> list[FleetChange]:
-    """What has changed, in the order in which a reader wants it. What can't be read is no change."""
-    return [*_of_plan(before.status, now.status), *_of_order(before.status, now.status), *_of_record(before.status, now.status),
-            *_of_leader(before, now), *_of_members(before, now), *_of_machines(before, now)]
+    """What has changed, in the order in which a reader wants it. What can't be read is no
+    change."""
+    return [
+        *_of_plan(before.status, now.status),
+        *_of_order(before.status, now.status),
+        *_of_record(before.status, now.status),
+        *_of_leader(before, now),
+        *_of_members(before, now),
+        *_of_machines(before, now),
+    ]
 
 
 def attempt_told(status: FleetStatus) -> str:
@@ -41,16 +54,23 @@ def _of_record(before: FleetStatus, now: FleetStatus) -> Iterator[FleetChange]:
 
 def _of_plan(before: FleetStatus, now: FleetStatus) -> Iterator[FleetChange]:
     if now.plan_id and before.plan_id != now.plan_id:
-        yield FleetChange("plan", f"plan {now.plan_id} was put: {now.plan.last.name if now.plan else 'it cannot be read'}")
+        yield FleetChange(
+            "plan",
+            f"plan {now.plan_id} was put: {now.plan.last.name if now.plan else 'it cannot be read'}",
+        )
     elif before.plan_id and not now.plan_id:
         yield FleetChange("plan", "the plan is gone")
 
 
 def _of_order(before: FleetStatus, now: FleetStatus) -> Iterator[FleetChange]:
     if now.order and now.order != before.order:
-        yield FleetChange("order", f"{now.order.by} orders {now.order.order} for attempt {now.order.attempt}")
+        yield FleetChange(
+            "order", f"{now.order.by} orders {now.order.order} for attempt {now.order.attempt}"
+        )
     elif before.order and now.order is None:
-        yield FleetChange("order", f"the order {before.order.order} of {before.order.by} stands no longer")
+        yield FleetChange(
+            "order", f"the order {before.order.order} of {before.order.by} stands no longer"
+        )
 
 
 def _of_leader(before: FleetState, now: FleetState) -> Iterator[FleetChange]:
@@ -78,13 +98,17 @@ def _of_machines(before: FleetState, now: FleetState) -> Iterator[FleetChange]:
             yield FleetChange("away", f"{host}, no member, is away")
 
 
-def _of_machine(was: MemberStatus | None, now: MemberStatus, was_member: bool) -> Iterator[FleetChange]:
+def _of_machine(
+    was: MemberStatus | None, now: MemberStatus, was_member: bool
+) -> Iterator[FleetChange]:
     """What has changed of a machine. One that was not known had no report."""
     state, report = now.state, now.report
     before = was.report if was else None
     if report is None and before:
         yield FleetChange("away", f"{now.host} is {AWAY}")
-    elif report and (before is None or (before.state, before.attempt) != (report.state, report.attempt)):
+    elif report and (
+        before is None or (before.state, before.attempt) != (report.state, report.attempt)
+    ):
         reason = f", {report.reason}" if report.reason else ""
         back = " is back" if before is None and was_member else ""
         yield FleetChange("member", f"{now.host}{back}: {state}{reason}")

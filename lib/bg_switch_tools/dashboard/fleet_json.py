@@ -1,5 +1,5 @@
-"""The state of a fleet as the page is told it, in values of JSON: that of `bin/fleet status --json`, with what the dashboard knows
-beside it."""
+"""The state of a fleet as the page is told it, in values of JSON: that of `bin/fleet status
+--json`, with what the dashboard knows beside it."""
 from typing import TypedDict
 
 from bg_switch_tools.dashboard.fleet_board import FleetBoard, FleetHappening, Since, shown_text
@@ -11,6 +11,7 @@ MOST_SHOWN = 200  # rows of machines, and items of each other list
 
 class SinceJson(TypedDict):
     """`exact` is false where it is older than this time."""
+
     time: float
     exact: bool
 
@@ -29,30 +30,48 @@ def _since(since: Since) -> SinceJson:
 
 
 def _shown(state: FleetState) -> list[str]:
-    """The hosts that have a row. Where there are too many, those that are away or awaited come first."""
+    """The hosts that have a row. Where there are too many, those that are away or awaited come
+    first."""
     machines = state.machines
     if len(machines) <= MOST_SHOWN:
         return list(machines)
-    return sorted(machines, key=lambda host: not machines[host].awaited and machines[host].report is not None)[:MOST_SHOWN]
+    return sorted(
+        machines, key=lambda host: not machines[host].awaited and machines[host].report is not None
+    )[:MOST_SHOWN]
 
 
-def _machines(board: FleetBoard, machines: tuple[MemberStatus, ...], shown: list[str]) -> list[dict[str, object]]:
-    return [{**machine.as_json(), "since": _since(board.since_of(machine.host))} for machine in machines if machine.host in shown]
+def _machines(
+    board: FleetBoard, machines: tuple[MemberStatus, ...], shown: list[str]
+) -> list[dict[str, object]]:
+    return [
+        {**machine.as_json(), "since": _since(board.since_of(machine.host))}
+        for machine in machines
+        if machine.host in shown
+    ]
 
 
 def _attempt(board: FleetBoard, state: FleetState, told: object) -> dict[str, object] | None:
-    """The attempt, with the leader that wrote it also where it leads no longer, if it was seen to lead."""
+    """The attempt, with the leader that wrote it also where it leads no longer, if it was seen to
+    lead."""
     record = state.record
     if record is None or not isinstance(told, dict):
         return None
-    return {**told, "written_by": board.leaders.get(record.by), "steps": steps_of(record, board.failed_at)}
+    return {
+        **told,
+        "written_by": board.leaders.get(record.by),
+        "steps": steps_of(record, board.failed_at),
+    }
 
 
 def _plan(state: FleetState, told: object) -> dict[str, object] | None:
     if not isinstance(told, dict):
         return None
     plan = state.status.plan
-    return {**told, "by_hand": plan.by_hand if plan else None, "max_missing": plan.max_missing if plan else None}
+    return {
+        **told,
+        "by_hand": plan.by_hand if plan else None,
+        "max_missing": plan.max_missing if plan else None,
+    }
 
 
 def _read(board: FleetBoard, state: FleetState) -> object:
@@ -60,17 +79,33 @@ def _read(board: FleetBoard, state: FleetState) -> object:
     status, shown = state.status, _shown(state)
     told = status.as_json()
     beside: dict[str, object] = {
-        "attempt": _attempt(board, state, told["attempt"]), "plan": _plan(state, told["plan"]),
-        "leader_since": _since(board.leader_since), "members": _machines(board, status.members, shown),
-        "others": _machines(board, status.others, shown), "unshown": len(state.machines) - len(shown),
-        "member_count": len(status.members), "away_count": len(state.away)}
+        "attempt": _attempt(board, state, told["attempt"]),
+        "plan": _plan(state, told["plan"]),
+        "leader_since": _since(board.leader_since),
+        "members": _machines(board, status.members, shown),
+        "others": _machines(board, status.others, shown),
+        "unshown": len(state.machines) - len(shown),
+        "member_count": len(status.members),
+        "away_count": len(state.away),
+    }
     return bounded({**told, **beside})
 
 
 def _told(board: FleetBoard, happened: list[FleetHappening]) -> dict[str, object]:
-    return {"time": board.unix_time(), "session": board.session, "fleet": board.fleet, "fault": board.own_fault,
-            "etcd": {"answers": board.answers, "fault": board.fault, "since": board.since, "read": board.read_at},
-            "read": _read(board, board.state) if board.state else None, "happened": happened}
+    return {
+        "time": board.unix_time(),
+        "session": board.session,
+        "fleet": board.fleet,
+        "fault": board.own_fault,
+        "etcd": {
+            "answers": board.answers,
+            "fault": board.fault,
+            "since": board.since,
+            "read": board.read_at,
+        },
+        "read": _read(board, board.state) if board.state else None,
+        "happened": happened,
+    }
 
 
 def whole(board: FleetBoard) -> dict[str, object]:

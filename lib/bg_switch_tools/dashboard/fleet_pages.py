@@ -1,4 +1,5 @@
-"""The page of a fleet: one read of its keys after the other, and what all who look at it are told by it."""
+"""The page of a fleet: one read of its keys after the other, and what all who look at it are told
+by it."""
 import asyncio
 import concurrent.futures
 import threading
@@ -16,7 +17,8 @@ PAUSE = 1.0  # seconds between two reads, and between two updates while a read t
 
 
 class FleetPages:
-    """Reads the keys again and again, whoever looks, and answers requests by what was read. So nobody who looks costs a read."""
+    """Reads the keys again and again, whoever looks, and answers requests by what was read. So
+    nobody who looks costs a read."""
 
     def __init__(self, board: FleetBoard, store: Store, has_switch: bool) -> None:
         self.board = board
@@ -39,7 +41,9 @@ class FleetPages:
         while True:
             try:
                 await self.look()
-            except Exception as error:  # none is expected; without the reads that follow, the page would show what is long past
+            except (
+                Exception
+            ) as error:  # none is expected; without the reads that follow, the page would show what is long past
                 take_fault(self.board, error, self.tell)
             await asyncio.sleep(PAUSE)
 
@@ -53,7 +57,8 @@ class FleetPages:
         self.tell()
 
     async def read(self) -> Snapshot:
-        """One read. While it lasts, all who listen are told that the dashboard is there. `StoreFault` as the store has it."""
+        """One read. While it lasts, all who listen are told that the dashboard is there.
+        `StoreFault` as the store has it."""
         reading = asyncio.wrap_future(self._begin_read())
         try:
             while not (await asyncio.wait({reading}, timeout=PAUSE))[0]:
@@ -72,6 +77,7 @@ class FleetPages:
                 found.set_result(self.store.read())
             except Exception as error:  # whoever waits for the read takes it
                 found.set_exception(error)
+
         threading.Thread(target=read, daemon=True).start()
         return found
 

@@ -1,8 +1,8 @@
 """Who may read the dashboard, and who may send commands through it.
 
-A page of another site can make a browser send requests to any port of the machine. It can't read the answers, unless its own
-name leads to 127.0.0.1 (DNS rebinding): then the name stands in Host. It can't read the token of the page either, and a browser
-names the site in Origin.
+A page of another site can make a browser send requests to any port of the machine. It can't read
+the answers, unless its own name leads to 127.0.0.1 (DNS rebinding): then the name stands in Host.
+It can't read the token of the page either, and a browser names the site in Origin.
 """
 import hmac
 import re
@@ -11,7 +11,7 @@ from collections.abc import Sequence
 LOCAL = re.compile(r"(127\.0\.0\.1|localhost)(:[0-9]{1,5})?")
 HEADERS = {
     "Content-Security-Policy": "default-src 'none'; script-src 'self'; style-src 'self'; img-src 'self'; connect-src 'self'; "
-                               "base-uri 'none'; form-action 'none'; frame-ancestors 'none'; require-trusted-types-for 'script'",
+    "base-uri 'none'; form-action 'none'; frame-ancestors 'none'; require-trusted-types-for 'script'",
     "X-Content-Type-Options": "nosniff",
     "X-Frame-Options": "DENY",
     "Referrer-Policy": "no-referrer",
@@ -22,7 +22,8 @@ HEADERS = {
 
 
 def fault_of(hosts: Sequence[str], origins: Sequence[str]) -> str:
-    """Why a request with these fields Host and Origin is refused; empty where it is not. A tunnel may have another port."""
+    """Why a request with these fields Host and Origin is refused; empty where it is not. A tunnel
+    may have another port."""
     if len(hosts) != 1 or not LOCAL.fullmatch(hosts[0].lower()):
         return "the dashboard is reached by the name localhost or the address 127.0.0.1 alone"
     if any(origin != f"http://{hosts[0]}" for origin in origins):

@@ -1,4 +1,5 @@
-"""The commands of the page's buttons, which are sent only if the newest revision is the one that the page showed."""
+"""The commands of the page's buttons, which are sent only if the newest revision is the one that
+the page showed."""
 from typing import NamedTuple
 
 from bg_switch_tools.switch.connection import Connection, sent
@@ -20,6 +21,7 @@ class NewestHasChanged(Exception):
 
 class PageCommand(NamedTuple):
     """A command, and the number of the newest revision that it was meant for."""
+
     line: str
     revision: int
 
@@ -35,7 +37,13 @@ def read_page_command(text: bytes) -> PageCommand:
     line = str(members.get("order"))
     if line not in PAGE_COMMANDS:
         judge.note("order", f"it must be one of {', '.join(PAGE_COMMANDS)}")
-    number = judge.member(members, "revision", "", lambda value, at: judge.whole_number(value, at, 1, MOST_REVISIONS), 0)
+    number = judge.member(
+        members,
+        "revision",
+        "",
+        lambda value, at: judge.whole_number(value, at, 1, MOST_REVISIONS),
+        0,
+    )
     if judge.problems:
         raise WrongPageCommand("; ".join(judge.problems))
     return PageCommand(line, number)

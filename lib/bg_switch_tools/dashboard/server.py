@@ -24,7 +24,9 @@ LAST_SECOND = 1  # second for requests and streams to end after a signal
 class MetricsPage:
     """The metrics of what the dashboard shows."""
 
-    def __init__(self, switch: SwitchPages | None, fleet: FleetPages | None, agent: LocalAgent | None) -> None:
+    def __init__(
+        self, switch: SwitchPages | None, fleet: FleetPages | None, agent: LocalAgent | None
+    ) -> None:
         self.registry = CollectorRegistry(auto_describe=False)
         if switch:
             self.registry.register(metrics.Collector(switch.board))  # type: ignore[arg-type]
@@ -33,11 +35,16 @@ class MetricsPage:
 
     async def show(self, _: web.Request) -> web.Response:
         """The metrics in Prometheus's text format."""
-        return web.Response(body=generate_latest(self.registry), headers={"Content-Type": CONTENT_TYPE_LATEST})
+        return web.Response(
+            body=generate_latest(self.registry), headers={"Content-Type": CONTENT_TYPE_LATEST}
+        )
 
 
-def application(switch: SwitchPages | None, fleet: FleetPages | None, agent: LocalAgent | None = None) -> web.Application:
-    """All that the dashboard serves: the pages of a switch, of a fleet, or of both, and metrics of these and of an agent."""
+def application(
+    switch: SwitchPages | None, fleet: FleetPages | None, agent: LocalAgent | None = None
+) -> web.Application:
+    """All that the dashboard serves: the pages of a switch, of a fleet, or of both, and metrics of
+    these and of an agent."""
     made = web.Application(middlewares=[guarded], client_max_size=LARGEST_COMMAND)
     for pages in (switch, fleet):
         if pages:
@@ -49,21 +56,36 @@ def application(switch: SwitchPages | None, fleet: FleetPages | None, agent: Loc
 
 def is_not_malformed(record: logging.LogRecord) -> bool:
     """Whether this is no request that is malformed, of which each peer can send any number."""
-    return not (record.exc_info and isinstance(record.exc_info[1], http_exceptions.HttpProcessingError))
+    return not (
+        record.exc_info and isinstance(record.exc_info[1], http_exceptions.HttpProcessingError)
+    )
 
 
 def run(board: Board | None, file: FleetFile | None, agent: LocalAgent | None, listen: int) -> None:
     """Serves until SIGTERM or ctrl-C. `OSError` where the port cannot be used."""
+
     async def made() -> web.Application:
         switch = SwitchPages(board, file is not None) if board else None
-        fleet = FleetPages(FleetBoard(file.fleet), EtcdStore(file.etcd, file.fleet), board is not None) if file else None
+        fleet = (
+            FleetPages(FleetBoard(file.fleet), EtcdStore(file.etcd, file.fleet), board is not None)
+            if file
+            else None
+        )
         shown = application(switch, fleet, agent)
 
         async def tell(_: web.Application) -> None:
             print(f"dashboard: http://{HOST}:{listen}/", flush=True)
+
         shown.on_startup.append(tell)
         return shown
+
     logging.getLogger("aiohttp.server").addFilter(is_not_malformed)
     # aiohttp would tell a port that cannot be used with a trace
     with socket.create_server((HOST, listen)) as listener:
-        web.run_app(made(), sock=listener, print=lambda *_: None, access_log=None, shutdown_timeout=LAST_SECOND)
+        web.run_app(
+            made(),
+            sock=listener,
+            print=lambda *_: None,
+            access_log=None,
+            shutdown_timeout=LAST_SECOND,
+        )

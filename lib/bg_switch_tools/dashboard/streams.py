@@ -37,11 +37,15 @@ class Listeners:
             if transport is not None:
                 transport.abort()
 
-    async def serve(self, request: web.Request, whole: Callable[[], Mapping[str, object]]) -> web.StreamResponse:
+    async def serve(
+        self, request: web.Request, whole: Callable[[], Mapping[str, object]]
+    ) -> web.StreamResponse:
         """A stream: all that is known, and then each update."""
         if len(self._open) >= MOST_LISTENERS:
             return refusal(503, "too many pages are open")
-        stream = web.StreamResponse(headers={**guard.HEADERS, "Content-Type": "text/event-stream; charset=utf-8"})
+        stream = web.StreamResponse(
+            headers={**guard.HEADERS, "Content-Type": "text/event-stream; charset=utf-8"}
+        )
         listener: asyncio.Queue[bytes] = asyncio.Queue(MOST_PENDING)
         await stream.prepare(request)
         self._open[listener] = request.transport

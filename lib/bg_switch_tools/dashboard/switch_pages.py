@@ -1,4 +1,5 @@
-"""The page of a switch: one look at it and at its log after the other, and the commands of the page's buttons."""
+"""The page of a switch: one look at it and at its log after the other, and the commands of the
+page's buttons."""
 import asyncio
 import contextlib
 import secrets
@@ -9,7 +10,12 @@ from bg_switch_tools.dashboard import guard
 from bg_switch_tools.dashboard.board import Board
 from bg_switch_tools.dashboard.local_controller import LocalController
 from bg_switch_tools.dashboard.looks import take_fault, while_it_runs
-from bg_switch_tools.dashboard.page_commands import NewestHasChanged, WrongPageCommand, read_page_command, send_page_command
+from bg_switch_tools.dashboard.page_commands import (
+    NewestHasChanged,
+    WrongPageCommand,
+    read_page_command,
+    send_page_command,
+)
 from bg_switch_tools.dashboard.streams import Listeners
 from bg_switch_tools.dashboard.web_pages import FLEET, SWITCH, html_answer, page, refusal
 from bg_switch_tools.switch.access_log import Batch, Follower
@@ -31,7 +37,9 @@ class SwitchPages:
         self.follower = Follower(board.log_path, BACKLOG) if board.log_path else None
         self.controller = LocalController(board.plan) if board.plan else None
         self.token = secrets.token_urlsafe(32)
-        self.page = page("index.html", "" if board.is_read_only else self.token, FLEET if has_fleet else None)
+        self.page = page(
+            "index.html", "" if board.is_read_only else self.token, FLEET if has_fleet else None
+        )
         self.listeners = Listeners()
         self.soon = asyncio.Event()
 
@@ -52,15 +60,19 @@ class SwitchPages:
                 if self.controller:
                     self.board.take_controller(await asyncio.to_thread(self.controller.look))
                 self.take(*seen, is_counted)
-            except Exception as error:  # none is expected; without the looks that follow, the page would show what is long past
+            except (
+                Exception
+            ) as error:  # none is expected; without the looks that follow, the page would show what is long past
                 take_fault(self.board, error, self.tell)
             with contextlib.suppress(TimeoutError):
-                await asyncio.wait_for(self.soon.wait(), SOON if self.follower and self.follower.has_more else PAUSE)
+                await asyncio.wait_for(
+                    self.soon.wait(), SOON if self.follower and self.follower.has_more else PAUSE
+                )
             self.soon.clear()
 
     def look(self) -> tuple[Batch | None, Report | None | str]:
-        """What has come into the log, and the report or why there is none. The log is read first: each revision that it names
-        is in the report."""
+        """What has come into the log, and the report or why there is none. The log is read first:
+        each revision that it names is in the report."""
         batch = self.follower.read() if self.follower else None
         try:
             return batch, read_report(ask(self.board.control, b"report", ANSWER))
@@ -98,7 +110,9 @@ class SwitchPages:
         if not request.headers.getall("Origin", []):
             return refusal(403, "the request does not say from which site it comes")
         if not guard.is_token(request.headers.get("X-Token", ""), self.token):
-            return refusal(403, "the request does not have the token of this dashboard: load the page again")
+            return refusal(
+                403, "the request does not have the token of this dashboard: load the page again"
+            )
         try:
             command = read_page_command(await request.read())
         except WrongPageCommand as wrong:
@@ -112,5 +126,11 @@ class SwitchPages:
         self.board.note_line(command.line, reply)
         self.tell()  # at once: a page that is opened later finds the command in its state, and not in an update as well
         self.soon.set()
-        return web.json_response({"line": command.line, "reply": reply, "carried_out": was_carried_out(reply),
-                                  "meaning": meaning_of(reply)})
+        return web.json_response(
+            {
+                "line": command.line,
+                "reply": reply,
+                "carried_out": was_carried_out(reply),
+                "meaning": meaning_of(reply),
+            }
+        )

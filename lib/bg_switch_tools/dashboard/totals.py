@@ -1,4 +1,5 @@
-"""Counters, which only grow, as metrics need them: requests and their durations, and what has happened."""
+"""Counters, which only grow, as metrics need them: requests and their durations, and what has
+happened."""
 import bisect
 import collections
 from collections.abc import Iterator
@@ -10,11 +11,14 @@ from bg_switch_tools.switch.reports import SERVICES, Report
 
 # The ends of the buckets of durations, in seconds.
 BUCKETS = (0.001, 0.0025, 0.005, 0.01, 0.025, 0.05, 0.1, 0.25, 0.5, 1.0, 2.5, 5.0, 10.0, 30.0, 60.0)
-MOST_REVISIONS = 200  # names of revisions that are counted by; those that were seen first are dropped
+MOST_REVISIONS = (
+    200  # names of revisions that are counted by; those that were seen first are dropped
+)
 
 
 class Labels(NamedTuple):
     """What requests are counted by."""
+
     service: str
     revision: str
     status: str
@@ -46,8 +50,8 @@ class DurationTally:
 
 
 class RequestCounts:
-    """Requests that are counted together: `redispatched` are those of which another endpoint was dialled than that of the slot,
-    `retries` the connects after the first one of each."""
+    """Requests that are counted together: `redispatched` are those of which another endpoint was
+    dialled than that of the slot, `retries` the connects after the first one of each."""
 
     def __init__(self) -> None:
         self.requests = self.bytes = self.redispatched = self.retries = 0
@@ -82,8 +86,9 @@ class Totals:
         counted.add(entry)
 
     def begin(self, report: Report) -> None:
-        """Counts from 0 on what services are about to get: of a counter that begins with a larger number, Prometheus would not
-        see the first requests, and of one that is missing it has no rate."""
+        """Counts from 0 on what services are about to get: of a counter that begins with a larger
+        number, Prometheus would not see the first requests, and of one that is missing it has no
+        rate."""
         for service in CLIENT_SERVICES:
             revision = report.service(service).name
             if Labels(service, revision, NO_ANSWER) not in self.counted:
@@ -104,7 +109,8 @@ class Totals:
                 del self.counted[labels]
 
     def take_changes(self, before: Report | None, now: Report) -> None:
-        """Counts what has changed between two reports, by the reasons of the events of Argo Rollouts."""
+        """Counts what has changed between two reports, by the reasons of the events of Argo
+        Rollouts."""
         if before is not None:
             self.events.update(reasons(before, now))
 
@@ -112,10 +118,19 @@ class Totals:
 def reasons(before: Report, now: Report) -> list[str]:
     """The reasons of the events that the changes between two reports would be in Argo Rollouts."""
     found = ["NewReplicaSetCreated" for number in now.revisions if number not in before.revisions]
-    found += ["ScalingReplicaSet" for number, revision in now.revisions.items()
-              if number in before.revisions and before.revisions[number].desired != revision.desired]
-    found += ["SwitchService" for service in SERVICES[:2] if before.selected[service] != now.selected[service]]
+    found += [
+        "ScalingReplicaSet"
+        for number, revision in now.revisions.items()
+        if number in before.revisions and before.revisions[number].desired != revision.desired
+    ]
+    found += [
+        "SwitchService"
+        for service in SERVICES[:2]
+        if before.selected[service] != now.selected[service]
+    ]
     if before.phase != now.phase:
         found += {"aborted": ["RolloutAborted"], "paused": ["RolloutPaused"]}.get(now.phase, [])
         found += ["RolloutResumed"] if before.phase == "paused" and now.phase != "aborted" else []
-    return found + (["RolloutCompleted"] if before.selected["stable"] != now.selected["stable"] else [])
+    return found + (
+        ["RolloutCompleted"] if before.selected["stable"] != now.selected["stable"] else []
+    )

@@ -10,7 +10,10 @@ from bg_switch_tools.switch.access_log import LogEntry
 SLOT = 2  # seconds that are counted together
 KEPT = 600  # seconds
 RECENT = 30  # seconds of which the present rates are told
-LEAST, FACTOR = 0.05, 1.05  # of the bins of durations: the end of the first one in milliseconds, and the step between two
+LEAST, FACTOR = (
+    0.05,
+    1.05,
+)  # of the bins of durations: the end of the first one in milliseconds, and the step between two
 NO_ANSWER = "none"
 CLASSES = ("1xx", "2xx", "3xx", "4xx", "5xx", NO_ANSWER)
 ERRORS = ("5xx", NO_ANSWER)
@@ -19,8 +22,8 @@ SCALE = 1 / math.log(FACTOR)
 
 @functools.lru_cache(1024)
 def class_of(status: int | None) -> str:
-    """The class of a status, as `5xx`; `none` where there was no answer. One outside 100 to 599, which has no class, counts as
-    `5xx` (RFC 9110, section 15)."""
+    """The class of a status, as `5xx`; `none` where there was no answer. One outside 100 to 599,
+    which has no class, counts as `5xx` (RFC 9110, section 15)."""
     if status is None:
         return NO_ANSWER
     return f"{status // 100}xx" if 100 <= status <= 599 else "5xx"
@@ -44,13 +47,13 @@ class Durations:
         for place in sorted(self.bins):
             seen += self.bins[place]
             if seen >= target:
-                return round(LEAST * FACTOR ** place, 2)
+                return round(LEAST * FACTOR**place, 2)
         return 0.0
 
 
 class Cell:
-    """The requests of one revision in one slot; `ports` and `failed_ports` count them, and the errors of them, by the port of the
-    endpoint that was dialled."""
+    """The requests of one revision in one slot; `ports` and `failed_ports` count them, and the
+    errors of them, by the port of the endpoint that was dialled."""
 
     def __init__(self) -> None:
         self.counts: collections.Counter[str] = collections.Counter()
@@ -75,6 +78,7 @@ class Cell:
 
 class CellJson(TypedDict):
     """A cell as the page is told it. The name is empty where a request came to no revision."""
+
     revision: str
     counts: dict[str, int]
     p50: float
@@ -83,12 +87,14 @@ class CellJson(TypedDict):
 
 class SlotJson(TypedDict):
     """A slot as the page is told it: the second at which it begins, and its cells."""
+
     begins: int
     cells: list[CellJson]
 
 
 class RecentOfPort(TypedDict):
     """What became of the requests of an endpoint in the last seconds: `errors` is a share."""
+
     port: int
     requests_per_second: float
     errors: float
@@ -96,6 +102,7 @@ class RecentOfPort(TypedDict):
 
 class Recent(TypedDict):
     """What became of a revision's requests in the last seconds."""
+
     requests_per_second: float
     errors: float
     p50: float
@@ -122,14 +129,19 @@ class Traffic:
         self.changed.add(begins)
 
     def forget(self, now: float) -> None:
-        """Drops the slots that are older than ten minutes, and those that lie ahead, since the clock was set back."""
-        for begins in [begins for begins in self.slots if not now - KEPT - SLOT <= begins <= now + SLOT]:
+        """Drops the slots that are older than ten minutes, and those that lie ahead, since the
+        clock was set back."""
+        for begins in [
+            begins for begins in self.slots if not now - KEPT - SLOT <= begins <= now + SLOT
+        ]:
             del self.slots[begins]
             self.changed.discard(begins)
 
     def told(self, begins: Sequence[int]) -> list[SlotJson]:
         """These slots, by time."""
-        return [{"begins": each, "cells": list(_cells(self.slots[each]))} for each in sorted(begins)]
+        return [
+            {"begins": each, "cells": list(_cells(self.slots[each]))} for each in sorted(begins)
+        ]
 
     def take_changed(self) -> list[SlotJson]:
         """The slots that have changed since this was asked last."""
@@ -147,16 +159,29 @@ class Traffic:
 
 def _cells(cells: dict[str, Cell]) -> Iterator[CellJson]:
     for revision, cell in sorted(cells.items()):
-        yield {"revision": revision, "counts": dict(cell.counts), "p50": cell.durations.quantile(0.5),
-               "p99": cell.durations.quantile(0.99)}
+        yield {
+            "revision": revision,
+            "counts": dict(cell.counts),
+            "p50": cell.durations.quantile(0.5),
+            "p99": cell.durations.quantile(0.99),
+        }
 
 
 def _recent(cell: Cell) -> Recent:
     total = cell.counts.total()
-    return {"requests_per_second": round(total / RECENT, 1), "errors": sum(cell.counts[each] for each in ERRORS) / total,
-            "p50": cell.durations.quantile(0.5), "p99": cell.durations.quantile(0.99), "ports": list(_of_ports(cell))}
+    return {
+        "requests_per_second": round(total / RECENT, 1),
+        "errors": sum(cell.counts[each] for each in ERRORS) / total,
+        "p50": cell.durations.quantile(0.5),
+        "p99": cell.durations.quantile(0.99),
+        "ports": list(_of_ports(cell)),
+    }
 
 
 def _of_ports(cell: Cell) -> Iterator[RecentOfPort]:
     for port, count in sorted(cell.ports.items()):
-        yield {"port": port, "requests_per_second": round(count / RECENT, 1), "errors": cell.failed_ports[port] / count}
+        yield {
+            "port": port,
+            "requests_per_second": round(count / RECENT, 1),
+            "errors": cell.failed_ports[port] / count,
+        }

@@ -8,13 +8,20 @@ from aiohttp import web
 
 from bg_switch_tools.dashboard import guard
 
-FILES = {"dashboard.css": "text/css", "fleet.css": "text/css", "icon.svg": "image/svg+xml",
-         **dict.fromkeys(("dashboard.js", "fleet.js", "charts.js", "parts.js", "frame.js"), "text/javascript")}
+FILES = {
+    "dashboard.css": "text/css",
+    "fleet.css": "text/css",
+    "icon.svg": "image/svg+xml",
+    **dict.fromkeys(
+        ("dashboard.js", "fleet.js", "charts.js", "parts.js", "frame.js"), "text/javascript"
+    ),
+}
 Handler = Callable[[web.Request], Awaitable[web.StreamResponse]]
 
 
 class Link(NamedTuple):
     """A page of the dashboard, as the other one links to it."""
+
     address: str
     title: str
 
@@ -24,11 +31,14 @@ SWITCH, FLEET = Link("/", "the switch"), Link("/fleet", "the fleet")
 
 def page_file(name: str) -> str:
     """A file of the pages, also where the tools are one file."""
-    return (importlib.resources.files("bg_switch_tools.dashboard") / "page" / name).read_text(encoding="utf-8")
+    return (importlib.resources.files("bg_switch_tools.dashboard") / "page" / name).read_text(
+        encoding="utf-8"
+    )
 
 
 def page(name: str, token: str = "", other: Link | None = None) -> str:
-    """A page, with the token of its commands (empty: it has none), and with a link to the other page, where there is one."""
+    """A page, with the token of its commands (empty: it has none), and with a link to the other
+    page, where there is one."""
     link = f'<a href="{html.escape(other.address)}">{html.escape(other.title)}</a>' if other else ""
     return page_file(name).replace("{{token}}", html.escape(token)).replace("{{other}}", link)
 

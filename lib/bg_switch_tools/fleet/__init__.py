@@ -1,1 +1,2 @@
-"""One rollout over several machines: the record that they share, the leader that writes it, and the agent of each machine."""
+"""One rollout over several machines: the record that they share, the leader that writes it, and the
+agent of each machine."""

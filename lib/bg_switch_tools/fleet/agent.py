@@ -1,4 +1,5 @@
-"""What an agent does at the store: it keeps the lease of its machine, reads all keys, and tells what the machine reports."""
+"""What an agent does at the store: it keeps the lease of its machine, reads all keys, and tells
+what the machine reports."""
 import time
 from collections.abc import Callable
 from typing import NamedTuple
@@ -15,7 +16,8 @@ Clock = Callable[[], float]
 
 
 class Lease:
-    """A lease that is refreshed by the round, and not by a thread beside it, which would keep an agent that hangs alive."""
+    """A lease that is refreshed by the round, and not by a thread beside it, which would keep an
+    agent that hangs alive."""
 
     def __init__(self, store: Store, now: Clock, seconds: int = LEASE) -> None:
         self.store = store
@@ -25,8 +27,8 @@ class Lease:
         self.refreshed = 0.0
 
     def hold(self) -> bool:
-        """Grants or refreshes it. False where it has ended since, and another one was granted. `StoreFault` where neither can be
-        done."""
+        """Grants or refreshes it. False where it has ended since, and another one was granted.
+        `StoreFault` where neither can be done."""
         now, had_one = self.now(), self.number != 0
         if had_one and now < self.refreshed + self.seconds / 4:
             return True
@@ -40,7 +42,8 @@ class Lease:
 
 
 class Trouble:
-    """Something that does not work for a while: the log tells it when that begins, each minute, and when it ends."""
+    """Something that does not work for a while: the log tells it when that begins, each minute, and
+    when it ends."""
 
     def __init__(self, say: Callable[[str], None], now: Clock, what: str) -> None:
         """`what` says what does not work."""
@@ -68,8 +71,9 @@ class Trouble:
 
 
 class Read(NamedTuple):
-    """What came of a read that was begun at this moment: the keys, or why there are none. `is_anew` says that the lease of the machine
-    had ended before, so that the fleet has taken it as away."""
+    """What came of a read that was begun at this moment: the keys, or why there are none. `is_anew`
+    says that the lease of the machine had ended before, so that the fleet has taken it as away."""
+
     begun: float
     snapshot: Snapshot | None
     fault: str = ""
@@ -77,11 +81,21 @@ class Read(NamedTuple):
 
 
 class FleetAgent:
-    """The store's side of a machine. Where the store gives no answer, everything stays as it is, and the log says so once.
+    """The store's side of a machine. Where the store gives no answer, everything stays as it is,
+    and the log says so once.
 
-    `fetch` and `write` wait for the store, and may be called by a thread of their own; all else is for the thread of the machine."""
+    `fetch` and `write` wait for the store, and may be called by a thread of their own; all else is
+    for the thread of the machine.
+    """
 
-    def __init__(self, machine: Machine, store: Store, say: Say, now: Clock = time.monotonic, seconds: int = LEASE) -> None:
+    def __init__(
+        self,
+        machine: Machine,
+        store: Store,
+        say: Say,
+        now: Clock = time.monotonic,
+        seconds: int = LEASE,
+    ) -> None:
         """`seconds` are those of the machine's lease."""
         self.machine = machine
         self.store = store
@@ -89,8 +103,16 @@ class FleetAgent:
         self.now = now
         self.lease = Lease(store, now, seconds)
         self.seen: Snapshot | None = None  # the latest read; None where it has failed
-        self.silence = Trouble(lambda text: say("fleet", text), now, "the store gives no answer, so nothing is switched here")
-        self.unwritten = Trouble(lambda text: say("fleet", text), now, "the store does not take the report of this machine")
+        self.silence = Trouble(
+            lambda text: say("fleet", text),
+            now,
+            "the store gives no answer, so nothing is switched here",
+        )
+        self.unwritten = Trouble(
+            lambda text: say("fleet", text),
+            now,
+            "the store does not take the report of this machine",
+        )
         self.told_fault = ""
 
     @property
@@ -145,13 +167,18 @@ class FleetAgent:
         if key and (key.lease, key.value) == (self.lease.number, text):
             return
         try:
-            self.store.write([Compare(self.key, "changed", key.changed if key else 0)], {self.key: text}, lease=self.lease.number)
+            self.store.write(
+                [Compare(self.key, "changed", key.changed if key else 0)],
+                {self.key: text},
+                lease=self.lease.number,
+            )
         except StoreFault as fault:
             self.unwritten.begin(str(fault))
         else:
             self.unwritten.end("the store takes the report of this machine again")
 
     def is_of_another(self, snapshot: Snapshot) -> bool:
-        """Whether another machine reports as this host: the second agent of a host is refused until the first one's lease ends."""
+        """Whether another machine reports as this host: the second agent of a host is refused until
+        the first one's lease ends."""
         other = View(snapshot).machine(self.machine.host)
         return other is not None and other.machine not in ("", self.machine.machine)

@@ -17,8 +17,10 @@ ID_TEXT = re.compile(r"[0-9a-f]{32}")
 
 
 def path_of(file: FleetFile, state: pathlib.Path | None) -> str:
-    """The path before the endings of an agent's files. `state` is that path, or a folder, in which the names of the fleet and of the
-    host tell the agents apart; where it is left out, the folder is that of systemd's unit, or else that of the fleet file."""
+    """The path before the endings of an agent's files. `state` is that path, or a folder, in which
+    the names of the fleet and of the host tell the agents apart; where it is left out, the folder
+    is that of systemd's unit, or else that of the fleet file.
+    """
     if state is not None and not state.is_dir():
         return str(state)
     folder = str(state) if state else os.environ.get(FOLDER, "").split(":")[0] or file.folder
@@ -26,8 +28,10 @@ def path_of(file: FleetFile, state: pathlib.Path | None) -> str:
 
 
 def machine_id(path: str, say: Say) -> str:
-    """The id of a machine: one that is kept beside this path, and that of the system's boot. An agent that is started again has the
-    same one. An agent with files of its own has another one, and so has one on a copy of the machine, with a copy of the files."""
+    """The id of a machine: one that is kept beside this path, and that of the system's boot. An
+    agent that is started again has the same one. An agent with files of its own has another one,
+    and so has one on a copy of the machine, with a copy of the files.
+    """
     try:
         boot = BOOT.read_text(encoding="ascii").strip()
     except (OSError, ValueError):
@@ -46,8 +50,11 @@ def _kept_id(path: pathlib.Path, say: Say) -> str:
     try:
         write_whole(str(path), f"{made}\n".encode("ascii"))
     except OSError as error:
-        say("state", f"the id of this machine can't be kept in {path}: {error.strerror}; an agent that is started again has to wait until "
-            "the lease of this one has ended")
+        say(
+            "state",
+            f"the id of this machine can't be kept in {path}: {error.strerror}; an agent that is started again has to wait until "
+            "the lease of this one has ended",
+        )
     return made
 
 
@@ -64,7 +71,10 @@ class StateKeeper:
         try:
             return self.file.read()
         except Unreadable as reason:
-            self.say("state", f"{self.file.path} is not used, so the attempt that runs begins again here: {reason}")
+            self.say(
+                "state",
+                f"{self.file.path} is not used, so the attempt that runs begins again here: {reason}",
+            )
             return MachineState()
 
     def keep(self, state: MachineState) -> None:
@@ -73,7 +83,10 @@ class StateKeeper:
             self.file.write(state)
         except OSError as error:
             if self.unwritten is None:
-                self.say("state", f"what is known of the fleet can't be kept in {self.file.path}: {error.strerror}")
+                self.say(
+                    "state",
+                    f"what is known of the fleet can't be kept in {self.file.path}: {error.strerror}",
+                )
             self.unwritten = state
             return
         if self.unwritten is not None:

@@ -1,4 +1,5 @@
-"""The agent of a machine as a process: it keeps the switch at what the record of its fleet asks for, and is a candidate for the leader."""
+"""The agent of a machine as a process: it keeps the switch at what the record of its fleet asks
+for, and is a candidate for the leader."""
 import dataclasses
 import math
 import os
@@ -40,29 +41,40 @@ MakeStore = Callable[[float], Store]  # is given the seconds within which a call
 
 @dataclasses.dataclass(frozen=True)
 class AgentArguments:
-    """How an agent is run. `state` is the path beside which it keeps its files, or a folder for them: left out, it is the folder of
-    the state of systemd's unit, or else that of the fleet file. `round_seconds` are those between two reads of the store where no key
-    changes; more than one counts as one, since no line goes forward by an older read."""
+    """How an agent is run. `state` is the path beside which it keeps its files, or a folder for
+    them: left out, it is the folder of the state of systemd's unit, or else that of the fleet file.
+    `round_seconds` are those between two reads of the store where no key changes; more than one
+    counts as one, since no line goes forward by an older read."""
+
     state: pathlib.Path | None = None
     round_seconds: float = TURN
     as_json: bool = False
 
 
 def lease_seconds(timeout: float) -> int:
-    """The seconds of a lease, which are more than those of the longest turn: the store needs its whole timeout for each call, and
-    the switch hangs."""
+    """The seconds of a lease, which are more than those of the longest turn: the store needs its
+    whole timeout for each call, and the switch hangs."""
     return max(LEASE, math.ceil(CALLS * timeout + CONNECT + ANSWER + 2 * ROUND))
 
 
 def clock() -> float:
-    """Monotonic seconds, which count also while the system is suspended: by them a read that was made before is old."""
+    """Monotonic seconds, which count also while the system is suspended: by them a read that was
+    made before is old."""
     return time.clock_gettime(time.CLOCK_BOOTTIME)
 
 
 class AgentProcess:
-    """The threads of an agent: the rounds at the switch, the turns at the store, the candidate, and the wait for events."""
+    """The threads of an agent: the rounds at the switch, the turns at the store, the candidate, and
+    the wait for events."""
 
-    def __init__(self, file: FleetFile, settings: MachineSettings, arguments: AgentArguments, log: Log, make_store: MakeStore) -> None:
+    def __init__(
+        self,
+        file: FleetFile,
+        settings: MachineSettings,
+        arguments: AgentArguments,
+        log: Log,
+        make_store: MakeStore,
+    ) -> None:
         path, timeout = path_of(file, arguments.state), file.etcd.timeout
         pause = min(arguments.round_seconds, FRESH)
         self.log = log
@@ -70,16 +82,22 @@ class AgentProcess:
         self.timeout = timeout
         self.seconds = lease_seconds(timeout)
         self.keeper = StateKeeper(path, log.say)
-        machine = Machine(file.host, machine_id(path, log.say), settings, self.keeper.keep, self.keeper.read())
+        machine = Machine(
+            file.host, machine_id(path, log.say), settings, self.keeper.keep, self.keeper.read()
+        )
         self.agent = FleetAgent(machine, make_store(timeout), log.say, clock, self.seconds)
-        self.candidate = Candidate(file.host, make_store(timeout), log.say, Clocks(clock), self.seconds)
+        self.candidate = Candidate(
+            file.host, make_store(timeout), log.say, Clocks(clock), self.seconds
+        )
         self.rounds = AgentRounds(self.agent, ControllerFiles(path, file.folder), log)
         self.status = AgentStatusFile(path, AgentStatus(file.fleet, file.host, os.getpid()))
         self.stopping = threading.Event()
         self.handover = Handover()
         self.turns = StoreTurns(self.agent, self.handover, pause, self.stopping)
         self.leading = Leading(self.candidate, pause, self.stopping)
-        self.watch = Watch(make_store(timeout), self.turns, (self.turns.wake, self.leading.wake), self.stopping)
+        self.watch = Watch(
+            make_store(timeout), self.turns, (self.turns.wake, self.leading.wake), self.stopping
+        )
         self.read_at = self.lost_at = 0.0  # Unix times
         self.is_known = False  # whether the store has had the report of this machine
         self.other_since: float | None = None  # since when another machine reports as this host
@@ -90,6 +108,7 @@ class AgentProcess:
 
     def _thread(self, run: Callable[[], None]) -> threading.Thread:
         """A thread whose exception, which nobody expects, ends the process."""
+
         def guarded() -> None:
             try:
                 run()
@@ -98,6 +117,7 @@ class AgentProcess:
                 raise
             finally:
                 self.stopping.set()
+
         return threading.Thread(target=guarded, daemon=True)
 
     def start(self) -> None:
@@ -132,18 +152,22 @@ class AgentProcess:
             self._wait_for_other()
 
     def _wait_for_other(self) -> None:
-        """Another machine reports as this host: after a restart of the system it may be this one, before. So its lease has twice the
-        time that it needs to end."""
+        """Another machine reports as this host: after a restart of the system it may be this one,
+        before. So its lease has twice the time that it needs to end."""
         limit = 2 * self.seconds
         if self.other_since is None:
             self.other_since = clock()
-            self.log.say("fleet", f"this agent ends, unless the lease of the other one ends within {limit} seconds")
+            self.log.say(
+                "fleet",
+                f"this agent ends, unless the lease of the other one ends within {limit} seconds",
+            )
         elif clock() >= self.other_since + limit:
             self.refusal = self.agent.machine.fault
             self.stopping.set()
 
     def stop(self) -> None:
-        """Ends all, within some seconds: what runs, and the leases, so that the other machines know at once."""
+        """Ends all, within some seconds: what runs, and the leases, so that the other machines know
+        at once."""
         self.stopping.set()
         self.rounds.stop()
         self.handover.end()
@@ -155,7 +179,9 @@ class AgentProcess:
             self.rounds.end_at_once()
         self.rounds.probes.stop()
         limit = TimeLimit(LONGEST_CALLS)
-        for thread in self.writing_threads:  # a call that ends after the lease would begin another one
+        for (
+            thread
+        ) in self.writing_threads:  # a call that ends after the lease would begin another one
             thread.join(limit.rest())
         self._revoke()
 
@@ -166,7 +192,10 @@ class AgentProcess:
                 if lease:
                     store.revoke(lease)
             except StoreFault as fault:
-                self.log.say("fleet", f"the others learn of the end when the leases end, since the store gives no answer: {fault}")
+                self.log.say(
+                    "fleet",
+                    f"the others learn of the end when the leases end, since the store gives no answer: {fault}",
+                )
                 return
 
 
@@ -178,17 +207,22 @@ def tell(text: str) -> None:
 def start_faults(file: FleetFile) -> list[str]:
     """Why no agent can run by this fleet file, a sentence each; none where one can."""
     if file.machine is None:
-        return ["the fleet file has neither host nor control: it is one for people, and no agent runs by it"]
+        return [
+            "the fleet file has neither host nor control: it is one for people, and no agent runs by it"
+        ]
     if not file.machine.rollout:
-        return ["the fleet file has no key rollout, the file of the Rollout with which the switch is started: an agent has to know that "
-                "the switch does not promote by itself"]
+        return [
+            "the fleet file has no key rollout, the file of the Rollout with which the switch is started: an agent has to know that "
+            "the switch does not promote by itself"
+        ]
     return RolloutFile(file.machine.rollout).faults(False)
 
 
 def run_agent(file: FleetFile, arguments: AgentArguments) -> int:
-    """Runs the agent of a machine until SIGTERM or ctrl-C. Gives the exit status: `DONE`; `REFUSED` where the fleet file is none of a
-    machine, where the Rollout lets its switch promote by itself, and where an agent runs here already; `TAKEN` where another machine
-    reports as its host; `FAULT` after a fault of its own."""
+    """Runs the agent of a machine until SIGTERM or ctrl-C. Gives the exit status: `DONE`; `REFUSED`
+    where the fleet file is none of a machine, where the Rollout lets its switch promote by itself,
+    and where an agent runs here already; `TAKEN` where another machine reports as its host; `FAULT`
+    after a fault of its own."""
     faults = start_faults(file)
     for fault in faults:
         tell(fault)
@@ -201,7 +235,9 @@ def run_agent(file: FleetFile, arguments: AgentArguments) -> int:
         tell(str(reason))
         return REFUSED
     except OSError as error:
-        tell(f"the lock file beside {path} cannot be made, so a second agent is not noticed: {error.strerror}")
+        tell(
+            f"the lock file beside {path} cannot be made, so a second agent is not noticed: {error.strerror}"
+        )
         return _run_locked(file, file.machine, arguments)
     try:
         return _run_locked(file, file.machine, arguments)
@@ -214,13 +250,19 @@ def _run_locked(file: FleetFile, settings: MachineSettings, arguments: AgentArgu
 
     def note(number: int, _: FrameType | None) -> None:
         signals.append(number)
+
     for number in (signal.SIGTERM, signal.SIGINT):
         signal.signal(number, note)
     log = Log(sys.stdout, arguments.as_json)
     for problem in missing_files(file):
         log.say("plan", problem)
-    process = AgentProcess(file, settings, arguments, log,
-                           lambda seconds: EtcdStore(file.etcd._replace(timeout=seconds), file.fleet))
+    process = AgentProcess(
+        file,
+        settings,
+        arguments,
+        log,
+        lambda seconds: EtcdStore(file.etcd._replace(timeout=seconds), file.fleet),
+    )
     process.start()
     while not process.stopping.is_set() and not signals:
         time.sleep(LOOK)

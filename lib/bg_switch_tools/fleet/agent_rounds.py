@@ -1,4 +1,5 @@
-"""The rounds of an agent at its switch: those of a controller, once the plan and the record of the fleet are known."""
+"""The rounds of an agent at its switch: those of a controller, once the plan and the record of the
+fleet are known."""
 from bg_switch_tools.controller.book_opener import CannotOpen
 from bg_switch_tools.controller.controller import ROUND, Controller, ControllerFiles, Makers
 from bg_switch_tools.controller.log import Log
@@ -13,8 +14,8 @@ from bg_switch_tools.fleet.rollout_settings import RolloutFile
 from bg_switch_tools.switch.connection import Connection, Unreachable
 from bg_switch_tools.switch.reports import NoReport, Report, read_report
 
-# Seconds within which a connection is taken, and for the answers of a round: a lease has to be longer than a round at a switch that
-# hangs.
+# Seconds within which a connection is taken, and for the answers of a round: a lease has to be
+# longer than a round at a switch that hangs.
 CONNECT, ANSWER = 0.5, 2.5
 
 
@@ -37,8 +38,10 @@ class AgentRounds:
         self.is_stopping = False
 
     def do_round(self) -> tuple[str | None, float]:
-        """A round. Gives what the machine reports then, and the seconds until the next one. Before the first record of a fleet, a
-        machine whose switch gives no answer reports nothing: the fleet begins with what its machines have as stable."""
+        """A round. Gives what the machine reports then, and the seconds until the next one. Before
+        the first record of a fleet, a machine whose switch gives no answer reports nothing: the
+        fleet begins with what its machines have as stable.
+        """
         self._go_by_plan()
         report, pause, is_answered = None, ROUND, False
         try:
@@ -58,8 +61,8 @@ class AgentRounds:
         return (self.agent.text(report) if is_answered or self.machine.record else None), pause
 
     def _round(self, connection: Connection) -> tuple[Report | None, float]:
-        """The report after the round, and the seconds until the next one. A switch without a book is opened only where its Rollout
-        fits a fleet."""
+        """The report after the round, and the seconds until the next one. A switch without a book
+        is opened only where its Rollout fits a fleet."""
         controller = self.controller
         if controller is None or self.rollout_faults:
             report = read_report(connection.answer(b"report"))
@@ -77,20 +80,34 @@ class AgentRounds:
             if plan := self.machine.plan():
                 self._take_plan(plan)
         except WrongPlan as wrong:
-            faults = [f"the plan does not fit this machine: {problem}" for problem in wrong.problems]
+            faults = [
+                f"the plan does not fit this machine: {problem}" for problem in wrong.problems
+            ]
         plan_of_fleet = self.machine.fleet_plan
-        self.rollout_faults = self.rollout.faults(plan_of_fleet is not None and "pre" in plan_of_fleet.analyses)
-        unfit = "; ".join([*faults, *self.rollout_faults, *([self.unopened] if self.unopened else [])])
+        self.rollout_faults = self.rollout.faults(
+            plan_of_fleet is not None and "pre" in plan_of_fleet.analyses
+        )
+        unfit = "; ".join(
+            [*faults, *self.rollout_faults, *([self.unopened] if self.unopened else [])]
+        )
         if unfit != self.machine.unfit:
             self.machine.unfit = unfit
-            self.log.say("plan", f"nothing new is deployed here: {unfit}" if unfit else "this machine is fit for the plan again")
+            self.log.say(
+                "plan",
+                f"nothing new is deployed here: {unfit}"
+                if unfit
+                else "this machine is fit for the plan again",
+            )
 
     def _take_plan(self, plan: Plan) -> None:
-        """Takes the plan of this machine, which also has the revisions of the record: what is told is another plan of the fleet."""
+        """Takes the plan of this machine, which also has the revisions of the record: what is told
+        is another plan of the fleet."""
         text, self.told_plan = self.told_plan, self.machine.state.plan
         if self.controller is None:
-            makers = Makers(lambda path, plan, log: FleetMemory(self.machine, path, plan, log),
-                            lambda parts: FleetLines(self.machine, parts, self.agent.now))
+            makers = Makers(
+                lambda path, plan, log: FleetMemory(self.machine, path, plan, log),
+                lambda parts: FleetLines(self.machine, parts, self.agent.now),
+            )
             self.controller = Controller(self.files, plan, self.log, self.probes, makers)
         elif plan != self.controller.plan:
             (self.controller.go_by if text == self.told_plan else self.controller.take_plan)(plan)

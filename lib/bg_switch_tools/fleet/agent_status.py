@@ -1,4 +1,5 @@
-"""What an agent alone knows of its store, in a file for other programs of its machine, such as one that gives metrics."""
+"""What an agent alone knows of its store, in a file for other programs of its machine, such as one
+that gives metrics."""
 import dataclasses
 import json
 import os
@@ -16,8 +17,11 @@ GREATEST = 1 << 40
 
 @dataclasses.dataclass(frozen=True)
 class AgentStatus:
-    """`written` is when the file was written, `read` when the latest read of the store was begun that has succeeded (0: none has),
-    and `lost` since when the store has given no answer (0: it answers). All are Unix times in seconds."""
+    """`written` is when the file was written, `read` when the latest read of the store was begun
+    that has succeeded (0: none has), and `lost` since when the store has given no answer (0: it
+    answers). All are Unix times in seconds.
+    """
+
     fleet: str
     host: str
     process: int
@@ -30,7 +34,8 @@ class AgentStatus:
         return json.dumps({"version": VERSION, **vars(self)}) + "\n"
 
     def lost_seconds(self, now: float) -> float:
-        """For how many seconds the store has given no answer at this Unix time; 0 where it answers."""
+        """For how many seconds the store has given no answer at this Unix time; 0 where it
+        answers."""
         return max(now - self.lost, 0.0) if self.lost else 0.0
 
     def is_stale(self, now: float) -> bool:
@@ -48,9 +53,15 @@ def read_agent_status(text: bytes) -> AgentStatus:
     members = judge.members(told, "", keys, keys)
     if judge.problems or members["version"] != VERSION:
         raise Unreadable("; ".join(judge.problems) or f"its version is not {VERSION}")
-    times = {key: judge.number(members[key], key, 0, GREATEST) for key in ("written", "read", "lost")}
-    status = AgentStatus(judge.text(members["fleet"], "fleet"), judge.text(members["host"], "host"),
-                         judge.whole_number(members["process"], "process", 1, GREATEST), **times)
+    times = {
+        key: judge.number(members[key], key, 0, GREATEST) for key in ("written", "read", "lost")
+    }
+    status = AgentStatus(
+        judge.text(members["fleet"], "fleet"),
+        judge.text(members["host"], "host"),
+        judge.whole_number(members["process"], "process", 1, GREATEST),
+        **times,
+    )
     if judge.problems:
         raise Unreadable("; ".join(judge.problems))
     return status
@@ -65,9 +76,14 @@ class AgentStatusFile:
         self.status = status
 
     def keep(self, read: float, lost: float) -> None:
-        """Writes the file where it is due. A folder that takes none is passed over: the log has told it of the state."""
+        """Writes the file where it is due. A folder that takes none is passed over: the log has
+        told it of the state."""
         now = time.time()
-        is_due = bool(lost) != bool(self.status.lost) or not self.status.written or not 0 <= now - self.status.written < PERIOD
+        is_due = (
+            bool(lost) != bool(self.status.lost)
+            or not self.status.written
+            or not 0 <= now - self.status.written < PERIOD
+        )
         if not is_due:
             return
         self.status = dataclasses.replace(self.status, written=now, read=read, lost=lost)

@@ -1,4 +1,5 @@
-"""A candidate for the leader of a fleet: it leads while it holds the leader's key, and writes what `leader` decides."""
+"""A candidate for the leader of a fleet: it leads while it holds the leader's key, and writes what
+`leader` decides."""
 import time
 from typing import NamedTuple
 
@@ -10,20 +11,25 @@ from bg_switch_tools.fleet.store import Compare, Snapshot, Store, StoreFault
 
 class Pending(NamedTuple):
     """A write that was decided and not sent yet."""
+
     write: Write
     lease: int = 0
 
 
 class Clocks(NamedTuple):
     """By what a candidate measures, and by what it dates the record."""
+
     now: Clock = time.monotonic
     unix_time: Clock = time.time
 
 
 class Candidate:
-    """Each agent is one. Its store and its lease are its own, so a slow switch does not end its lead."""
+    """Each agent is one. Its store and its lease are its own, so a slow switch does not end its
+    lead."""
 
-    def __init__(self, host: str, store: Store, say: Say, clocks: Clocks = Clocks(), seconds: int = LEASE) -> None:
+    def __init__(
+        self, host: str, store: Store, say: Say, clocks: Clocks = Clocks(), seconds: int = LEASE
+    ) -> None:
         """`seconds` are those of the leader's lease."""
         self.host = host
         self.store = store
@@ -34,8 +40,14 @@ class Candidate:
         self.created = 0  # the `created` revision of the leader's key while this one leads
         self.clock = StageClock()
         self.told_fault = ""
-        self.silence = Trouble(lambda text: say("leader", text), now, "the store gives no answer to the candidate")
-        self.unwritten = Trouble(lambda text: say("leader", text), now, "the store does not take what the candidate writes")
+        self.silence = Trouble(
+            lambda text: say("leader", text), now, "the store gives no answer to the candidate"
+        )
+        self.unwritten = Trouble(
+            lambda text: say("leader", text),
+            now,
+            "the store does not take what the candidate writes",
+        )
 
     @property
     def leads(self) -> bool:
@@ -43,7 +55,8 @@ class Candidate:
         return self.created != 0
 
     def do_round(self) -> bool:
-        """One read, one decision, one write. Gives whether something was written, so that the next round comes at once."""
+        """One read, one decision, one write. Gives whether something was written, so that the next
+        round comes at once."""
         pending = self.look()
         return pending is not None and self.send(pending)
 
@@ -62,7 +75,9 @@ class Candidate:
             self._stop_leading("its key is gone")
             write = Write((Compare(LEADER, "created", 0),), {LEADER: self.host}, (), None)
             return Pending(write, self.lease.number)
-        if key.lease != self.lease.number:  # of another one, or of a lease of this host before, which ends by itself
+        if (
+            key.lease != self.lease.number
+        ):  # of another one, or of a lease of this host before, which ends by itself
             self._stop_leading(f"{key.value} leads")
             return None
         if self.created != key.created:
@@ -90,7 +105,8 @@ class Candidate:
         self.clock.forget()
 
     def send(self, pending: Pending) -> bool:
-        """Writes what was decided. Gives whether it was written: not where something has changed since the read."""
+        """Writes what was decided. Gives whether it was written: not where something has changed
+        since the read."""
         write = pending.write
         try:
             revision = self.store.write(write.compares, write.puts, write.deletes, pending.lease)
@@ -100,6 +116,13 @@ class Candidate:
         self.unwritten.end("the store takes what the candidate writes")
         record = write.record
         if record:
-            what = f"attempt {record.id} of {record.revision.name}: {record.stage}" + (f", {record.reason}" if record.reason else "")
-            self.say("leader", what if revision is not None else f"not written, since something has changed: {what}")
+            what = f"attempt {record.id} of {record.revision.name}: {record.stage}" + (
+                f", {record.reason}" if record.reason else ""
+            )
+            self.say(
+                "leader",
+                what
+                if revision is not None
+                else f"not written, since something has changed: {what}",
+            )
         return revision is not None

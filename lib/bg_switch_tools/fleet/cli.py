@@ -55,11 +55,23 @@ class FleetRun:
         self.store_of = store_of
 
     def person(self) -> Person:
-        return Person(login_name(), self.store_of(self.file), self.file.fleet, getattr(self.given, "yes", False))
+        return Person(
+            login_name(),
+            self.store_of(self.file),
+            self.file.fleet,
+            getattr(self.given, "yes", False),
+        )
 
     def agent(self) -> int:
-        from bg_switch_tools.fleet.agent_process import AgentArguments, run_agent  # here, since no other command needs its parts
-        arguments = AgentArguments(None if self.given.state is None else pathlib.Path(self.given.state), as_json=self.given.json)
+        from bg_switch_tools.fleet.agent_process import (
+            AgentArguments,
+            run_agent,
+        )  # here, since no other command needs its parts
+
+        arguments = AgentArguments(
+            None if self.given.state is None else pathlib.Path(self.given.state),
+            as_json=self.given.json,
+        )
         if self.given.round is not None:
             arguments = dataclasses.replace(arguments, round_seconds=self.given.round)
         return run_agent(self.file, arguments)
@@ -115,7 +127,8 @@ class FleetRun:
         return DONE
 
     def wait(self) -> int:
-        """Waits. Each change meanwhile, and a store that gives no answer, is told on standard error."""
+        """Waits. Each change meanwhile, and a store that gives no answer, is told on standard
+        error."""
         person, changes = self.person(), Changes()
 
         def see(snapshot: Snapshot) -> None:
@@ -123,10 +136,21 @@ class FleetRun:
 
         def lose(fault: StoreFault) -> None:
             changes.tell(str(fault))
-        result = wait_for(person.store, FleetConditions(self.given.conditions), self.given.timeout, see, lose)
+
+        result = wait_for(
+            person.store, FleetConditions(self.given.conditions), self.given.timeout, see, lose
+        )
         status = status_of(person.fleet, result.snapshot) if result.snapshot else None
         if self.given.json:
-            print(json.dumps({"status": result.status, "reason": result.reason or None, "fleet": status.as_json() if status else None}))
+            print(
+                json.dumps(
+                    {
+                        "status": result.status,
+                        "reason": result.reason or None,
+                        "fleet": status.as_json() if status else None,
+                    }
+                )
+            )
         elif status and result.status == DONE:
             print(in_one_line(status))
         if result.reason:
@@ -180,7 +204,11 @@ def fleet_file(path: str) -> FleetFile | None:
     try:
         return read_whole_fleet_file(path)
     except WrongFleetFile as wrong:
-        tell("\n".join([f"{path} is not a fleet file:", *(f"  {problem}" for problem in wrong.problems)]))
+        tell(
+            "\n".join(
+                [f"{path} is not a fleet file:", *(f"  {problem}" for problem in wrong.problems)]
+            )
+        )
         if path in FLEET_COMMAND_NAMES:
             tell(f"the fleet file stands before the command: fleet FLEET.json {path}")
         return None

@@ -1,17 +1,32 @@
-"""What `fleet wait` can wait for: conditions on a read of the fleet's keys, and whether one can still hold unless another plan is put."""
+"""What `fleet wait` can wait for: conditions on a read of the fleet's keys, and whether one can
+still hold unless another plan is put."""
 import dataclasses
 import difflib
 from collections.abc import Sequence
 from typing import Protocol
 
 from bg_switch_tools.fleet.leader import votes_of
-from bg_switch_tools.fleet.record import DEPLOYING, PLAN, PROMOTING, READY, STAGES, SUCCESSFUL, Record, Unreadable, View
+from bg_switch_tools.fleet.record import (
+    DEPLOYING,
+    PLAN,
+    PROMOTING,
+    READY,
+    STAGES,
+    SUCCESSFUL,
+    Record,
+    Unreadable,
+    View,
+)
 from bg_switch_tools.fleet.status_text import attempt_title
 from bg_switch_tools.fleet.store import Snapshot
 from bg_switch_tools.operator.conditions import HOLDS, MAY_COME, Outlook, WrongCondition
 from bg_switch_tools.switch.json_values import NAME
 
-AWAITED_STAGES = (DEPLOYING, READY, *STAGES[1:])  # `ready`: it is deploying, and all members are ready
+AWAITED_STAGES = (
+    DEPLOYING,
+    READY,
+    *STAGES[1:],
+)  # `ready`: it is deploying, and all members are ready
 STEPS = (DEPLOYING, READY, PROMOTING)  # in their order; each other stage ends an attempt
 CONDITION_SYNTAX = f"NAME=STAGE (a stage is one of {', '.join(AWAITED_STAGES)}), settled"
 
@@ -20,7 +35,8 @@ class FleetCondition(Protocol):
     """A condition."""
 
     def outlook(self, view: View) -> Outlook:
-        """Whether it holds by this read, or can come to hold. `Unreadable` where a key can't be read."""
+        """Whether it holds by this read, or can come to hold. `Unreadable` where a key can't be
+        read."""
 
 
 def _not_begun(view: View) -> Outlook:
@@ -32,13 +48,19 @@ def _not_begun(view: View) -> Outlook:
 
 def _are_ready(view: View, record: Record) -> bool:
     plan = view.plan
-    return plan is not None and record.stage == DEPLOYING and votes_of(view, record).are_enough(plan.max_missing)
+    return (
+        plan is not None
+        and record.stage == DEPLOYING
+        and votes_of(view, record).are_enough(plan.max_missing)
+    )
 
 
 @dataclasses.dataclass(frozen=True)
 class StageIs:
-    """The attempt of the plan that stands is that of the revision of this name, and is in this stage. A revision that is the stable one
-    of the fleet was successful, also where the plan deploys another one by now."""
+    """The attempt of the plan that stands is that of the revision of this name, and is in this
+    stage. A revision that is the stable one of the fleet was successful, also where the plan
+    deploys another one by now."""
+
     name: str
     stage: str
 
@@ -46,7 +68,11 @@ class StageIs:
         plan, record, plan_id = view.plan, view.record, view.changed(PLAN)
         if plan and plan.last.name != self.name:
             # another plan can have been put between two reads
-            was = self.stage == SUCCESSFUL and record is not None and record.fleet_stable.name == self.name
+            was = (
+                self.stage == SUCCESSFUL
+                and record is not None
+                and record.fleet_stable.name == self.name
+            )
             return HOLDS if was else Outlook(False, f"plan {plan_id} deploys {plan.last.name}")
         if plan is None or record is None:
             return _not_begun(view)
@@ -66,7 +92,8 @@ class StageIs:
 
 @dataclasses.dataclass(frozen=True)
 class Settled:
-    """The attempt of the plan that stands is over, and all members follow it; as many may be away as the plan allows."""
+    """The attempt of the plan that stands is over, and all members follow it; as many may be away
+    as the plan allows."""
 
     def outlook(self, view: View) -> Outlook:
         plan, record = view.plan, view.record
@@ -86,10 +113,14 @@ def read_condition(text: str) -> FleetCondition:
     if not sign:
         raise WrongCondition(f"{text}: a condition is needed, one of {CONDITION_SYNTAX}")
     if not NAME.fullmatch(name):
-        raise WrongCondition(f"{text}: the name of a revision is needed before the =, such as web-v2")
+        raise WrongCondition(
+            f"{text}: the name of a revision is needed before the =, such as web-v2"
+        )
     if stage not in AWAITED_STAGES:
         near = difflib.get_close_matches(stage, AWAITED_STAGES, 1, 0.0)[0]
-        raise WrongCondition(f"{text}: a stage is needed after the =, one of {', '.join(AWAITED_STAGES)}; the nearest is {near}")
+        raise WrongCondition(
+            f"{text}: a stage is needed after the =, one of {', '.join(AWAITED_STAGES)}; the nearest is {near}"
+        )
     return StageIs(name, stage)
 
 
@@ -110,5 +141,7 @@ class FleetConditions:
             return Outlook(False, str(reason))
         for text, outlook in zip(self.texts, outlooks):
             if outlook.never:
-                return Outlook(False, f"{text} cannot hold unless another plan is put: {outlook.never}")
+                return Outlook(
+                    False, f"{text} cannot hold unless another plan is put: {outlook.never}"
+                )
         return HOLDS if all(outlook.holds for outlook in outlooks) else MAY_COME

@@ -25,7 +25,8 @@ def encoded(given: str) -> str:
 
 
 def text_of(given: str) -> str:
-    """The text of a key or a value. Bytes that are not UTF-8 become replacement characters. `NoAnswer` where it is not base 64."""
+    """The text of a key or a value. Bytes that are not UTF-8 become replacement characters.
+    `NoAnswer` where it is not base 64."""
     try:
         return base64.b64decode(given, validate=True).decode(errors="replace")
     except ValueError:
@@ -33,7 +34,8 @@ def text_of(given: str) -> str:
 
 
 def all_below(prefix: str) -> dict[str, str]:
-    """The range of all keys that begin with a prefix in ASCII: etcd takes the first key that is not of the range as its end."""
+    """The range of all keys that begin with a prefix in ASCII: etcd takes the first key that is not
+    of the range as its end."""
     return {"key": encoded(prefix), "range_end": encoded(prefix[:-1] + chr(ord(prefix[-1]) + 1))}
 
 
@@ -63,14 +65,32 @@ class EtcdStore:
             name = text_of(text(each, "key"))
             if not name.startswith(self.prefix):
                 raise NoAnswer("its answer has a key that was not asked for")
-            keys[name.removeprefix(self.prefix)] = Key(text_of(text(each, "value")), number(each, "create_revision"),
-                                                       number(each, "mod_revision"), number(each, "lease"))
+            keys[name.removeprefix(self.prefix)] = Key(
+                text_of(text(each, "value")),
+                number(each, "create_revision"),
+                number(each, "mod_revision"),
+                number(each, "lease"),
+            )
         header = member(answer, "header")
         return Snapshot(number(header, "revision"), str(number(header, "cluster_id")), keys)
 
-    def write(self, compares: Sequence[Compare], puts: Mapping[str, str], deletes: Collection[str] = (), lease: int = 0) -> int | None:
-        made: list[object] = [{"request_put": {"key": encoded(self.prefix + name), "value": encoded(value), "lease": str(lease)}}
-                              for name, value in puts.items()]
+    def write(
+        self,
+        compares: Sequence[Compare],
+        puts: Mapping[str, str],
+        deletes: Collection[str] = (),
+        lease: int = 0,
+    ) -> int | None:
+        made: list[object] = [
+            {
+                "request_put": {
+                    "key": encoded(self.prefix + name),
+                    "value": encoded(value),
+                    "lease": str(lease),
+                }
+            }
+            for name, value in puts.items()
+        ]
         made += [{"request_delete_range": {"key": encoded(self.prefix + name)}} for name in deletes]
         message = {"compare": [self._compare(each) for each in compares], "success": made}
         return self._gateway.call_once(TRANSACTION, message, revision_of)
@@ -79,8 +99,18 @@ class EtcdStore:
         target, field = TARGETS[compare.what]
         name = self.prefix + compare.name
         if name.endswith("/"):  # etcd has no result "at most"
-            return {**all_below(name), "target": target, "result": "LESS", field: str(compare.value + 1)}
-        return {"key": encoded(name), "target": target, "result": "EQUAL", field: str(compare.value)}
+            return {
+                **all_below(name),
+                "target": target,
+                "result": "LESS",
+                field: str(compare.value + 1),
+            }
+        return {
+            "key": encoded(name),
+            "target": target,
+            "result": "EQUAL",
+            field: str(compare.value),
+        }
 
     def grant(self, seconds: int) -> int:
         return self._gateway.call(GRANT, {"TTL": str(seconds)}, lambda answer: number(answer, "ID"))
@@ -98,7 +128,11 @@ class EtcdStore:
     def wait(self, after: int, seconds: float) -> None:
         limit = TimeLimit(seconds)
         try:
-            self._gateway.watch({"create_request": {**all_below(self.prefix), "start_revision": str(after + 1)}}, after, limit)
+            self._gateway.watch(
+                {"create_request": {**all_below(self.prefix), "start_revision": str(after + 1)}},
+                after,
+                limit,
+            )
         except StoreFault:
             time.sleep(limit.rest())
             raise

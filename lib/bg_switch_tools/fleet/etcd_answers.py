@@ -5,21 +5,28 @@ from bg_switch_tools.fleet.store import StoreRefusal
 from bg_switch_tools.fleet.timed_post import NoAnswer
 from bg_switch_tools.switch.json_values import JsonObject, decoded
 
-# Codes of gRPC by which the cluster refuses a call, so that each other endpoint would too: InvalidArgument, NotFound,
-# PermissionDenied, FailedPrecondition, Unauthenticated.
+# Codes of gRPC by which the cluster refuses a call, so that each other endpoint would too:
+# InvalidArgument, NotFound, PermissionDenied, FailedPrecondition, Unauthenticated.
 NOT_FOUND, DENIED = 5, 7
 REFUSALS = (3, NOT_FOUND, DENIED, 9, 16)
 FULL = "database space exceeded"
 NO_TOKEN = "user name is empty"
-# What etcd answers, and not in JSON, to a client certificate whose name it could take for that of a user.
+# What etcd answers, and not in JSON, to a client certificate whose name it could take for that of a
+# user.
 COMMON_NAME = b"CommonName of client sending a request against gateway"
 # What etcd answers to a token that is missing, has expired, or is older than a change of the users.
-NEEDS_TOKEN = (NO_TOKEN, "invalid auth token", "revision of auth store is old", "revision in header is old")
+NEEDS_TOKEN = (
+    NO_TOKEN,
+    "invalid auth token",
+    "revision of auth store is old",
+    "revision in header is old",
+)
 LONGEST_TOLD = 200  # characters of a text of etcd that are repeated
 
 
 class Refusal(StoreRefusal):
-    """The cluster refuses a call, so that it has changed nothing. `code` is that of gRPC, `told` the text of etcd."""
+    """The cluster refuses a call, so that it has changed nothing. `code` is that of gRPC, `told`
+    the text of etcd."""
 
     def __init__(self, text: str, code: int, told: str) -> None:
         super().__init__(text)
@@ -39,7 +46,8 @@ def member(told: JsonObject, key: str) -> JsonObject:
 
 
 def number(told: JsonObject, key: str) -> int:
-    """A whole number in an answer, which the gateway writes as a text, and leaves out where it is 0. `NoAnswer` where it is none."""
+    """A whole number in an answer, which the gateway writes as a text, and leaves out where it is
+    0. `NoAnswer` where it is none."""
     value = told.get(key, "0")
     if isinstance(value, str) and value.isascii() and value.isdecimal() and len(value) <= 20:
         return int(value)
@@ -55,10 +63,15 @@ def text(told: JsonObject, key: str) -> str:
 
 
 def object_of(body: bytes, status: int) -> JsonObject:
-    """The object of JSON that an answer has. `NoAnswer` where it has none; `Refusal` where etcd refuses the client's certificate."""
+    """The object of JSON that an answer has. `NoAnswer` where it has none; `Refusal` where etcd
+    refuses the client's certificate."""
     if status == http.HTTPStatus.BAD_REQUEST and COMMON_NAME in body:
         told = body.decode(errors="replace")
-        raise Refusal("etcd asks for users, and takes no client certificate with a common name then: use one without", DENIED, told)
+        raise Refusal(
+            "etcd asks for users, and takes no client certificate with a common name then: use one without",
+            DENIED,
+            told,
+        )
     try:
         value = decoded(body)
     except ValueError:
@@ -74,8 +87,8 @@ def printable(told: object) -> str:
 
 
 def fault_of(told: JsonObject, status: int, user: str) -> Exception:
-    """What an answer means that is no success, to a call of this user (empty: none): `Refusal` where the cluster refuses the call,
-    else `NoAnswer`."""
+    """What an answer means that is no success, to a call of this user (empty: none): `Refusal`
+    where the cluster refuses the call, else `NoAnswer`."""
     error, code = told.get("error"), told.get("code")
     if error is None:  # from etcd 3.6 on
         error = told.get("message")
@@ -85,7 +98,9 @@ def fault_of(told: JsonObject, status: int, user: str) -> Exception:
         return NoAnswer(f"it answers with status {status}, and not as etcd does")
     reason = printable(error)
     if FULL in error:
-        return Refusal(f"etcd is full: {reason}; free its space, then disarm its alarm", code, error)
+        return Refusal(
+            f"etcd is full: {reason}; free its space, then disarm its alarm", code, error
+        )
     if NO_TOKEN in error and not user:
         return Refusal("etcd asks for a user and a password, and none are set", code, error)
     if code == DENIED:

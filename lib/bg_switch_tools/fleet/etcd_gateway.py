@@ -1,33 +1,56 @@
-"""Calls of etcd by its JSON gateway (https://etcd.io/docs/v3.4/dev-guide/api_grpc_gateway/), at one of several endpoints.
+"""Calls of etcd by its JSON gateway (https://etcd.io/docs/v3.4/dev-guide/api_grpc_gateway/), at one
+of several endpoints.
 
-An endpoint that gives no usable answer is left, and the next one is asked. Each call has a time limit in total.
+An endpoint that gives no usable answer is left, and the next one is asked. Each call has a time
+limit in total.
 """
 import http.client
 import threading
 from collections.abc import Callable, Iterator, Mapping
 from typing import NamedTuple, TypeVar
 
-from bg_switch_tools.fleet.etcd_answers import Refusal, fault_of, member, number, object_of, printable, text
+from bg_switch_tools.fleet.etcd_answers import (
+    Refusal,
+    fault_of,
+    member,
+    number,
+    object_of,
+    printable,
+    text,
+)
 from bg_switch_tools.fleet.store import StoreFault
 from bg_switch_tools.fleet.store_endpoints import StoreEndpoint
 from bg_switch_tools.fleet.time_limit import TimeLimit
-from bg_switch_tools.fleet.timed_post import NoAnswer, NoConnection, Post, answer_to, line_of, responding
+from bg_switch_tools.fleet.timed_post import (
+    NoAnswer,
+    NoConnection,
+    Post,
+    answer_to,
+    line_of,
+    responding,
+)
 from bg_switch_tools.fleet.tls_files import TlsContexts, TlsFiles
 from bg_switch_tools.switch.json_values import JsonObject
 
 AUTHENTICATE, WATCH = "/v3/auth/authenticate", "/v3/watch"
-# By `hasleader`, a member without a leader says so at once; else it is silent: a read for seconds, a watch for ever. By `Accept`,
-# etcd knows that a call came by its gateway; else it could take the name in its own certificate for that of the user.
+# By `hasleader`, a member without a leader says so at once; else it is silent: a read for seconds,
+# a watch for ever. By `Accept`, etcd knows that a call came by its gateway; else it could take the
+# name in its own certificate for that of the user.
 FIELDS = {"Grpc-Metadata-hasleader": "true", "Accept": "application/json"}
 LONGEST_PASSWORD = 4096  # bytes
 Value = TypeVar("Value")
 Message = Mapping[str, object]
-Reader = Callable[[JsonObject], Value]  # of an answer; it raises `NoAnswer` where the answer can't be read
+Reader = Callable[
+    [JsonObject], Value
+]  # of an answer; it raises `NoAnswer` where the answer can't be read
 
 
 class EtcdSettings(NamedTuple):
-    """Where etcd is, and how it is asked. Without `tls` connections are in the clear; without `user` etcd is asked for no token.
-    The file of the password is read at each authentication. `timeout` is in seconds, for a whole call."""
+    """Where etcd is, and how it is asked. Without `tls` connections are in the clear; without
+    `user` etcd is asked for no token. The file of the password is read at each authentication.
+    `timeout` is in seconds, for a whole call.
+    """
+
     endpoints: tuple[StoreEndpoint, ...]
     tls: TlsFiles | None = None
     user: str = ""
@@ -56,43 +79,68 @@ class Gateway:
         self._newest = 0  # the greatest revision that an answer of this cluster had
 
     def call(self, path: str, message: Message, value_of: Reader[Value]) -> Value:
-        """The value of the answer to a call that may be sent twice. `StoreFault` where no endpoint gives one, and where etcd refuses
-        the call."""
+        """The value of the answer to a call that may be sent twice. `StoreFault` where no endpoint
+        gives one, and where etcd refuses the call."""
         limit = TimeLimit(self.settings.timeout)
-        return self._at_an_endpoint(limit, lambda endpoint, share: value_of(self._answer(endpoint, path, message, share, share)))
+        return self._at_an_endpoint(
+            limit,
+            lambda endpoint, share: value_of(self._answer(endpoint, path, message, share, share)),
+        )
 
     def call_once(self, path: str, message: Message, value_of: Reader[Value]) -> Value:
-        """The value of the answer to a call that is sent to one endpoint alone, the one that answered last: another could carry it
-        out a second time, or be of another cluster. `StoreFault` as for `call`; the call may have been carried out then."""
+        """The value of the answer to a call that is sent to one endpoint alone, the one that
+        answered last: another could carry it out a second time, or be of another cluster.
+        `StoreFault` as for `call`; the call may have been carried out then.
+        """
         limit, endpoint = TimeLimit(self.settings.timeout), self._endpoints()[0]
         try:
-            return value_of(self._answer(endpoint, path, message, limit.share(len(self.settings.endpoints)), limit))
+            return value_of(
+                self._answer(
+                    endpoint, path, message, limit.share(len(self.settings.endpoints)), limit
+                )
+            )
         except NoAnswer as fault:
             self._leave(endpoint)
-            outcome = "" if isinstance(fault, NoConnection) else "; what was asked may have been done"
+            outcome = (
+                "" if isinstance(fault, NoConnection) else "; what was asked may have been done"
+            )
             raise StoreFault(f"etcd gives no answer: {endpoint}: {fault}{outcome}") from None
 
     def read(self, path: str, message: Message, value_of: Reader[Value]) -> Value:
-        """The value of the answer to a linearizable read. It is a `StoreFault` where its revision is below one that was known when
-        the read began: etcd was restored from a backup. What comes after is taken as it is."""
+        """The value of the answer to a linearizable read. It is a `StoreFault` where its revision
+        is below one that was known when the read began: etcd was restored from a backup. What comes
+        after is taken as it is."""
         with self._lock:
             cluster, known = self._cluster, self._newest
 
         def with_revision(answer: JsonObject) -> tuple[int, Value]:
             return number(member(answer, "header"), "revision"), value_of(answer)
+
         revision, value = self.call(path, message, with_revision)
         with self._lock:
             if self._cluster == cluster and revision < known:
                 self._newest = revision
-                raise StoreFault(f"etcd was restored from a backup: its revision was {known}, and is {revision} now")
+                raise StoreFault(
+                    f"etcd was restored from a backup: its revision was {known}, and is {revision} now"
+                )
         return value
 
     def watch(self, message: Message, after: int, limit: TimeLimit) -> None:
-        """Waits until a watch has an event, or could have missed one after this revision, or until the time limit is over.
-        `StoreFault` where no endpoint takes the watch in time, or keeps it."""
-        self._at_an_endpoint(limit, lambda endpoint, share: self._watch(endpoint, message, after, share, limit))
+        """Waits until a watch has an event, or could have missed one after this revision, or until
+        the time limit is over. `StoreFault` where no endpoint takes the watch in time, or keeps
+        it."""
+        self._at_an_endpoint(
+            limit, lambda endpoint, share: self._watch(endpoint, message, after, share, limit)
+        )
 
-    def _watch(self, endpoint: StoreEndpoint, message: Message, after: int, share: TimeLimit, limit: TimeLimit) -> None:
+    def _watch(
+        self,
+        endpoint: StoreEndpoint,
+        message: Message,
+        after: int,
+        share: TimeLimit,
+        limit: TimeLimit,
+    ) -> None:
         """Waits at one endpoint, which has to take the watch within the share."""
         begin, is_taken = TimeLimit(min(share.left(), self.settings.timeout)), False
         with responding(self._post(endpoint, WATCH, message), begin, begin) as response:
@@ -101,7 +149,9 @@ class Gateway:
                     if "events" in result or "compact_revision" in result:
                         return
                     if "canceled" in result:
-                        raise NoAnswer(f"it ends the watch: {printable(text(result, 'cancel_reason'))}")
+                        raise NoAnswer(
+                            f"it ends the watch: {printable(text(result, 'cancel_reason'))}"
+                        )
                     if number(member(result, "header"), "revision") < after:
                         return
                     begin.extend(limit)
@@ -120,9 +170,13 @@ class Gateway:
             self._judge(member(result, "header"))
             yield result
 
-    def _at_an_endpoint(self, limit: TimeLimit, ask: Callable[[StoreEndpoint, TimeLimit], Value]) -> Value:
-        """What the first endpoint gives that answers. Each that is asked has an equal share of the time that is left. Where none
-        answers for the cluster that is known, the calls after this one go on with another one, if there is one."""
+    def _at_an_endpoint(
+        self, limit: TimeLimit, ask: Callable[[StoreEndpoint, TimeLimit], Value]
+    ) -> Value:
+        """What the first endpoint gives that answers. Each that is asked has an equal share of the
+        time that is left. Where none answers for the cluster that is known, the calls after this
+        one go on with another one, if there is one.
+        """
         faults, endpoints = list[str](), self._endpoints()
         other = ""
         for place, endpoint in enumerate(endpoints):
@@ -138,13 +192,15 @@ class Gateway:
         if other:
             with self._lock:
                 self._cluster, self._newest, self._token = other, 0, ""
-            raise StoreFault(f"etcd is another cluster than before, restored from a backup or new: {'; '.join(faults)}")
+            raise StoreFault(
+                f"etcd is another cluster than before, restored from a backup or new: {'; '.join(faults)}"
+            )
         raise StoreFault(f"no endpoint of etcd gives an answer: {'; '.join(faults)}")
 
     def _endpoints(self) -> tuple[StoreEndpoint, ...]:
         """The endpoints in the order in which they are asked."""
         with self._lock:
-            return self.settings.endpoints[self._place:] + self.settings.endpoints[:self._place]
+            return self.settings.endpoints[self._place :] + self.settings.endpoints[: self._place]
 
     def _leave(self, endpoint: StoreEndpoint) -> None:
         """Asks the endpoint after this one first from now on, if this one was asked first."""
@@ -161,8 +217,16 @@ class Gateway:
             token = {"Authorization": self._token} if self._token and path != AUTHENTICATE else {}
         return Post(endpoint, path, message, {**FIELDS, **token}, context)
 
-    def _answer(self, endpoint: StoreEndpoint, path: str, message: Message, connecting: TimeLimit, limit: TimeLimit) -> JsonObject:
-        """The answer of one endpoint. A call that is refused for its token was not carried out, and is sent again with a new one."""
+    def _answer(
+        self,
+        endpoint: StoreEndpoint,
+        path: str,
+        message: Message,
+        connecting: TimeLimit,
+        limit: TimeLimit,
+    ) -> JsonObject:
+        """The answer of one endpoint. A call that is refused for its token was not carried out, and
+        is sent again with a new one."""
         try:
             return self._answer_once(endpoint, path, message, connecting, limit)
         except Refusal as refusal:
@@ -171,7 +235,14 @@ class Gateway:
         self._authenticate(endpoint, limit)
         return self._answer_once(endpoint, path, message, limit, limit)
 
-    def _answer_once(self, endpoint: StoreEndpoint, path: str, message: Message, connecting: TimeLimit, limit: TimeLimit) -> JsonObject:
+    def _answer_once(
+        self,
+        endpoint: StoreEndpoint,
+        path: str,
+        message: Message,
+        connecting: TimeLimit,
+        limit: TimeLimit,
+    ) -> JsonObject:
         status, body = answer_to(self._post(endpoint, path, message), connecting, limit)
         told = object_of(body, status)
         if "error" in told or status != http.HTTPStatus.OK:
@@ -187,7 +258,9 @@ class Gateway:
                 password = file.read(LONGEST_PASSWORD).rstrip(b"\r\n").decode()
         except (OSError, ValueError) as error:
             reason = getattr(error, "strerror", None) or "it is not text in UTF-8"
-            raise StoreFault(f"the password of etcd's user can't be read from {self.settings.password_file}: {reason}") from None
+            raise StoreFault(
+                f"the password of etcd's user can't be read from {self.settings.password_file}: {reason}"
+            ) from None
         message = {"name": self.settings.user, "password": password}
         token = text(self._answer_once(endpoint, AUTHENTICATE, message, limit, limit), "token")
         if not token.isascii() or not token.isprintable():
@@ -196,8 +269,8 @@ class Gateway:
             self._token = token
 
     def _judge(self, header: JsonObject) -> None:
-        """Notes the revision of an answer. `OtherCluster` where it is not of the cluster of those before: revisions and leases of
-        one cluster mean nothing to another."""
+        """Notes the revision of an answer. `OtherCluster` where it is not of the cluster of those
+        before: revisions and leases of one cluster mean nothing to another."""
         cluster, revision = number(header, "cluster_id"), number(header, "revision")
         if not cluster:
             raise NoAnswer("its answer names no cluster")

@@ -1,11 +1,19 @@
-"""Reads the fleet file of a machine or a person: the fleet, its store, and what the machine adds to the plan of the fleet."""
+"""Reads the fleet file of a machine or a person: the fleet, its store, and what the machine adds to
+the plan of the fleet."""
 import os
 import re
 from typing import NamedTuple
 
 from bg_switch_tools.controller.plan import Analyses, Health, Plan, Progress
 from bg_switch_tools.controller.plan_limits import missing_commands
-from bg_switch_tools.controller.plan_reader import COMMAND_KEYS, LARGEST, SCHEMA, SERVICE_KEYS, compare_ports, read_commands
+from bg_switch_tools.controller.plan_reader import (
+    COMMAND_KEYS,
+    LARGEST,
+    SCHEMA,
+    SERVICE_KEYS,
+    compare_ports,
+    read_commands,
+)
 from bg_switch_tools.controller.plan_text import value_of
 from bg_switch_tools.fleet.etcd_gateway import EtcdSettings
 from bg_switch_tools.fleet.fleet_plan import MachineSettings
@@ -19,11 +27,15 @@ MOST_ANALYSES = 64
 USER = re.compile(r"[\x21-\x7e]{1,128}")
 MACHINE_KEYS = ("host", "control", "rollout", *SERVICE_KEYS, "analyses", *COMMAND_KEYS, "timeout")
 KEYS = ("fleet", "etcd", "tls", "user", "password_file", "timeout_seconds", *MACHINE_KEYS, SCHEMA)
-TOGETHER = (("user", "password_file"), ("host", "control"))  # neither of a pair can stand without the other
+TOGETHER = (
+    ("user", "password_file"),
+    ("host", "control"),
+)  # neither of a pair can stand without the other
 
 
 class WrongFleetFile(Exception):
-    """A text that is not a fleet file. `problems` has a line for each thing that is wrong, with its place."""
+    """A text that is not a fleet file. `problems` has a line for each thing that is wrong, with its
+    place."""
 
     def __init__(self, problems: list[str]) -> None:
         super().__init__("; ".join(problems))
@@ -31,8 +43,11 @@ class WrongFleetFile(Exception):
 
 
 class FleetFile(NamedTuple):
-    """A whole fleet file. `host` is the name of this machine as a member; it is empty, and `machine` None, in a file that only
-    serves people, who send orders from elsewhere. `folder` is that of the file, in which the commands run."""
+    """A whole fleet file. `host` is the name of this machine as a member; it is empty, and
+    `machine` None, in a file that only serves people, who send orders from elsewhere. `folder` is
+    that of the file, in which the commands run.
+    """
+
     fleet: str
     etcd: EtcdSettings
     folder: str
@@ -44,7 +59,9 @@ def read_endpoint(judge: Judge, told: object, place: str) -> StoreEndpoint:
     try:
         return store_endpoint_of(told if isinstance(told, str) else "")
     except ValueError:
-        judge.note(place, f"{shown(told)} is not an endpoint, such as \"10.0.0.1:2379\" or \"[fd00::1]:2379\"")
+        judge.note(
+            place, f'{shown(told)} is not an endpoint, such as "10.0.0.1:2379" or "[fd00::1]:2379"'
+        )
     return StoreEndpoint("", 0)
 
 
@@ -54,7 +71,9 @@ def read_endpoints(judge: Judge, told: object, place: str) -> tuple[StoreEndpoin
         return ()
     for number, one in enumerate(told):
         if one in told[:number]:
-            judge.note(f"{place}[{number}]", f"{shown(one)} is already at {place}[{told.index(one)}]")
+            judge.note(
+                f"{place}[{number}]", f"{shown(one)} is already at {place}[{told.index(one)}]"
+            )
     return tuple(read_endpoint(judge, one, f"{place}[{number}]") for number, one in enumerate(told))
 
 
@@ -77,8 +96,14 @@ def read_user(judge: Judge, told: object, place: str) -> str:
 def read_tls(judge: Judge, told: object, place: str, folder: str) -> TlsFiles:
     members = judge.members(told, place, TlsFiles._fields)
     needs_both(judge, members, place, "certificate", "key")
-    return TlsFiles(*(judge.member(members, key, place, lambda value, at: read_path(judge, value, at, folder), "")
-                      for key in TlsFiles._fields))
+    return TlsFiles(
+        *(
+            judge.member(
+                members, key, place, lambda value, at: read_path(judge, value, at, folder), ""
+            )
+            for key in TlsFiles._fields
+        )
+    )
 
 
 def needs_both(judge: Judge, members: JsonObject, place: str, *keys: str) -> None:
@@ -92,7 +117,10 @@ def needs_both(judge: Judge, members: JsonObject, place: str, *keys: str) -> Non
 def read_analyses(judge: Judge, told: object, place: str) -> dict[str, tuple[str, ...]]:
     """The commands of analyses, by the names that plans have for them."""
     if not isinstance(told, JsonObject) or len(told) > MOST_ANALYSES:
-        judge.note(place, f"it is not an object of at most {MOST_ANALYSES} commands, such as {{\"smoke\": [\"./smoke_test.sh\"]}}")
+        judge.note(
+            place,
+            f'it is not an object of at most {MOST_ANALYSES} commands, such as {{"smoke": ["./smoke_test.sh"]}}',
+        )
         return {}
     judge.members(told, place, tuple(told))  # which notes keys that are there twice
     for name in told:
@@ -108,22 +136,37 @@ def read_machine(judge: Judge, members: JsonObject, folder: str) -> MachineSetti
 
     def port(value: object, place: str) -> int:
         return judge.whole_number(value, place, 1, GREATEST_PORT)
+
     return MachineSettings(
         judge.member(members, "control", "", port, 1),
-        judge.member(members, "analyses", "", lambda value, at: read_analyses(judge, value, at), {}),
+        judge.member(
+            members, "analyses", "", lambda value, at: read_analyses(judge, value, at), {}
+        ),
         read_commands(judge, members),
         {key: port(members[key], key) for key in SERVICE_KEYS if key in members},
-        judge.member(members, "rollout", "", lambda value, at: read_path(judge, value, at, folder), ""))
+        judge.member(
+            members, "rollout", "", lambda value, at: read_path(judge, value, at, folder), ""
+        ),
+    )
 
 
 def _plan(machine: MachineSettings) -> Plan:
-    """A plan without a revision that has what the machine adds, so that a plan's judgements judge it too."""
-    return Plan(machine.control, Health(), Analyses(machine.analyses), Progress(), (), machine.commands, services=machine.services)
+    """A plan without a revision that has what the machine adds, so that a plan's judgements judge
+    it too."""
+    return Plan(
+        machine.control,
+        Health(),
+        Analyses(machine.analyses),
+        Progress(),
+        (),
+        machine.commands,
+        services=machine.services,
+    )
 
 
 def read_fleet_file(text: bytes, folder: str) -> FleetFile:
-    """The fleet file of these bytes, which may be YAML as a plan may; paths in it go from this folder on. `WrongFleetFile` with all
-    of its problems where it is none."""
+    """The fleet file of these bytes, which may be YAML as a plan may; paths in it go from this
+    folder on. `WrongFleetFile` with all of its problems where it is none."""
     judge = Judge("the fleet file")
     if len(text) > LARGEST:
         raise WrongFleetFile([f"it has more than {LARGEST} bytes"])
@@ -135,18 +178,37 @@ def read_fleet_file(text: bytes, folder: str) -> FleetFile:
     judge.member(members, SCHEMA, "", judge.text, "")
     for keys in TOGETHER:
         needs_both(judge, members, "", *keys)
-    if "host" not in members and "control" not in members and any(key in members for key in MACHINE_KEYS):
+    if (
+        "host" not in members
+        and "control" not in members
+        and any(key in members for key in MACHINE_KEYS)
+    ):
         judge.note("host", "is missing, and so is control: the file has other keys of a machine")
     etcd = EtcdSettings(
         judge.member(members, "etcd", "", lambda value, at: read_endpoints(judge, value, at), ()),
-        judge.member(members, "tls", "", lambda value, at: read_tls(judge, value, at, folder), None),
+        judge.member(
+            members, "tls", "", lambda value, at: read_tls(judge, value, at, folder), None
+        ),
         judge.member(members, "user", "", lambda value, at: read_user(judge, value, at), ""),
-        judge.member(members, "password_file", "", lambda value, at: read_path(judge, value, at, folder), ""),
-        judge.member(members, "timeout_seconds", "", lambda value, at: judge.number(value, at, LEAST_TIMEOUT, LONGEST_TIMEOUT),
-                     EtcdSettings._field_defaults["timeout"]))
+        judge.member(
+            members, "password_file", "", lambda value, at: read_path(judge, value, at, folder), ""
+        ),
+        judge.member(
+            members,
+            "timeout_seconds",
+            "",
+            lambda value, at: judge.number(value, at, LEAST_TIMEOUT, LONGEST_TIMEOUT),
+            EtcdSettings._field_defaults["timeout"],
+        ),
+    )
     machine = read_machine(judge, members, folder)
-    made = FleetFile(judge.member(members, "fleet", "", judge.name, ""), etcd, folder,
-                     judge.member(members, "host", "", judge.name, ""), machine)
+    made = FleetFile(
+        judge.member(members, "fleet", "", judge.name, ""),
+        etcd,
+        folder,
+        judge.member(members, "host", "", judge.name, ""),
+        machine,
+    )
     if machine and not judge.problems:
         compare_ports(judge, _plan(machine))
     if judge.problems:
@@ -165,9 +227,20 @@ def read_whole_fleet_file(path: str) -> FleetFile:
 
 
 def missing_files(fleet_file: FleetFile) -> list[str]:
-    """A problem for each command and each file that a fleet file names and that can't be used here."""
-    problems = missing_commands(_plan(fleet_file.machine), fleet_file.folder) if fleet_file.machine else []
-    files = {f"tls.{key}": path for key, path in fleet_file.etcd.tls._asdict().items()} if fleet_file.etcd.tls else {}
+    """A problem for each command and each file that a fleet file names and that can't be used
+    here."""
+    problems = (
+        missing_commands(_plan(fleet_file.machine), fleet_file.folder) if fleet_file.machine else []
+    )
+    files = (
+        {f"tls.{key}": path for key, path in fleet_file.etcd.tls._asdict().items()}
+        if fleet_file.etcd.tls
+        else {}
+    )
     files["password_file"] = fleet_file.etcd.password_file
     files["rollout"] = fleet_file.machine.rollout if fleet_file.machine else ""
-    return problems + [f"{place}: {path} can't be read" for place, path in files.items() if path and not os.access(path, os.R_OK)]
+    return problems + [
+        f"{place}: {path} can't be read"
+        for place, path in files.items()
+        if path and not os.access(path, os.R_OK)
+    ]

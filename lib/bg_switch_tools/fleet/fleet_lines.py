@@ -1,4 +1,5 @@
-"""The lines that the record of a fleet asks for: a controller's source of lines in place of a plan's file."""
+"""The lines that the record of a fleet asks for: a controller's source of lines in place of a
+plan's file."""
 import time
 
 from bg_switch_tools.controller.line_source import SourceParts
@@ -10,8 +11,8 @@ from bg_switch_tools.switch.reports import Report
 
 
 class FleetLines:
-    """The source of lines of an agent. Each line rests on a fresh read of the record; a failed verdict of this machine's own analysis
-    does not, since going back needs no permission."""
+    """The source of lines of an agent. Each line rests on a fresh read of the record; a failed
+    verdict of this machine's own analysis does not, since going back needs no permission."""
 
     def __init__(self, machine: Machine, parts: SourceParts, now: Clock = time.monotonic) -> None:
         self.machine = machine
@@ -38,7 +39,8 @@ class FleetLines:
         return self.machine.coming(report, self.now())
 
     def next_line(self, plan: Plan, report: Report) -> str | None:
-        """The line of the table, but a deploy only once the endpoints of its revision were started."""
+        """The line of the table, but a deploy only once the endpoints of its revision were
+        started."""
         coming = self.coming(plan, report)
         if coming and not self.launcher.is_ready(plan, coming):
             return None
@@ -47,9 +49,13 @@ class FleetLines:
             self.history.announce(coming)
         if line != "promote" or self.machine.record is None or self.machine.read_at is None:
             return line
-        self.log.say("fleet", f"promotes {report.newest.name} by attempt {self.machine.record.id}, which was read "
-                     f"{self.now() - self.machine.read_at:.3f} seconds ago")
-        # The log may wait for its reader, or the process may be stopped meanwhile: the age that counts is that when the line is sent.
+        self.log.say(
+            "fleet",
+            f"promotes {report.newest.name} by attempt {self.machine.record.id}, which was read "
+            f"{self.now() - self.machine.read_at:.3f} seconds ago",
+        )
+        # The log may wait for its reader, or the process may be stopped meanwhile: the age that
+        # counts is that when the line is sent.
         if self.machine.next_line(report, self.now()) == line:
             return line
         self.log.say("fleet", f"does not promote {report.newest.name}: the read has become too old")
@@ -67,9 +73,12 @@ class FleetLines:
         return self.machine.why_not_judged(report, self.now())
 
     def may_hand_in(self, report: Report, name: str, verdict: str, fault: str) -> bool:
-        """Holds `verdict post successful` back: the fleet succeeds as a whole, and until then each machine can go back."""
+        """Holds `verdict post successful` back: the fleet succeeds as a whole, and until then each
+        machine can go back."""
         if verdict != "successful":
-            self.machine.take_failed(f"analysis {name}: {verdict}" + (f", {fault}" if fault else ""))
+            self.machine.take_failed(
+                f"analysis {name}: {verdict}" + (f", {fault}" if fault else "")
+            )
             return True
         if name == "post" and report.newest.available:
             self.machine.take_passed()

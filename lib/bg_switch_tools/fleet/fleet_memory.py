@@ -1,4 +1,5 @@
-"""What the controller of a machine of a fleet knows of the rounds before: the record of the fleet says what a switch is opened with."""
+"""What the controller of a machine of a fleet knows of the rounds before: the record of the fleet
+says what a switch is opened with."""
 from bg_switch_tools.controller.log import Log
 from bg_switch_tools.controller.memory import Memory, Revisions
 from bg_switch_tools.controller.plan import Plan, PlannedRevision
@@ -7,8 +8,8 @@ from bg_switch_tools.fleet.machine import Machine
 
 
 class FleetMemory(Memory):
-    """The state file of an agent is that of its machine, whichever plan the fleet has by now: a process that an agent before has left
-    behind is ended also after the plan has changed."""
+    """The state file of an agent is that of its machine, whichever plan the fleet has by now: a
+    process that an agent before has left behind is ended also after the plan has changed."""
 
     def __init__(self, machine: Machine, path: str, plan: Plan, log: Log) -> None:
         self.machine = machine

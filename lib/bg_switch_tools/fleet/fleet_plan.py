@@ -1,26 +1,55 @@
-"""The plan of a fleet, which all its machines share: revisions, health and limits, and the names of analyses."""
+"""The plan of a fleet, which all its machines share: revisions, health and limits, and the names of
+analyses."""
 import dataclasses
 import functools
 from collections.abc import Mapping
 
-from bg_switch_tools.controller.plan import Analyses, Commands, Health, Plan, PlannedRevision, Progress, Revisions
-from bg_switch_tools.controller.plan_reader import (LARGEST, LONGEST, SCHEMA, WrongPlan, compare_ports, read_health,
-                                                    read_progress, read_revisions, seconds)
+from bg_switch_tools.controller.plan import (
+    Analyses,
+    Commands,
+    Health,
+    Plan,
+    PlannedRevision,
+    Progress,
+    Revisions,
+)
+from bg_switch_tools.controller.plan_reader import (
+    LARGEST,
+    LONGEST,
+    SCHEMA,
+    WrongPlan,
+    compare_ports,
+    read_health,
+    read_progress,
+    read_revisions,
+    seconds,
+)
 from bg_switch_tools.controller.plan_text import value_of
 from bg_switch_tools.switch.json_values import JsonObject, Judge
 
 KEYS = ("health", "analyses", "progress", "redispatch", "revisions", "fleet", SCHEMA)
-OF_MACHINES = ("control", "active", "preview", "start", "stop", "notify", "timeout")  # keys of a plan for one machine alone
+OF_MACHINES = (
+    "control",
+    "active",
+    "preview",
+    "start",
+    "stop",
+    "notify",
+    "timeout",
+)  # keys of a plan for one machine alone
 MOST_MISSING = 1000
 ANALYSES = ("pre", "post")
 
 
 @dataclasses.dataclass(frozen=True)
 class FleetPlan(Revisions):
-    """A whole plan of a fleet. `analyses` has the names of the analyses by `pre` and `post`; each machine has the commands. The
-    seconds of an analysis and of `progress` are those of a machine's plan. `by_hand` says that a person orders each promotion;
-    else all members have to be ready for `seconds` in a row. At most `max_missing` members may be without a vote. An attempt that
-    was `promoting` for `promoting_seconds` is aborted: for so long two revisions may be live at once."""
+    """A whole plan of a fleet. `analyses` has the names of the analyses by `pre` and `post`; each
+    machine has the commands. The seconds of an analysis and of `progress` are those of a machine's
+    plan. `by_hand` says that a person orders each promotion; else all members have to be ready for
+    `seconds` in a row. At most `max_missing` members may be without a vote. An attempt that was
+    `promoting` for `promoting_seconds` is aborted: for so long two revisions may be live at once.
+    """
+
     revisions: tuple[PlannedRevision, ...]
     health: Health = Health()
     analyses: Mapping[str, str] = dataclasses.field(default_factory=dict)
@@ -35,8 +64,11 @@ class FleetPlan(Revisions):
 
 @dataclasses.dataclass(frozen=True)
 class MachineSettings:
-    """What a machine adds to the plan of its fleet: the control port and the other ports of its switch, the commands of the
-    analyses by their names, the commands for its endpoints, and the path of the Rollout of its switch (empty: not told)."""
+    """What a machine adds to the plan of its fleet: the control port and the other ports of its
+    switch, the commands of the analyses by their names, the commands for its endpoints, and the
+    path of the Rollout of its switch (empty: not told).
+    """
+
     control: int
     analyses: Mapping[str, tuple[str, ...]] = dataclasses.field(default_factory=dict)
     commands: Commands = Commands()
@@ -58,24 +90,46 @@ def _read(judge: Judge, told: object) -> FleetPlan:
     members = judge.members(told, "", (*KEYS, *OF_MACHINES), ("revisions",))
     judge.member(members, SCHEMA, "", judge.text, "")
     none: tuple[dict[str, str], float] = ({}, Analyses.seconds)
-    names, limit = judge.member(members, "analyses", "", lambda value, at: _read_analyses(judge, value, at), none)
-    progress = judge.member(members, "progress", "", lambda value, at: read_progress(judge, value, at), Progress())
+    names, limit = judge.member(
+        members, "analyses", "", lambda value, at: _read_analyses(judge, value, at), none
+    )
+    progress = judge.member(
+        members, "progress", "", lambda value, at: read_progress(judge, value, at), Progress()
+    )
     keys = ("by_hand", "seconds", "max_missing", "promoting_seconds")
-    fleet = judge.member(members, "fleet", "", lambda value, at: judge.members(value, at, keys), JsonObject([]))
+    fleet = judge.member(
+        members, "fleet", "", lambda value, at: judge.members(value, at, keys), JsonObject([])
+    )
     return FleetPlan(
-        judge.member(members, "revisions", "", lambda value, at: read_revisions(judge, value, at), ()),
-        judge.member(members, "health", "", lambda value, at: read_health(judge, value, at), Health()),
-        names, limit, progress,
+        judge.member(
+            members, "revisions", "", lambda value, at: read_revisions(judge, value, at), ()
+        ),
+        judge.member(
+            members, "health", "", lambda value, at: read_health(judge, value, at), Health()
+        ),
+        names,
+        limit,
+        progress,
         judge.member(members, "redispatch", "", judge.flag, True),
         judge.member(fleet, "by_hand", "fleet", judge.flag, False),
-        judge.member(fleet, "seconds", "fleet", lambda value, at: judge.number(value, at, 0, LONGEST), 0.0),
-        judge.member(fleet, "max_missing", "fleet", lambda value, at: judge.whole_number(value, at, 0, MOST_MISSING), 0),
-        seconds(judge, fleet, "promoting_seconds", "fleet", limit + progress.seconds))
+        judge.member(
+            fleet, "seconds", "fleet", lambda value, at: judge.number(value, at, 0, LONGEST), 0.0
+        ),
+        judge.member(
+            fleet,
+            "max_missing",
+            "fleet",
+            lambda value, at: judge.whole_number(value, at, 0, MOST_MISSING),
+            0,
+        ),
+        seconds(judge, fleet, "promoting_seconds", "fleet", limit + progress.seconds),
+    )
 
 
 @functools.lru_cache(maxsize=64)
 def read_fleet_plan(text: str) -> FleetPlan:
-    """The plan of a text, which may be YAML as a controller's plan may. `WrongPlan` with all of its problems where it is none."""
+    """The plan of a text, which may be YAML as a controller's plan may. `WrongPlan` with all of its
+    problems where it is none."""
     judge = Judge()
     if len(text.encode()) > LARGEST:
         raise WrongPlan([f"it has more than {LARGEST} bytes"])
@@ -89,15 +143,30 @@ def read_fleet_plan(text: str) -> FleetPlan:
     return plan
 
 
-def machine_plan(plan: FleetPlan, settings: MachineSettings, others: tuple[PlannedRevision, ...] = ()) -> Plan:
-    """The plan of a machine's controller. `others` are revisions that the plan may name no longer. The leader limits the progress
-    of an attempt, so the controller only tells of it. `WrongPlan` where a port is one of the switch itself."""
+def machine_plan(
+    plan: FleetPlan, settings: MachineSettings, others: tuple[PlannedRevision, ...] = ()
+) -> Plan:
+    """The plan of a machine's controller. `others` are revisions that the plan may name no longer.
+    The leader limits the progress of an attempt, so the controller only tells of it. `WrongPlan`
+    where a port is one of the switch itself.
+    """
     names = {revision.name for revision in plan.revisions}
     known = {revision.name: revision for revision in others if revision.name not in names}
-    commands = {key: settings.analyses[name] for key, name in plan.analyses.items() if name in settings.analyses}
-    made = Plan(settings.control, plan.health, Analyses(commands, plan.analysis_seconds),
-                dataclasses.replace(plan.progress, abort=False), (*known.values(), *plan.revisions), settings.commands,
-                plan.redispatch, settings.services)
+    commands = {
+        key: settings.analyses[name]
+        for key, name in plan.analyses.items()
+        if name in settings.analyses
+    }
+    made = Plan(
+        settings.control,
+        plan.health,
+        Analyses(commands, plan.analysis_seconds),
+        dataclasses.replace(plan.progress, abort=False),
+        (*known.values(), *plan.revisions),
+        settings.commands,
+        plan.redispatch,
+        settings.services,
+    )
     judge = Judge()
     compare_ports(judge, made)
     if judge.problems:

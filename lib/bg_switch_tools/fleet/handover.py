@@ -1,4 +1,5 @@
-"""What the threads of an agent hand to one another: reads of the store to the rounds at the switch, and reports back."""
+"""What the threads of an agent hand to one another: reads of the store to the rounds at the switch,
+and reports back."""
 import threading
 import time
 
@@ -6,14 +7,21 @@ from bg_switch_tools.fleet.agent import Read
 
 
 class Handover:
-    """A read is followed by a round that has taken it in, and then by what the machine reports after that round.
+    """A read is followed by a round that has taken it in, and then by what the machine reports
+    after that round.
 
-    So a store that is silent holds up no round, and an agent whose rounds hang no longer keeps its lease."""
+    So a store that is silent holds up no round, and an agent whose rounds hang no longer keeps its
+    lease.
+    """
 
     def __init__(self) -> None:
         self._condition = threading.Condition()
         self._reads = list[Read]()
-        self._put = self._taken = self._done = 0  # counts of reads: that were put, that were taken, that a round was done with
+        self._put = (
+            self._taken
+        ) = (
+            self._done
+        ) = 0  # counts of reads: that were put, that were taken, that a round was done with
         self._text: str | None = None
         self._has_ended = False
 
@@ -32,8 +40,8 @@ class Handover:
             self._condition.notify_all()
 
     def await_text(self) -> str | None:
-        """Waits until a round was done with all reads that were put. Gives what the machine reports after it: None where that is
-        nothing, and where the agent ends."""
+        """Waits until a round was done with all reads that were put. Gives what the machine reports
+        after it: None where that is nothing, and where the agent ends."""
         with self._condition:
             put = self._put
             self._condition.wait_for(lambda: self._done >= put or self._has_ended)
@@ -42,7 +50,8 @@ class Handover:
     # ---- the thread of the rounds ----
 
     def await_reads(self, seconds: float) -> list[Read]:
-        """Waits until a read was put, but for so many seconds at most. Gives those that were not taken yet, the oldest first."""
+        """Waits until a read was put, but for so many seconds at most. Gives those that were not
+        taken yet, the oldest first."""
         with self._condition:
             self._condition.wait_for(lambda: self._reads or self._has_ended, seconds)
             reads, self._reads = self._reads, []
@@ -50,8 +59,8 @@ class Handover:
             return reads
 
     def finish(self, text: str | None) -> bool:
-        """A round is over, with all reads that were taken. Gives whether the machine reports something else than before, and nobody
-        waits for it."""
+        """A round is over, with all reads that were taken. Gives whether the machine reports
+        something else than before, and nobody waits for it."""
         with self._condition:
             is_news = text != self._text and self._done == self._put
             self._text, self._done = text, self._taken
@@ -69,7 +78,8 @@ class Wake:
         self._event.set()
 
     def wait(self, seconds: float, least: float = 0.0) -> None:
-        """Waits until the thread is woken, but for so many seconds at most, and for at least so many."""
+        """Waits until the thread is woken, but for so many seconds at most, and for at least so
+        many."""
         begun = time.monotonic()
         self._event.wait(seconds)
         self._event.clear()

@@ -1,14 +1,38 @@
-"""What an agent knows of its fleet, and what follows for its switch: the reads and the moments come from the caller."""
+"""What an agent knows of its fleet, and what follows for its switch: the reads and the moments come
+from the caller."""
 import dataclasses
 from collections.abc import Callable
 
 from bg_switch_tools.controller.plan import Plan, PlannedRevision
 from bg_switch_tools.controller.plan_reader import WrongPlan
-from bg_switch_tools.fleet.fleet_plan import FleetPlan, MachineSettings, machine_plan, missing_analyses, read_fleet_plan
+from bg_switch_tools.fleet.fleet_plan import (
+    FleetPlan,
+    MachineSettings,
+    machine_plan,
+    missing_analyses,
+    read_fleet_plan,
+)
 from bg_switch_tools.fleet.machine_state import MachineState
-from bg_switch_tools.fleet.next_line import (Joined, Known, is_behind, is_known_to_be_over, is_of_fleet, joined_after,
-                                              next_line, state_of)
-from bg_switch_tools.fleet.record import FAILED, MACHINES, PLAN, WORKING, MachineReport, Record, Unreadable, View
+from bg_switch_tools.fleet.next_line import (
+    Joined,
+    Known,
+    is_behind,
+    is_known_to_be_over,
+    is_of_fleet,
+    joined_after,
+    next_line,
+    state_of,
+)
+from bg_switch_tools.fleet.record import (
+    FAILED,
+    MACHINES,
+    PLAN,
+    WORKING,
+    MachineReport,
+    Record,
+    Unreadable,
+    View,
+)
 from bg_switch_tools.fleet.store import Snapshot
 from bg_switch_tools.switch.reports import SERVICES, Report
 
@@ -18,18 +42,27 @@ NO_RECORD = "the record of the fleet is not known yet"
 
 
 class Machine:
-    """One machine of a fleet. `keep` is given each state that is to outlive a crash, before anything rests on it. All moments are
-    seconds of the machine's monotonic clock."""
+    """One machine of a fleet. `keep` is given each state that is to outlive a crash, before
+    anything rests on it. All moments are seconds of the machine's monotonic clock."""
 
-    def __init__(self, host: str, machine: str, settings: MachineSettings, keep: Callable[[MachineState], None],
-                 state: MachineState = MachineState()) -> None:
-        """`machine` is an id of the machine itself, such as that of /etc/machine-id. `state` is what was kept before."""
+    def __init__(
+        self,
+        host: str,
+        machine: str,
+        settings: MachineSettings,
+        keep: Callable[[MachineState], None],
+        state: MachineState = MachineState(),
+    ) -> None:
+        """`machine` is an id of the machine itself, such as that of /etc/machine-id. `state` is
+        what was kept before."""
         self.host = host
         self.machine = machine
         self.settings = settings
         self.keep = keep
         self.state = state
-        self.read_at: float | None = None  # when the read was begun that `state` is of; None where the latest one has failed
+        self.read_at: float | None = (
+            None  # when the read was begun that `state` is of; None where the latest one has failed
+        )
         self.fault = ""  # why the latest read is not used
         self.failed_at: float | None = None  # since when an attempt that catches up has failed here
         self.refusal = ""  # the latest line that the switch has refused, with its reply
@@ -49,10 +82,14 @@ class Machine:
         return read_fleet_plan(self.state.plan) if self.state.plan else None
 
     def plan(self) -> Plan | None:
-        """The plan of the machine's controller; None until the plan and the record were read once. `WrongPlan` where the plan and the
-        settings of the machine contradict one another."""
+        """The plan of the machine's controller; None until the plan and the record were read once.
+        `WrongPlan` where the plan and the settings of the machine contradict one another."""
         plan, record = self.fleet_plan, self.record
-        return machine_plan(plan, self.settings, (record.stable, record.revision)) if plan and record else None
+        return (
+            machine_plan(plan, self.settings, (record.stable, record.revision))
+            if plan and record
+            else None
+        )
 
     def _set(self, state: MachineState) -> None:
         if state != self.state:
@@ -72,10 +109,15 @@ class Machine:
             read_fleet_plan(key.value)
             text = key.value
         except WrongPlan as wrong:
-            text, self.fault = self.state.plan, f"the plan is wrong, so the one before is used: {wrong}"
+            text, self.fault = (
+                self.state.plan,
+                f"the plan is wrong, so the one before is used: {wrong}",
+            )
         if record != self.record:
             self.refusal = ""
-        self._set(dataclasses.replace(self.state, cluster=snapshot.cluster, plan=text, record=record))
+        self._set(
+            dataclasses.replace(self.state, cluster=snapshot.cluster, plan=text, record=record)
+        )
         self.read_at = begun
 
     def _fault_of(self, view: View) -> str:
@@ -90,7 +132,8 @@ class Machine:
         return ""
 
     def lose_store(self) -> None:
-        """The store gives no answer: what was read before decides on nothing any more that needs a fresh read."""
+        """The store gives no answer: what was read before decides on nothing any more that needs a
+        fresh read."""
         self.read_at = None
 
     def is_fresh(self, now: float) -> bool:
@@ -108,10 +151,20 @@ class Machine:
         known = self._known(self.record, now)
         if report.phase != "postAnalysis" and self.joined.has_passed:
             self._set_joined(dataclasses.replace(self.joined, has_passed=False))
-        elif report.phase == "postAnalysis" and is_of_fleet(report, known) and not self._analysis("post"):
+        elif (
+            report.phase == "postAnalysis"
+            and is_of_fleet(report, known)
+            and not self._analysis("post")
+        ):
             self.take_passed()
-        is_failed = report.phase == "aborted" and is_behind(report, self.record) and known.has_joined(report)
-        self.failed_at = (self.failed_at if self.failed_at is not None else now) if is_failed else None
+        is_failed = (
+            report.phase == "aborted"
+            and is_behind(report, self.record)
+            and known.has_joined(report)
+        )
+        self.failed_at = (
+            (self.failed_at if self.failed_at is not None else now) if is_failed else None
+        )
 
     def _analysis(self, name: str) -> str:
         plan = self.fleet_plan
@@ -121,22 +174,28 @@ class Machine:
         self._set(dataclasses.replace(self.state, joined=joined))
 
     def to_open(self) -> PlannedRevision | None:
-        """The revision that a book is opened with: the fleet's stable one, as it was read last. None before the first read."""
+        """The revision that a book is opened with: the fleet's stable one, as it was read last.
+        None before the first read."""
         return self.record.fleet_stable if self.record else None
 
     def opening(self, plan: Plan) -> tuple[PlannedRevision, str]:
         """The same with why this one, for a plan of the machine's controller."""
         revision = self.to_open()
-        return (revision, "the fleet's stable revision") if revision else (plan.first, "the plan's first revision")
+        return (
+            (revision, "the fleet's stable revision")
+            if revision
+            else (plan.first, "the plan's first revision")
+        )
 
     def lose_book(self) -> None:
-        """The book of the switch is gone, and with it the attempt that it had joined, and what was refused."""
+        """The book of the switch is gone, and with it the attempt that it had joined, and what was
+        refused."""
         self.refusal = ""
         self._set_joined(Joined())
 
     def next_line(self, report: Report, now: float) -> str | None:
-        """The line to be sent at once; None where none is, where the latest read is too old, or where this machine is unfit. Going
-        back from an attempt that is over needs neither."""
+        """The line to be sent at once; None where none is, where the latest read is too old, or
+        where this machine is unfit. Going back from an attempt that is over needs neither."""
         if self.record is None:
             return None
         known = self._known(self.record, now)
@@ -145,13 +204,20 @@ class Machine:
         return line if goes_back or self.is_fresh(now) and not self.unfit else None
 
     def coming(self, report: Report, now: float) -> PlannedRevision | None:
-        """The revision that is deployed next, by the record as it is known; None where this machine is unfit."""
-        line = next_line(report, self._known(self.record, now)) if self.record and not self.unfit else None
+        """The revision that is deployed next, by the record as it is known; None where this machine
+        is unfit."""
+        line = (
+            next_line(report, self._known(self.record, now))
+            if self.record and not self.unfit
+            else None
+        )
         if self.record is None or line is None or not line.startswith("deploy "):
             return None
         return self.record.fleet_stable if is_behind(report, self.record) else self.record.revision
 
-    def take_reply(self, line: str, was_carried_out: bool, reply: str, report: Report, now: float) -> None:
+    def take_reply(
+        self, line: str, was_carried_out: bool, reply: str, report: Report, now: float
+    ) -> None:
         """Takes in the reply to a line of `next_line`, which rests on this report."""
         if not was_carried_out:
             self.refusal = f"{line}: {reply}"
@@ -168,20 +234,36 @@ class Machine:
         return "it has passed" if report.phase == "postAnalysis" and self.joined.has_passed else ""
 
     def take_passed(self) -> None:
-        """The analysis after the switch has passed here. The verdict is held back: the record decides for all machines at once."""
+        """The analysis after the switch has passed here. The verdict is held back: the record
+        decides for all machines at once."""
         if not self.joined.has_passed:
             self._set_joined(dataclasses.replace(self.joined, has_passed=True))
 
     def take_failed(self, reason: str) -> None:
-        """An analysis has failed here. Its verdict is handed in at once: going back needs no permission."""
+        """An analysis has failed here. Its verdict is handed in at once: going back needs no
+        permission."""
         self._set_joined(dataclasses.replace(self.joined, reason=reason))
 
     def report(self, report: Report | None, now: float) -> MachineReport:
-        """What the machine reports to its fleet; without a report of the switch where that gives none."""
+        """What the machine reports to its fleet; without a report of the switch where that gives
+        none."""
         if report is None:
-            return MachineReport(self.machine, 0, WORKING, self.unfit or self.refusal or "the switch gives no report")
+            return MachineReport(
+                self.machine, 0, WORKING, self.unfit or self.refusal or "the switch gives no report"
+            )
         active, preview, stable, newest = (report.service(service).name for service in SERVICES)
-        told = MachineReport(self.machine, 0, WORKING, self.unfit, report.phase, active, preview, stable, newest, report.newest.available)
+        told = MachineReport(
+            self.machine,
+            0,
+            WORKING,
+            self.unfit,
+            report.phase,
+            active,
+            preview,
+            stable,
+            newest,
+            report.newest.available,
+        )
         if self.record is None:
             return told
         known = self._known(self.record, now)
@@ -191,12 +273,19 @@ class Machine:
         if lacks and state != FAILED:
             state, reason = FAILED, lacks
         attempt = self.record.id if has_joined or lacks else 0
-        return dataclasses.replace(told, attempt=attempt, state=state, reason=reason or self.unfit or self.refusal)
+        return dataclasses.replace(
+            told, attempt=attempt, state=state, reason=reason or self.unfit or self.refusal
+        )
 
     def _lacks(self, report: Report, has_joined: bool) -> str:
-        """Why the attempt that runs can't succeed on this machine; empty where it can, and where the machine catches up first."""
+        """Why the attempt that runs can't succeed on this machine; empty where it can, and where
+        the machine catches up first."""
         if self.record is None or not self.record.is_running or is_behind(report, self.record):
             return ""
         plan = self.fleet_plan
         missing = missing_analyses(plan, self.settings) if plan and has_joined else []
-        return f"this machine has no command for the analysis {', '.join(missing)}" if missing else self.unfit
+        return (
+            f"this machine has no command for the analysis {', '.join(missing)}"
+            if missing
+            else self.unfit
+        )

@@ -1,4 +1,5 @@
-"""What an agent keeps in a file beside its fleet file, so that it outlives a crash of the switch, of itself, and of both."""
+"""What an agent keeps in a file beside its fleet file, so that it outlives a crash of the switch,
+of itself, and of both."""
 import dataclasses
 import json
 
@@ -16,8 +17,9 @@ JOINED_KEYS = ("cluster", "attempt", "revision", "has_passed", "reason")
 
 @dataclasses.dataclass(frozen=True)
 class MachineState:
-    """The cluster, the plan and the record that were read last (an empty cluster, an empty text and None before the first read), and
-    what the switch has joined."""
+    """The cluster, the plan and the record that were read last (an empty cluster, an empty text and
+    None before the first read), and what the switch has joined."""
+
     cluster: str = ""
     plan: str = ""
     record: Record | None = None
@@ -25,8 +27,18 @@ class MachineState:
 
     def text(self) -> str:
         """As the file has it."""
-        return json.dumps({"version": VERSION, "cluster": self.cluster, "plan": self.plan,
-                           "record": self.record and self.record.text(), "joined": vars(self.joined)}) + "\n"
+        return (
+            json.dumps(
+                {
+                    "version": VERSION,
+                    "cluster": self.cluster,
+                    "plan": self.plan,
+                    "record": self.record and self.record.text(),
+                    "joined": vars(self.joined),
+                }
+            )
+            + "\n"
+        )
 
 
 def read_machine_state(text: bytes) -> MachineState:
@@ -42,12 +54,21 @@ def read_machine_state(text: bytes) -> MachineState:
     joined = judge.members(members["joined"], "joined", JOINED_KEYS, JOINED_KEYS)
     if judge.problems:
         raise Unreadable("; ".join(judge.problems))
-    record = None if members["record"] is None else read_record(judge.text(members["record"], "record"))
+    record = (
+        None if members["record"] is None else read_record(judge.text(members["record"], "record"))
+    )
     state = MachineState(
-        judge.text(members["cluster"], "cluster"), judge.text(members["plan"], "plan"), record,
-        Joined(judge.text(joined["cluster"], "joined.cluster"), judge.whole_number(joined["attempt"], "joined.attempt", 0, 1 << 63),
-               judge.text(joined["revision"], "joined.revision"), judge.flag(joined["has_passed"], "joined.has_passed"),
-               judge.text(joined["reason"], "joined.reason")))
+        judge.text(members["cluster"], "cluster"),
+        judge.text(members["plan"], "plan"),
+        record,
+        Joined(
+            judge.text(joined["cluster"], "joined.cluster"),
+            judge.whole_number(joined["attempt"], "joined.attempt", 0, 1 << 63),
+            judge.text(joined["revision"], "joined.revision"),
+            judge.flag(joined["has_passed"], "joined.has_passed"),
+            judge.text(joined["reason"], "joined.reason"),
+        ),
+    )
     if judge.problems:
         raise Unreadable("; ".join(judge.problems))
     try:
@@ -65,7 +86,8 @@ class MachineStateFile:
         self.path = fleet_path + SUFFIX
 
     def read(self) -> MachineState:
-        """The state that was kept; that of a machine that knows nothing where there is no file. `Unreadable` where the file can't be
+        """The state that was kept; that of a machine that knows nothing where there is no file.
+        `Unreadable` where the file can't be
         read: the machine then begins its attempt again."""
         try:
             with open(self.path, "rb") as file:

@@ -1,11 +1,23 @@
-"""What an agent does at its switch, by where its switch and the record of the fleet stand, and by nothing else.
+"""What an agent does at its switch, by where its switch and the record of the fleet stand, and by
+nothing else.
 
-So a machine that crashed, was cut off or missed attempts is brought up by the same table as any other one.
+So a machine that crashed, was cut off or missed attempts is brought up by the same table as any
+other one.
 """
 import dataclasses
 from typing import NamedTuple
 
-from bg_switch_tools.fleet.record import (DEPLOYING, FAILED, FOLLOWS, PASSED, PROMOTING, READY, TESTING, WORKING, Record)
+from bg_switch_tools.fleet.record import (
+    DEPLOYING,
+    FAILED,
+    FOLLOWS,
+    PASSED,
+    PROMOTING,
+    READY,
+    TESTING,
+    WORKING,
+    Record,
+)
 from bg_switch_tools.switch.reports import Report
 
 HAS_SWITCHED = ("sizing", "postAnalysis")  # the phases after the pause
@@ -14,9 +26,11 @@ PASSED_LINE = "verdict post successful"
 
 @dataclasses.dataclass(frozen=True)
 class Joined:
-    """Of which attempt the newest revision of a switch is. `cluster` is etcd's cluster id, since another etcd counts anew; `attempt`
-    the id of the record by which the attempt of `revision` was begun here (0: none). `has_passed` says that the analysis of this
-    machine after the switch has passed in it, `reason` why the attempt has failed here."""
+    """Of which attempt the newest revision of a switch is. `cluster` is etcd's cluster id, since
+    another etcd counts anew; `attempt` the id of the record by which the attempt of `revision` was
+    begun here (0: none). `has_passed` says that the analysis of this machine after the switch has
+    passed in it, `reason` why the attempt has failed here."""
+
     cluster: str = ""
     attempt: int = 0
     revision: str = ""
@@ -25,17 +39,23 @@ class Joined:
 
 
 class Known(NamedTuple):
-    """What the table decides by, beside the report. `may_retry` says that an attempt of the fleet's stable revision that has failed
-    on this machine alone may begin again."""
+    """What the table decides by, beside the report. `may_retry` says that an attempt of the fleet's
+    stable revision that has failed on this machine alone may begin again."""
+
     record: Record
     cluster: str
     joined: Joined
     may_retry: bool = False
 
     def has_joined(self, report: Report) -> bool:
-        """Whether the newest revision of the switch is of an attempt that was begun by this record."""
+        """Whether the newest revision of the switch is of an attempt that was begun by this
+        record."""
         joined = self.joined
-        return (joined.cluster, joined.attempt, joined.revision) == (self.cluster, self.record.id, report.newest.name)
+        return (joined.cluster, joined.attempt, joined.revision) == (
+            self.cluster,
+            self.record.id,
+            report.newest.name,
+        )
 
 
 def is_behind(report: Report, record: Record) -> bool:
@@ -44,22 +64,28 @@ def is_behind(report: Report, record: Record) -> bool:
 
 
 def is_of_fleet(report: Report, known: Known) -> bool:
-    """Whether the newest revision of the switch is one that the record asks for, so that its analyses are run."""
+    """Whether the newest revision of the switch is one that the record asks for, so that its
+    analyses are run."""
     if is_behind(report, known.record):
         return report.newest.name == known.record.fleet_stable.name
     return known.record.is_running and known.has_joined(report)
 
 
 def is_known_to_be_over(report: Report, known: Known) -> bool:
-    """Whether the attempt of the newest revision was begun by a record, and is over by the record that was read last. An attempt
-    that is over never goes on, so this stays true however old the read is."""
+    """Whether the attempt of the newest revision was begun by a record, and is over by the record
+    that was read last. An attempt that is over never goes on, so this stays true however old the
+    read is."""
     joined, record = known.joined, known.record
-    is_joined = joined.attempt > 0 and (joined.cluster, joined.revision) == (known.cluster, report.newest.name)
+    is_joined = joined.attempt > 0 and (joined.cluster, joined.revision) == (
+        known.cluster,
+        report.newest.name,
+    )
     return is_joined and (joined.attempt != record.id or not record.is_running)
 
 
 def next_line(report: Report, known: Known) -> str | None:
-    """The line that brings a switch one step nearer to the record; None where nothing is to be sent."""
+    """The line that brings a switch one step nearer to the record; None where nothing is to be
+    sent."""
     if is_behind(report, known.record):
         return _catch_up(report, known)
     record, newest = known.record, report.newest.name
@@ -75,7 +101,8 @@ def next_line(report: Report, known: Known) -> str | None:
 
 
 def _catch_up(report: Report, known: Known) -> str | None:
-    """The way to the stable revision of the fleet: through analyses of this machine's own, which have no vote."""
+    """The way to the stable revision of the fleet: through analyses of this machine's own, which
+    have no vote."""
     stable = known.record.fleet_stable
     if report.newest.name != stable.name:
         return "abort" if report.is_running else f"deploy {stable.words}"
@@ -92,9 +119,18 @@ def joined_after(line: str, report: Report, known: Known) -> Joined:
         return Joined(known.cluster, known.record.id, report.newest.name)
     if line.startswith("deploy "):
         return Joined(known.cluster, known.record.id, line.split(" ")[1])
-    is_alone = line == "abort" and known.record.stage == DEPLOYING and known.has_joined(report) and report.phase in HAS_SWITCHED
+    is_alone = (
+        line == "abort"
+        and known.record.stage == DEPLOYING
+        and known.has_joined(report)
+        and report.phase in HAS_SWITCHED
+    )
     reason = "it was promoted on this machine alone"
-    return dataclasses.replace(known.joined, reason=reason) if is_alone and not known.joined.reason else known.joined
+    return (
+        dataclasses.replace(known.joined, reason=reason)
+        if is_alone and not known.joined.reason
+        else known.joined
+    )
 
 
 def state_of(report: Report, known: Known) -> tuple[str, str]:
@@ -102,7 +138,9 @@ def state_of(report: Report, known: Known) -> tuple[str, str]:
     record, newest = known.record, report.newest
     if is_behind(report, record):
         reason = known.joined.reason if known.has_joined(report) else ""
-        return WORKING, f"catches up with {record.fleet_stable.name}" + (f": {reason}" if reason else "")
+        return WORKING, f"catches up with {record.fleet_stable.name}" + (
+            f": {reason}" if reason else ""
+        )
     if not record.is_running:
         agrees = not report.is_running and report.service("active").name == report.stable.name
         return (FOLLOWS if agrees else WORKING), ""

@@ -1,4 +1,5 @@
-"""A person who gives commands to a fleet: what they are told, what they are asked, and the store that they reach."""
+"""A person who gives commands to a fleet: what they are told, what they are asked, and the store
+that they reach."""
 import sys
 from typing import NamedTuple
 
@@ -18,13 +19,15 @@ def tell(text: str) -> None:
 
 class Person(NamedTuple):
     """Who gives a command. One who is sure is not asked."""
+
     name: str
     store: Store
     fleet: str
     is_sure: bool = False
 
     def agree(self, question: str) -> None:
-        """Asks at a terminal. Elsewhere, as in CI, nobody can be asked, and the command goes on. `Refused` where the answer is no."""
+        """Asks at a terminal. Elsewhere, as in CI, nobody can be asked, and the command goes on.
+        `Refused` where the answer is no."""
         if self.is_sure or not sys.stdin.isatty():
             return
         # not on standard output, which may be a file

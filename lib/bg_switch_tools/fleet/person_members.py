@@ -1,4 +1,5 @@
-"""The members of a fleet, as a person lists, adds and removes them. A member has a vote, so each attempt waits for it."""
+"""The members of a fleet, as a person lists, adds and removes them. A member has a vote, so each
+attempt waits for it."""
 from collections.abc import Sequence
 
 from bg_switch_tools.fleet.person import Person, Refused, tell
@@ -6,7 +7,8 @@ from bg_switch_tools.fleet.record import ATTEMPT, MEMBERS, PLAN, Record, View
 from bg_switch_tools.fleet.status_text import attempt_title, plain
 from bg_switch_tools.fleet.store import Compare
 
-# etcd takes at most 128 compares in a transaction, and the leader's compares the report of each member.
+# etcd takes at most 128 compares in a transaction, and the leader's compares the report of each
+# member.
 MOST_MEMBERS = 100
 TRIES = 5  # until it is refused, where others change the members at the same time
 CHANGING = "others change the fleet at the same time; nothing was changed"
@@ -18,24 +20,37 @@ def members_of(person: Person) -> list[str]:
 
 
 def _running(view: View) -> Record | None:
-    """The record of an attempt that runs, or that a plan is about to begin; None where none does."""
+    """The record of an attempt that runs, or that a plan is about to begin; None where none
+    does."""
     record = view.record
     return record if record and (record.is_running or record.id != view.changed(PLAN)) else None
 
 
 def add(person: Person, hosts: Sequence[str]) -> list[str]:
-    """Adds members, and says so of each; one that is a member already stays as it is. `Refused` where there would be too many."""
+    """Adds members, and says so of each; one that is a member already stays as it is. `Refused`
+    where there would be too many."""
     for _ in range(TRIES):
         view = View(person.store.read())
         new = [host for host in dict.fromkeys(hosts) if host not in view.members]
         count = len(view.members) + len(new)
         if count > MOST_MEMBERS:
-            raise Refused(f"nothing was changed: a fleet has at most {MOST_MEMBERS} members, and these would be {count}")
+            raise Refused(
+                f"nothing was changed: a fleet has at most {MOST_MEMBERS} members, and these would be {count}"
+            )
         # no other one was added since the read
-        compares = [Compare(MEMBERS, "changed", view.snapshot.revision), *(Compare(MEMBERS + host, "changed", 0) for host in new)]
-        if not new or person.store.write(compares, {MEMBERS + host: "" for host in new}) is not None:
+        compares = [
+            Compare(MEMBERS, "changed", view.snapshot.revision),
+            *(Compare(MEMBERS + host, "changed", 0) for host in new),
+        ]
+        if (
+            not new
+            or person.store.write(compares, {MEMBERS + host: "" for host in new}) is not None
+        ):
             _tell_added(view, new)
-            return [f"{host} is a member" + ("" if host in new else " already") for host in dict.fromkeys(hosts)]
+            return [
+                f"{host} is a member" + ("" if host in new else " already")
+                for host in dict.fromkeys(hosts)
+            ]
     raise Refused(CHANGING)
 
 
@@ -62,21 +77,28 @@ def _removal_fault(view: View, hosts: Sequence[str]) -> str:
 
 
 def _compares(view: View, hosts: Sequence[str]) -> list[Compare]:
-    """What a removal rests on: the members themselves, one that stays, and without such a one that no attempt runs."""
+    """What a removal rests on: the members themselves, one that stays, and without such a one that
+    no attempt runs."""
     staying = [host for host in view.members if host not in hosts][:1]
     rests_on = [MEMBERS + staying[0]] if staying else [ATTEMPT, PLAN]
-    return [Compare(name, "changed", view.changed(name)) for name in (*rests_on, *(MEMBERS + host for host in hosts))]
+    return [
+        Compare(name, "changed", view.changed(name))
+        for name in (*rests_on, *(MEMBERS + host for host in hosts))
+    ]
 
 
 def remove(person: Person, hosts: Sequence[str]) -> list[str]:
-    """Removes members, and says so of each. `Refused`, also for all of them, where one is no member, and where an attempt runs and no
-    member would be left."""
+    """Removes members, and says so of each. `Refused`, also for all of them, where one is no
+    member, and where an attempt runs and no member would be left."""
     hosts = list(dict.fromkeys(hosts))
     for _ in range(TRIES):
         view = View(person.store.read())
         if fault := _removal_fault(view, hosts):
             raise Refused(fault)
         person.agree(f"remove {', '.join(hosts)} of {len(view.members)} members?")
-        if person.store.write(_compares(view, hosts), {}, [MEMBERS + host for host in hosts]) is not None:
+        if (
+            person.store.write(_compares(view, hosts), {}, [MEMBERS + host for host in hosts])
+            is not None
+        ):
             return [f"{host} is no member any more" for host in hosts]
     raise Refused(CHANGING)

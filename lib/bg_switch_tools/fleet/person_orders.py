@@ -1,7 +1,19 @@
 """Orders of a person for the attempt that they have seen: `promote` and `abort`."""
 from bg_switch_tools.fleet.leader import votes_of
 from bg_switch_tools.fleet.person import Person, Refused, tell
-from bg_switch_tools.fleet.record import (ABORT, ABORTED, ATTEMPT, LEADER, ORDER, PLAN, PROMOTE, PROMOTING, PersonOrder, Record, View)
+from bg_switch_tools.fleet.record import (
+    ABORT,
+    ABORTED,
+    ATTEMPT,
+    LEADER,
+    ORDER,
+    PLAN,
+    PROMOTE,
+    PROMOTING,
+    PersonOrder,
+    Record,
+    View,
+)
 from bg_switch_tools.fleet.status_text import NOT_BEGUN, attempt_title, plain
 from bg_switch_tools.fleet.store import Compare
 
@@ -13,7 +25,11 @@ def _over(view: View, record: Record) -> str:
     how = "was aborted" if record.stage == ABORTED else f"is {record.stage}"
     if view.changed(PLAN) != record.id:
         return f"{attempt_title(record)} {how} already, and plan {view.changed(PLAN)} waits for a leader; `undo` takes the plan back"
-    hint = "`retry` begins it again" if record.stage == ABORTED else "`undo` takes the revision before it again"
+    hint = (
+        "`retry` begins it again"
+        if record.stage == ABORTED
+        else "`undo` takes the revision before it again"
+    )
     return f"{attempt_title(record)} {how} already; {hint}"
 
 
@@ -32,8 +48,9 @@ def _unready(view: View, record: Record) -> str:
 
 
 def order_fault(view: View, order: str, attempt: int | None) -> str:
-    """Why an order is refused by this read; empty where it can be put. `attempt` is the id of the attempt that the person has seen; None
-    stands for the one of this read. `Unreadable` where the record or the plan can't be read."""
+    """Why an order is refused by this read; empty where it can be put. `attempt` is the id of the
+    attempt that the person has seen; None stands for the one of this read. `Unreadable` where the
+    record or the plan can't be read."""
     record, standing = view.record, view.order
     if record is None:
         return NOT_BEGUN
@@ -48,7 +65,8 @@ def order_fault(view: View, order: str, attempt: int | None) -> str:
 
 
 def give_order(person: Person, order: str, attempt: int | None) -> str:
-    """Puts an order, and says so. `Refused` where it makes no sense, or where the attempt has moved on since it was read."""
+    """Puts an order, and says so. `Refused` where it makes no sense, or where the attempt has moved
+    on since it was read."""
     view = View(person.store.read())
     record, fault = view.record, order_fault(view, order, attempt)
     if fault or record is None:

@@ -1,4 +1,5 @@
-"""Plans that a person puts: a new one, the same one again, and one that takes an earlier revision again."""
+"""Plans that a person puts: a new one, the same one again, and one that takes an earlier revision
+again."""
 import json
 from typing import NamedTuple
 
@@ -6,7 +7,12 @@ from bg_switch_tools.controller.plan_edit import with_last
 from bg_switch_tools.controller.plan_reader import LARGEST, WrongPlan
 from bg_switch_tools.controller.plan_text import value_of
 from bg_switch_tools.fleet.fleet_file import FleetFile
-from bg_switch_tools.fleet.fleet_plan import FleetPlan, machine_plan, missing_analyses, read_fleet_plan
+from bg_switch_tools.fleet.fleet_plan import (
+    FleetPlan,
+    machine_plan,
+    missing_analyses,
+    read_fleet_plan,
+)
 from bg_switch_tools.fleet.person import Person, Refused, tell
 from bg_switch_tools.fleet.plan_change import plan_effect, plan_problems
 from bg_switch_tools.fleet.record import ABORTED, ATTEMPT, LEADER, PLAN, Record, Unreadable, View
@@ -23,7 +29,9 @@ class CannotRead(Exception):
 
 
 class GivenPlan(NamedTuple):
-    """A plan, and the text that the store is given: JSON, so that no machine needs a library for YAML."""
+    """A plan, and the text that the store is given: JSON, so that no machine needs a library for
+    YAML."""
+
     text: str
     plan: FleetPlan
 
@@ -39,7 +47,8 @@ def given_plan(text: str) -> GivenPlan:
 
 
 def read_plan_file(path: str) -> GivenPlan:
-    """The plan of a file. `WrongPlan` where it is none, and `CannotRead` where the file can't be read."""
+    """The plan of a file. `WrongPlan` where it is none, and `CannotRead` where the file can't be
+    read."""
     try:
         with open(path, "rb") as file:
             text = file.read(LARGEST + 1)
@@ -52,11 +61,14 @@ def read_plan_file(path: str) -> GivenPlan:
 
 
 def judge_here(plan: FleetPlan, file: FleetFile) -> None:
-    """Judges a plan by the fleet file of a machine; that of a person has nothing to judge by. `WrongPlan` where they contradict one
-    another."""
+    """Judges a plan by the fleet file of a machine; that of a person has nothing to judge by.
+    `WrongPlan` where they contradict one another."""
     if file.machine is None:
         return
-    problems = [f"analyses: {file.host} has no command for {name}" for name in missing_analyses(plan, file.machine)]
+    problems = [
+        f"analyses: {file.host} has no command for {name}"
+        for name in missing_analyses(plan, file.machine)
+    ]
     try:
         machine_plan(plan, file.machine)
     except WrongPlan as wrong:
@@ -66,7 +78,8 @@ def judge_here(plan: FleetPlan, file: FleetFile) -> None:
 
 
 def check(path: str, file: FleetFile) -> str:
-    """Judges the plan of a file alone, without the store, and says what it deploys. `WrongPlan` where it is none."""
+    """Judges the plan of a file alone, without the store, and says what it deploys. `WrongPlan`
+    where it is none."""
     plan = read_plan_file(path).plan
     judge_here(plan, file)
     return f"{path} is a plan of a fleet: it deploys {plan.last.name}"
@@ -82,22 +95,30 @@ def _plan_before(view: View) -> FleetPlan | None:
 
 
 def _unchanged(plan: FleetPlan, record: Record | None, plan_id: int) -> str:
-    """What is said of a plan that stands already. `Refused` where its attempt was aborted, since nothing would come of it."""
+    """What is said of a plan that stands already. `Refused` where its attempt was aborted, since
+    nothing would come of it."""
     if record is None or record.id != plan_id:
-        return f"nothing is changed: this plan stands already, and waits for a leader (plan {plan_id})"
+        return (
+            f"nothing is changed: this plan stands already, and waits for a leader (plan {plan_id})"
+        )
     if record.stage == ABORTED:
-        raise Refused(f"nothing is changed: this plan stands already, and {attempt_title(record)} was aborted; `retry` begins it again")
+        raise Refused(
+            f"nothing is changed: this plan stands already, and {attempt_title(record)} was aborted; `retry` begins it again"
+        )
     return f"nothing is changed: this plan stands already, and {attempt_title(record)} is {record.stage}"
 
 
 class Putting(NamedTuple):
-    """Puts a plan in place of the one that was read. `compared` are the keys that must not have changed since."""
+    """Puts a plan in place of the one that was read. `compared` are the keys that must not have
+    changed since."""
+
     person: Person
     view: View
     compared: tuple[str, ...] = (PLAN,)
 
     def put(self, text: str, effect: str) -> str:
-        """Asks, puts, and says which plan it is and what comes of it. `Refused` where a compared key has changed."""
+        """Asks, puts, and says which plan it is and what comes of it. `Refused` where a compared
+        key has changed."""
         self.person.agree(f"{effect}. Put this plan?")
         compares = [Compare(name, "changed", self.view.changed(name)) for name in self.compared]
         plan_id = self.person.store.write(compares, {PLAN: text})
@@ -109,13 +130,17 @@ class Putting(NamedTuple):
 
     def _lacks(self) -> list[str]:
         """What the fleet needs before anything comes of the plan."""
-        found = [] if self.view.members else ["the fleet has no member yet: `members add` adds some"]
-        return found + ([] if self.view.key(LEADER) else ["no agent leads now: the plan waits until one does"])
+        found = (
+            [] if self.view.members else ["the fleet has no member yet: `members add` adds some"]
+        )
+        return found + (
+            [] if self.view.key(LEADER) else ["no agent leads now: the plan waits until one does"]
+        )
 
 
 def put_plan(person: Person, path: str, file: FleetFile) -> str:
-    """Puts the plan of a file, if it can follow the one that stands, and says what comes of it. `WrongPlan` where it can't; `Refused`
-    where another plan was put since the read."""
+    """Puts the plan of a file, if it can follow the one that stands, and says what comes of it.
+    `WrongPlan` where it can't; `Refused` where another plan was put since the read."""
     given = read_plan_file(path)
     judge_here(given.plan, file)
     view = View(person.store.read())
@@ -136,20 +161,23 @@ def _needed(view: View) -> tuple[FleetPlan, Record]:
 
 
 def retry(person: Person) -> str:
-    """Puts the plan that stands again, so that its attempt, which was aborted, begins again. `Refused` where it was not."""
+    """Puts the plan that stands again, so that its attempt, which was aborted, begins again.
+    `Refused` where it was not."""
     view = View(person.store.read())
     plan, record = _needed(view)
     if view.changed(PLAN) != record.id:
         raise Refused(f"plan {view.changed(PLAN)} waits for a leader: it deploys {plan.last.name}")
     if record.stage != ABORTED:
-        raise Refused(f"{attempt_title(record)} is {record.stage}: only an attempt that was aborted begins again")
+        raise Refused(
+            f"{attempt_title(record)} is {record.stage}: only an attempt that was aborted begins again"
+        )
     text = view.snapshot.keys[PLAN].value
     return Putting(person, view, (PLAN, ATTEMPT)).put(text, plan_effect(plan, plan, record))
 
 
 def undo(person: Person, to: str | None) -> str:
-    """Puts the plan that stands with the revision last that was stable before the newest one, or the one of this name. `Refused` where
-    that is not known, or changes nothing."""
+    """Puts the plan that stands with the revision last that was stable before the newest one, or
+    the one of this name. `Refused` where that is not known, or changes nothing."""
     view = View(person.store.read())
     plan, record = _needed(view)
     is_waiting = view.changed(PLAN) != record.id
@@ -163,6 +191,10 @@ def undo(person: Person, to: str | None) -> str:
         raise Refused(f"with {target.name} last it would be no plan: {wrong}") from None
     if problems := plan_problems(plan, given.plan, record):
         raise Refused(f"with {target.name} last the plan can't follow: {'; '.join(problems)}")
-    done = Putting(person, view, (PLAN, ATTEMPT)).put(given.text, plan_effect(plan, given.plan, record))
-    tell(f"the file of your plan still names {plan.last.name} last: put it again only after an edit")
+    done = Putting(person, view, (PLAN, ATTEMPT)).put(
+        given.text, plan_effect(plan, given.plan, record)
+    )
+    tell(
+        f"the file of your plan still names {plan.last.name} last: put it again only after an edit"
+    )
     return done

@@ -6,7 +6,10 @@ from bg_switch_tools.fleet.record import ABORTED, SUCCESSFUL, Record
 
 def _known(before: FleetPlan | None, record: Record | None) -> dict[str, PlannedRevision]:
     """The revisions that the switches of the fleet may have, by their names."""
-    revisions = [*(before.revisions if before else ()), *((record.stable, record.revision) if record else ())]
+    revisions = [
+        *(before.revisions if before else ()),
+        *((record.stable, record.revision) if record else ()),
+    ]
     return {revision.name: revision for revision in revisions}
 
 
@@ -17,12 +20,16 @@ def plan_problems(before: FleetPlan | None, after: FleetPlan, record: Record | N
         other = known.get(revision.name)
         if other and other.ports != revision.ports:
             ports = ", ".join(map(str, other.ports))
-            found.append(f"revisions[{number}].ports: {revision.name} had the ports {ports} before: a switch that has the revision "
-                         "refuses others, so other ports need another name")
+            found.append(
+                f"revisions[{number}].ports: {revision.name} had the ports {ports} before: a switch that has the revision "
+                "refuses others, so other ports need another name"
+            )
     counts = {len(revision.ports) for revision in known.values()}
     if counts and {len(after.first.ports)} != counts:
-        found.append(f"revisions[0].ports: has {len(after.first.ports)}, and the revisions before have {max(counts)}: each switch keeps its "
-                     "number of replicas")
+        found.append(
+            f"revisions[0].ports: has {len(after.first.ports)}, and the revisions before have {max(counts)}: each switch keeps its "
+            "number of replicas"
+        )
     return found
 
 

@@ -1,7 +1,9 @@
-"""The values of a fleet's keys: the record of its attempt, what each machine reports, and what a person orders.
+"""The values of a fleet's keys: the record of its attempt, what each machine reports, and what a
+person orders.
 
-Each is an object of JSON with a `version`. A record or an order of another version, or with a key that is not known here, is refused
-as a whole: an agent that does not know it changes nothing. Of a report, keys that are not known are passed over.
+Each is an object of JSON with a `version`. A record or an order of another version, or with a key
+that is not known here, is refused as a whole: an agent that does not know it changes nothing. Of a
+report, keys that are not known are passed over.
 """
 import dataclasses
 import functools
@@ -22,13 +24,27 @@ DEPLOYING, PROMOTING, SUCCESSFUL, ABORTED = "deploying", "promoting", "successfu
 STAGES = (DEPLOYING, PROMOTING, SUCCESSFUL, ABORTED)
 RUNNING = (DEPLOYING, PROMOTING)
 # What a machine reports of an attempt.
-WORKING, READY, TESTING, PASSED, FAILED, FOLLOWS = "working", "ready", "testing", "passed", "failed", "follows"
+WORKING, READY, TESTING, PASSED, FAILED, FOLLOWS = (
+    "working",
+    "ready",
+    "testing",
+    "passed",
+    "failed",
+    "follows",
+)
 STATES = (WORKING, READY, TESTING, PASSED, FAILED, FOLLOWS)
 # What a person orders.
 PROMOTE, ABORT = "promote", "abort"
 
 # The keys below the prefix of a fleet.
-PLAN, ATTEMPT, LEADER, ORDER, MEMBERS, MACHINES = "plan", "attempt", "leader", "order", "members/", "machines/"
+PLAN, ATTEMPT, LEADER, ORDER, MEMBERS, MACHINES = (
+    "plan",
+    "attempt",
+    "leader",
+    "order",
+    "members/",
+    "machines/",
+)
 
 
 class Unreadable(Exception):
@@ -37,10 +53,12 @@ class Unreadable(Exception):
 
 @dataclasses.dataclass(frozen=True)
 class Record:
-    """The record of an attempt: all decisions of a fleet. `id` is the plan's `changed` revision, of the plan that the attempt is of.
-    `revision` is what the machines go to, `stable` what they go back to. `missing` are the members without a vote: they were away
-    when the stage was decided. `by` is the `created` revision of the leader's key, of the leader that wrote this, and `time` when
-    it did (Unix time of its clock, for people)."""
+    """The record of an attempt: all decisions of a fleet. `id` is the plan's `changed` revision, of
+    the plan that the attempt is of. `revision` is what the machines go to, `stable` what they go
+    back to. `missing` are the members without a vote: they were away when the stage was decided.
+    `by` is the `created` revision of the leader's key, of the leader that wrote this, and `time`
+    when it did (Unix time of its clock, for people)."""
+
     id: int
     revision: PlannedRevision
     stable: PlannedRevision
@@ -61,14 +79,23 @@ class Record:
 
     def text(self) -> str:
         """As the key has it."""
-        return json.dumps({"version": VERSION, **vars(self), "revision": vars(self.revision), "stable": vars(self.stable)})
+        return json.dumps(
+            {
+                "version": VERSION,
+                **vars(self),
+                "revision": vars(self.revision),
+                "stable": vars(self.stable),
+            }
+        )
 
 
 @dataclasses.dataclass(frozen=True)
 class MachineReport:
-    """What a machine reports. `machine` is the id of the machine itself, whatever its host is called. `attempt` is the attempt that
-    its switch has joined (0: none), `state` what came of it, `reason` why it failed or waits. What the switch selects is empty
-    where no book is open or no switch answers."""
+    """What a machine reports. `machine` is the id of the machine itself, whatever its host is
+    called. `attempt` is the attempt that its switch has joined (0: none), `state` what came of it,
+    `reason` why it failed or waits. What the switch selects is empty where no book is open or no
+    switch answers."""
+
     machine: str
     attempt: int
     state: str
@@ -81,8 +108,8 @@ class MachineReport:
     available: int = 0
 
     def follows(self, record: Record) -> bool:
-        """Whether the machine follows an attempt that is over. The report of a machine that has gone stands until its lease ends, and
-        may be one of a revision that was stable before."""
+        """Whether the machine follows an attempt that is over. The report of a machine that has
+        gone stands until its lease ends, and may be one of a revision that was stable before."""
         return self.state == FOLLOWS and self.stable == record.fleet_stable.name
 
     def text(self) -> str:
@@ -91,7 +118,9 @@ class MachineReport:
 
 @dataclasses.dataclass(frozen=True)
 class PersonOrder:
-    """What a person orders for the attempt that they saw: `promote` or `abort`. `by` is their name."""
+    """What a person orders for the attempt that they saw: `promote` or `abort`. `by` is their
+    name."""
+
     order: str
     attempt: int
     by: str
@@ -109,7 +138,9 @@ def _object(text: str) -> JsonObject:
     if not isinstance(told, JsonObject):
         raise Unreadable("it is not an object")
     if told.get("version") != VERSION:
-        raise Unreadable(f"its version is {told.get('version')}, and this program knows version {VERSION}")
+        raise Unreadable(
+            f"its version is {told.get('version')}, and this program knows version {VERSION}"
+        )
     return told
 
 
@@ -147,10 +178,15 @@ def read_record(text: str) -> Record:
     told = judge.members(_object(text), "", _keys(Record), _keys(Record))
     _raise_problems(judge)
     record = Record(
-        _count(judge, told["id"], "id"), read_revision(judge, told["revision"], "revision"),
-        read_revision(judge, told["stable"], "stable"), _one_of(judge, told["stage"], "stage", STAGES),
-        judge.text(told["reason"], "reason"), _texts(judge, told["missing"], "missing"), _count(judge, told["by"], "by"),
-        _count(judge, told["time"], "time"))
+        _count(judge, told["id"], "id"),
+        read_revision(judge, told["revision"], "revision"),
+        read_revision(judge, told["stable"], "stable"),
+        _one_of(judge, told["stage"], "stage", STAGES),
+        judge.text(told["reason"], "reason"),
+        _texts(judge, told["missing"], "missing"),
+        _count(judge, told["by"], "by"),
+        _count(judge, told["time"], "time"),
+    )
     _raise_problems(judge)
     return record
 
@@ -163,9 +199,16 @@ def read_machine_report(text: str) -> MachineReport:
     for key in [key for key in _keys(MachineReport) if key not in told]:
         judge.note(key, "is missing")
     _raise_problems(judge)
-    words = {key: judge.text(told[key], key) for key in ("machine", "reason", "phase", "active", "preview", "stable", "newest")}
-    report = MachineReport(attempt=_count(judge, told["attempt"], "attempt"), state=_one_of(judge, told["state"], "state", STATES),
-                           available=_count(judge, told["available"], "available"), **words)
+    words = {
+        key: judge.text(told[key], key)
+        for key in ("machine", "reason", "phase", "active", "preview", "stable", "newest")
+    }
+    report = MachineReport(
+        attempt=_count(judge, told["attempt"], "attempt"),
+        state=_one_of(judge, told["state"], "state", STATES),
+        available=_count(judge, told["available"], "available"),
+        **words,
+    )
     _raise_problems(judge)
     return report
 
@@ -176,8 +219,11 @@ def read_order(text: str) -> PersonOrder:
     judge = Judge()
     told = judge.members(_object(text), "", _keys(PersonOrder), _keys(PersonOrder))
     _raise_problems(judge)
-    order = PersonOrder(_one_of(judge, told["order"], "order", (PROMOTE, ABORT)), _count(judge, told["attempt"], "attempt"),
-                        judge.text(told["by"], "by"))
+    order = PersonOrder(
+        _one_of(judge, told["order"], "order", (PROMOTE, ABORT)),
+        _count(judge, told["attempt"], "attempt"),
+        judge.text(told["by"], "by"),
+    )
     _raise_problems(judge)
     return order
 
@@ -216,7 +262,8 @@ class View:
 
     @property
     def order(self) -> PersonOrder | None:
-        """What a person orders; None where nobody does. An order that can't be read is one for no attempt."""
+        """What a person orders; None where nobody does. An order that can't be read is one for no
+        attempt."""
         key = self.key(ORDER)
         try:
             return read_order(key.value) if key else None
@@ -226,10 +273,17 @@ class View:
     @property
     def members(self) -> tuple[str, ...]:
         """The hosts of the members, in the order of their names."""
-        return tuple(sorted(name.removeprefix(MEMBERS) for name in self.snapshot.keys if name.startswith(MEMBERS)))
+        return tuple(
+            sorted(
+                name.removeprefix(MEMBERS)
+                for name in self.snapshot.keys
+                if name.startswith(MEMBERS)
+            )
+        )
 
     def machine(self, host: str) -> MachineReport | None:
-        """What a machine reports; None where it is away. A report that can't be read is one of a machine that works."""
+        """What a machine reports; None where it is away. A report that can't be read is one of a
+        machine that works."""
         key = self.key(MACHINES + host)
         try:
             return read_machine_report(key.value) if key else None

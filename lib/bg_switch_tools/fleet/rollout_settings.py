@@ -1,4 +1,5 @@
-"""Which Rollouts fit a fleet: the record of the fleet decides on each promotion, so no switch may promote by itself."""
+"""Which Rollouts fit a fleet: the record of the fleet decides on each promotion, so no switch may
+promote by itself."""
 from bg_switch_tools.controller.plan_reader import LARGEST
 from bg_switch_tools.switch.json_values import JsonObject, decoded
 
@@ -16,20 +17,28 @@ def _strategy(text: bytes) -> JsonObject:
 
 
 def rollout_faults(text: bytes, has_pre: bool) -> list[str]:
-    """Why a switch with this Rollout (JSON) can't be a machine of a fleet, a sentence each; none where it can. `has_pre` says that the
-    plan of the fleet names an analysis before the switch. Whether it is a Rollout at all, `bg_switch check` judges."""
+    """Why a switch with this Rollout (JSON) can't be a machine of a fleet, a sentence each; none
+    where it can. `has_pre` says that the plan of the fleet names an analysis before the switch.
+    Whether it is a Rollout at all, `bg_switch check` judges.
+    """
     try:
         strategy = _strategy(text)
     except ValueError as error:
         return [f"it is not a Rollout: {error}"]
     found = []
     if strategy.get("autoPromotionEnabled", True) is not False:
-        found.append(f"{KEY}.autoPromotionEnabled is not false: the switch would promote by itself, before the fleet does")
+        found.append(
+            f"{KEY}.autoPromotionEnabled is not false: the switch would promote by itself, before the fleet does"
+        )
     if strategy.get("postPromotionAnalysis") is None:
-        found.append(f"{KEY}.postPromotionAnalysis is missing: the revision would be stable here before the fleet has succeeded; "
-                     "{} is enough")
+        found.append(
+            f"{KEY}.postPromotionAnalysis is missing: the revision would be stable here before the fleet has succeeded; "
+            "{} is enough"
+        )
     if has_pre and strategy.get("prePromotionAnalysis") is None:
-        found.append(f"{KEY}.prePromotionAnalysis is missing, and the plan of the fleet names an analysis before the switch")
+        found.append(
+            f"{KEY}.prePromotionAnalysis is missing, and the plan of the fleet names an analysis before the switch"
+        )
     return found
 
 
@@ -40,7 +49,8 @@ class RolloutFile:
         self.path = path
 
     def faults(self, has_pre: bool) -> list[str]:
-        """Why a switch that is started with the file as it is now can't be a machine of a fleet, as `rollout_faults` has it."""
+        """Why a switch that is started with the file as it is now can't be a machine of a fleet, as
+        `rollout_faults` has it."""
         try:
             with open(self.path, "rb") as file:
                 text = file.read(LARGEST + 1)

@@ -1,25 +1,31 @@
 """The store of a fleet: the keys that its machines share, and the calls that read and write them.
 
-A store has a prefix, such as `/bg-switch/web/`, and all names are names below it. Decisions rest on reads and on the compares of
-writes, and never on what wakes a wait: an event that is lost costs time only.
+A store has a prefix, such as `/bg-switch/web/`, and all names are names below it. Decisions rest on
+reads and on the compares of writes, and never on what wakes a wait: an event that is lost costs
+time only.
 """
 from collections.abc import Collection, Mapping, Sequence
 from typing import Literal, NamedTuple, Protocol
 
 
 class StoreFault(Exception):
-    """The store has not done what it was asked, or gave no answer. The text is a sentence that says why.
+    """The store has not done what it was asked, or gave no answer. The text is a sentence that says
+    why.
 
-    A `write`, `grant` or `revoke` that ends so may have been carried out, since its answer can be lost: the caller reads again."""
+    A `write`, `grant` or `revoke` that ends so may have been carried out, since its answer can be
+    lost: the caller reads again.
+    """
 
 
 class StoreRefusal(StoreFault):
-    """The store refuses a call, and has changed nothing. It would refuse the call again until somebody changes the store, or who asks."""
+    """The store refuses a call, and has changed nothing. It would refuse the call again until
+    somebody changes the store, or who asks."""
 
 
 class Key(NamedTuple):
-    """A key below the prefix, as a read gives it. `created` and `changed` are revisions of the store: those of the write that
-    created the key, and of the write that changed it last."""
+    """A key below the prefix, as a read gives it. `created` and `changed` are revisions of the
+    store: those of the write that created the key, and of the write that changed it last."""
+
     value: str
     created: int
     changed: int
@@ -27,10 +33,13 @@ class Key(NamedTuple):
 
 
 class Snapshot(NamedTuple):
-    """One linearizable read of all keys below the prefix: it has each write that was over before the read began.
+    """One linearizable read of all keys below the prefix: it has each write that was over before
+    the read began.
 
-    `revision` is the revision of the store at the read. `cluster` is the identity of the store: revisions of two clusters are not
-    comparable. `keys` are by their names without the prefix, e.g. `attempt`, `members/web-1`."""
+    `revision` is the revision of the store at the read. `cluster` is the identity of the store:
+    revisions of two clusters are not comparable. `keys` are by their names without the prefix, e.g.
+    `attempt`, `members/web-1`."""
+
     revision: int
     cluster: str
     keys: Mapping[str, Key]
@@ -39,36 +48,50 @@ class Snapshot(NamedTuple):
 class Compare(NamedTuple):
     """What a write requires of a key, or of all keys below a further prefix.
 
-    `name` is a name, or a prefix of names that ends with `/`. For a name, its revision `what` is equal to `value`, and 0 means that
-    there is no such key. For a prefix, no key below it has a greater revision `what` than `value`; without keys that holds, and a
-    key that was deleted does not count."""
+    `name` is a name, or a prefix of names that ends with `/`. For a name, its revision `what` is
+    equal to `value`, and 0 means that there is no such key. For a prefix, no key below it has a
+    greater revision `what` than `value`; without keys that holds, and a key that was deleted does
+    not count."""
+
     name: str
     what: Literal["created", "changed"]
     value: int
 
 
 class Store(Protocol):
-    """A store. Each call ends within the time limit of the store, `wait` within its own, and each may raise `StoreFault`, whatever
-    happens to the store; the next call begins anew. Several threads may use one store."""
+    """A store. Each call ends within the time limit of the store, `wait` within its own, and each
+    may raise `StoreFault`, whatever happens to the store; the next call begins anew. Several
+    threads may use one store."""
 
     def read(self) -> Snapshot:
         """All keys below the prefix, at one revision."""
 
-    def write(self, compares: Sequence[Compare], puts: Mapping[str, str], deletes: Collection[str] = (), lease: int = 0) -> int | None:
-        """Puts and deletes these keys in one step, if all compares hold. Gives the revision of the write, or None where a compare
-        does not hold; nothing is changed then. With a lease, the keys that are put go when the lease ends (0: they stay). A lease
-        that is gone is a `StoreFault`. A `StoreFault` does not say that nothing was written: the caller reads again."""
+    def write(
+        self,
+        compares: Sequence[Compare],
+        puts: Mapping[str, str],
+        deletes: Collection[str] = (),
+        lease: int = 0,
+    ) -> int | None:
+        """Puts and deletes these keys in one step, if all compares hold. Gives the revision of the
+        write, or None where a compare does not hold; nothing is changed then. With a lease, the
+        keys that are put go when the lease ends (0: they stay). A lease that is gone is a
+        `StoreFault`. A `StoreFault` does not say that nothing was written: the caller reads again.
+        """
 
     def grant(self, seconds: int) -> int:
-        """Begins a lease of at least so many seconds (1 or more), and gives its number. The store may choose a longer time."""
+        """Begins a lease of at least so many seconds (1 or more), and gives its number. The store
+        may choose a longer time."""
 
     def refresh(self, lease: int) -> int:
-        """Lets a lease last for its whole time again. Gives the seconds that it has now, and 0 where it is gone."""
+        """Lets a lease last for its whole time again. Gives the seconds that it has now, and 0
+        where it is gone."""
 
     def revoke(self, lease: int) -> None:
         """Ends a lease, and deletes its keys. A lease that is gone is no fault."""
 
     def wait(self, after: int, seconds: float) -> None:
-        """Returns when a key below the prefix was changed or deleted after this revision, or after so many seconds. It may return
-        early without a change. Where the store gives no events, it raises `StoreFault` after the seconds, and not before, so that
-        a caller that waits in a loop does not spin."""
+        """Returns when a key below the prefix was changed or deleted after this revision, or after
+        so many seconds. It may return early without a change. Where the store gives no events, it
+        raises `StoreFault` after the seconds, and not before, so that a caller that waits in a loop
+        does not spin."""

@@ -10,13 +10,19 @@ from bg_switch_tools.fleet.time_limit import TimeLimit
 from bg_switch_tools.switch.json_values import GREATEST_PORT
 
 # A name or an address of IPv4, or an address of IPv6 in brackets.
-TEXT = re.compile(r"(?:\[([0-9A-Fa-f:.]{2,45})\]|([A-Za-z0-9_](?:[A-Za-z0-9._-]{0,251}[A-Za-z0-9_])?)):([1-9][0-9]{0,4})")
-Address = tuple[socket.AddressFamily, socket.SocketKind, int, str, Any]  # as the system's lookup gives it
+TEXT = re.compile(
+    r"(?:\[([0-9A-Fa-f:.]{2,45})\]|([A-Za-z0-9_](?:[A-Za-z0-9._-]{0,251}[A-Za-z0-9_])?)):([1-9][0-9]{0,4})"
+)
+Address = tuple[
+    socket.AddressFamily, socket.SocketKind, int, str, Any
+]  # as the system's lookup gives it
 Addresses = Sequence[Address]
 
 
 class StoreEndpoint(NamedTuple):
-    """Where a member of a store takes connections: the name or the address of a host, and a port."""
+    """Where a member of a store takes connections: the name or the address of a host, and a
+    port."""
+
     host: str
     port: int
 
@@ -25,7 +31,8 @@ class StoreEndpoint(NamedTuple):
 
 
 def store_endpoint_of(text: str) -> StoreEndpoint:
-    """The endpoint of a text such as `10.0.0.1:2379`, `store-1:2379` or `[fd00::1]:2379`. `ValueError` where it is none."""
+    """The endpoint of a text such as `10.0.0.1:2379`, `store-1:2379` or `[fd00::1]:2379`.
+    `ValueError` where it is none."""
     found = TEXT.fullmatch(text)
     if not found or int(found[3]) > GREATEST_PORT:
         raise ValueError(f"{text!r} is not HOST:PORT")
@@ -38,7 +45,8 @@ def store_endpoint_of(text: str) -> StoreEndpoint:
 
 
 class Lookups:
-    """Looks the addresses of endpoints up. The system's lookup has no time limit, so a thread makes it, one at a time for each
+    """Looks the addresses of endpoints up. The system's lookup has no time limit, so a thread makes
+    it, one at a time for each
     endpoint: lookups that hang do not add up."""
 
     def __init__(self) -> None:
@@ -46,7 +54,8 @@ class Lookups:
         self._running: dict[StoreEndpoint, concurrent.futures.Future[Addresses]] = {}
 
     def addresses(self, endpoint: StoreEndpoint, limit: TimeLimit) -> Addresses:
-        """The addresses of an endpoint. `OSError` where there is none, or where none is found in time."""
+        """The addresses of an endpoint. `OSError` where there is none, or where none is found in
+        time."""
         with self._lock:
             found = self._running.get(endpoint)
             if found is None:
@@ -54,11 +63,15 @@ class Lookups:
                 threading.Thread(target=self._look_up, args=(endpoint, found), daemon=True).start()
         return found.result(limit.left())
 
-    def _look_up(self, endpoint: StoreEndpoint, found: "concurrent.futures.Future[Addresses]") -> None:
+    def _look_up(
+        self, endpoint: StoreEndpoint, found: "concurrent.futures.Future[Addresses]"
+    ) -> None:
         try:
             addresses = socket.getaddrinfo(endpoint.host, endpoint.port, type=socket.SOCK_STREAM)
         except (OSError, UnicodeError) as error:
-            found.set_exception(OSError(f"its address is not found ({getattr(error, 'strerror', None) or error})"))
+            found.set_exception(
+                OSError(f"its address is not found ({getattr(error, 'strerror', None) or error})")
+            )
         else:
             found.set_result(addresses)
         finally:
@@ -69,8 +82,11 @@ class Lookups:
 LOOKUPS = Lookups()
 
 
-def connected(endpoint: StoreEndpoint, limit: TimeLimit, lookups: Lookups = LOOKUPS) -> socket.socket:
-    """A connection to an endpoint, at the first of its addresses that takes one. `OSError` where none does in time."""
+def connected(
+    endpoint: StoreEndpoint, limit: TimeLimit, lookups: Lookups = LOOKUPS
+) -> socket.socket:
+    """A connection to an endpoint, at the first of its addresses that takes one. `OSError` where
+    none does in time."""
     problem = OSError("it has no address")
     addresses = lookups.addresses(endpoint, limit)
     for place, (family, kind, protocol, _, address) in enumerate(addresses):

@@ -1,4 +1,5 @@
-"""The threads of an agent that wait for its store: they read and write, lead, and wake one another where a key has changed."""
+"""The threads of an agent that wait for its store: they read and write, lead, and wake one another
+where a key has changed."""
 import threading
 from collections.abc import Sequence
 
@@ -13,9 +14,12 @@ REST = 1.0  # seconds between two reads of a candidate that does not lead
 
 
 class StoreTurns:
-    """Reads the keys for the rounds at the switch, and writes what the machine reports after them."""
+    """Reads the keys for the rounds at the switch, and writes what the machine reports after
+    them."""
 
-    def __init__(self, agent: FleetAgent, handover: Handover, seconds: float, stopping: threading.Event) -> None:
+    def __init__(
+        self, agent: FleetAgent, handover: Handover, seconds: float, stopping: threading.Event
+    ) -> None:
         """`seconds` are those between two reads where no key changes."""
         self.agent = agent
         self.handover = handover
@@ -61,9 +65,12 @@ class Leading:
 
 
 class Watch:
-    """Wakes the other threads where a key has changed since the latest read. It decides on nothing: an event that is lost costs time."""
+    """Wakes the other threads where a key has changed since the latest read. It decides on nothing:
+    an event that is lost costs time."""
 
-    def __init__(self, store: Store, turns: StoreTurns, wakes: Sequence[Wake], stopping: threading.Event) -> None:
+    def __init__(
+        self, store: Store, turns: StoreTurns, wakes: Sequence[Wake], stopping: threading.Event
+    ) -> None:
         self.store = store
         self.turns = turns
         self.wakes = wakes

@@ -20,7 +20,8 @@ class TimeLimit:
         return seconds
 
     def share(self, count: int) -> "TimeLimit":
-        """An equal share of the time that is left, for one of so many steps. `TimeoutError` where none is left."""
+        """An equal share of the time that is left, for one of so many steps. `TimeoutError` where
+        none is left."""
         return TimeLimit(self.left() / count)
 
     def extend(self, other: "TimeLimit") -> None:

@@ -1,6 +1,7 @@
 """POST requests of JSON by http.client, each of which ends within a time limit.
 
-http.client alone limits each read and each write but not the whole, and takes a body that was cut for a whole one.
+http.client alone limits each read and each write but not the whole, and takes a body that was cut
+for a whole one.
 """
 import contextlib
 import http.client
@@ -18,7 +19,8 @@ LARGEST = 16 << 20  # bytes of an answer, or of a line of one
 
 
 class NoAnswer(Exception):
-    """An endpoint gave no whole answer. The text says why, as the end of a sentence. The request may have arrived."""
+    """An endpoint gave no whole answer. The text says why, as the end of a sentence. The request
+    may have arrived."""
 
 
 class NoConnection(NoAnswer):
@@ -26,7 +28,9 @@ class NoConnection(NoAnswer):
 
 
 class Post(NamedTuple):
-    """A request: where it goes, and what it has. `context` is that of a connection with TLS, and None for one without."""
+    """A request: where it goes, and what it has. `context` is that of a connection with TLS, and
+    None for one without."""
+
     endpoint: StoreEndpoint
     path: str
     message: Mapping[str, object]
@@ -49,7 +53,8 @@ class _TimedInput(io.RawIOBase):
 
 
 class _TimedConnection:
-    """A connection as http.client uses one, whose reads and writes end with a time limit. Its user closes the connection."""
+    """A connection as http.client uses one, whose reads and writes end with a time limit. Its user
+    closes the connection."""
 
     def __init__(self, connection: socket.socket, limit: TimeLimit) -> None:
         self.connection, self.limit = connection, limit
@@ -58,7 +63,7 @@ class _TimedConnection:
         rest = memoryview(given)
         while rest:
             self.connection.settimeout(self.limit.left())
-            rest = rest[self.connection.send(rest):]
+            rest = rest[self.connection.send(rest) :]
 
     def makefile(self, _: str) -> io.BufferedReader:
         return io.BufferedReader(_TimedInput(self.connection, self.limit))
@@ -76,7 +81,8 @@ def reason_of(error: Exception) -> str:
     if isinstance(error, ssl.SSLError):
         return f"TLS fails: {(error.reason or str(error)).lower().replace('_', ' ')}"
     if isinstance(error, (ConnectionResetError, BrokenPipeError)):
-        # (an end of the stream too; a peer that closes with unread bytes resets, so which of these comes is left to chance)
+        # (an end of the stream too; a peer that closes with unread bytes resets, so which of these
+        # comes is left to chance)
         return "it closes the connection without an answer"
     if isinstance(error, http.client.IncompleteRead):
         return "its answer is cut"
@@ -86,23 +92,33 @@ def reason_of(error: Exception) -> str:
 
 
 @contextlib.contextmanager
-def responding(post: Post, connecting: TimeLimit, limit: TimeLimit) -> Iterator[http.client.HTTPResponse]:
-    """The response to a request, whose head has come. The connection is made within a limit of its own; `limit` is that of all
-    that follows, also of the reads of the body. `NoAnswer` where none comes, and where one of these reads fails; `NoConnection`
-    where the connection is not made. No redirection is followed, and nothing is sent again."""
+def responding(
+    post: Post, connecting: TimeLimit, limit: TimeLimit
+) -> Iterator[http.client.HTTPResponse]:
+    """The response to a request, whose head has come. The connection is made within a limit of its
+    own; `limit` is that of all that follows, also of the reads of the body. `NoAnswer` where none
+    comes, and where one of these reads fails; `NoConnection` where the connection is not made. No
+    redirection is followed, and nothing is sent again."""
     with contextlib.ExitStack() as opened:
         try:
             connection = opened.enter_context(connected(post.endpoint, connecting))
             if post.context:
                 connection.settimeout(connecting.left())
-                connection = opened.enter_context(post.context.wrap_socket(connection, server_hostname=post.endpoint.host))
+                connection = opened.enter_context(
+                    post.context.wrap_socket(connection, server_hostname=post.endpoint.host)
+                )
         except OSError as error:
             raise NoConnection(reason_of(error)) from None
         try:
             client = http.client.HTTPConnection(post.endpoint.host, post.endpoint.port)
             client.sock = cast(socket.socket, _TimedConnection(connection, limit))
             body = json.dumps(post.message).encode()
-            client.request("POST", post.path, body, {"Content-Type": "application/json", "Connection": "close", **post.headers})
+            client.request(
+                "POST",
+                post.path,
+                body,
+                {"Content-Type": "application/json", "Connection": "close", **post.headers},
+            )
             yield opened.enter_context(client.getresponse())
         except (OSError, http.client.HTTPException, ValueError) as error:
             raise NoAnswer(reason_of(error)) from None
@@ -120,8 +136,8 @@ def answer_to(post: Post, connecting: TimeLimit, limit: TimeLimit) -> tuple[int,
 
 
 def line_of(response: http.client.HTTPResponse) -> bytes:
-    """The next line of a response's body; the last one may be without an end. `NoAnswer` where there is none, or where it is too
-    long."""
+    """The next line of a response's body; the last one may be without an end. `NoAnswer` where
+    there is none, or where it is too long."""
     line = response.readline(LARGEST + 1)
     if len(line) > LARGEST:
         raise NoAnswer(f"a line of its answer has more than {LARGEST} bytes")

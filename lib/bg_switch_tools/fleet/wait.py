@@ -8,21 +8,26 @@ from bg_switch_tools.fleet.exit_statuses import DONE, NO_ANSWER, REFUSED
 from bg_switch_tools.fleet.store import Snapshot, Store, StoreFault, StoreRefusal
 
 PAUSE = 0.2  # seconds between two reads at least
-LONGEST_WATCH = 2.0  # seconds for which a change is awaited before the next read, since an event can be lost
+LONGEST_WATCH = (
+    2.0  # seconds for which a change is awaited before the next read, since an event can be lost
+)
 See = Callable[[Snapshot], None]
 Lose = Callable[[StoreFault], None]
 
 
 class WaitResult(NamedTuple):
-    """How a wait has ended: `DONE`, `REFUSED` where the conditions can't hold any more, `NO_ANSWER` where the time is over or the store
-    refuses the reads; the reason of the latter two; the latest read."""
+    """How a wait has ended: `DONE`, `REFUSED` where the conditions can't hold any more, `NO_ANSWER`
+    where the time is over or the store refuses the reads; the reason of the latter two; the latest
+    read."""
+
     status: int
     reason: str
     snapshot: Snapshot | None
 
 
 def wait_for_change(store: Store, after: int, seconds: float) -> None:
-    """Waits for a change after this revision of the store, for so many seconds at most, and for a pause at least."""
+    """Waits for a change after this revision of the store, for so many seconds at most, and for a
+    pause at least."""
     begun = time.monotonic()
     try:
         store.wait(after, seconds)
@@ -31,9 +36,12 @@ def wait_for_change(store: Store, after: int, seconds: float) -> None:
     time.sleep(max(min(PAUSE, seconds) - (time.monotonic() - begun), 0.0))
 
 
-def wait_for(store: Store, conditions: FleetConditions, timeout: float, see: See, lose: Lose) -> WaitResult:
-    """Waits for conditions, for `timeout` seconds and the end of a call at most. `see` is given each read that does not end the wait,
-    and `lose` each fault of the store that is no refusal, which does not end it either."""
+def wait_for(
+    store: Store, conditions: FleetConditions, timeout: float, see: See, lose: Lose
+) -> WaitResult:
+    """Waits for conditions, for `timeout` seconds and the end of a call at most. `see` is given
+    each read that does not end the wait, and `lose` each fault of the store that is no refusal,
+    which does not end it either."""
     deadline = time.monotonic() + timeout
     snapshot, fault = None, ""
     while True:
@@ -56,5 +64,7 @@ def wait_for(store: Store, conditions: FleetConditions, timeout: float, see: See
             time.sleep(min(PAUSE, left))
         else:
             wait_for_change(store, snapshot.revision, min(LONGEST_WATCH, left))
-    reason = f"{' '.join(conditions.texts)} does not hold after {timeout:g} seconds" + (f": {fault}" if fault else "")
+    reason = f"{' '.join(conditions.texts)} does not hold after {timeout:g} seconds" + (
+        f": {fault}" if fault else ""
+    )
     return WaitResult(NO_ANSWER, reason, snapshot)

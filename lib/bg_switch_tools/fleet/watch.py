@@ -12,7 +12,8 @@ from bg_switch_tools.operator.watch import CLEAR, fitting
 
 
 class Drawing:
-    """What was drawn. At a terminal the screen is drawn anew; elsewhere a block of plain text is written where it has changed."""
+    """What was drawn. At a terminal the screen is drawn anew; elsewhere a block of plain text is
+    written where it has changed."""
 
     def __init__(self, fleet: str) -> None:
         self.fleet = fleet
@@ -29,11 +30,15 @@ class Drawing:
 
     def lose(self, fault: StoreFault) -> None:
         """Notes that the store gives no answer: what is drawn is the last that was read."""
-        self.lost = self.lost or f"etcd gives no answer since {local_time()}, and this was read before: {fault}"
+        self.lost = (
+            self.lost
+            or f"etcd gives no answer since {local_time()}, and this was read before: {fault}"
+        )
 
 
 def watch(person: Person) -> None:
-    """Draws until it is interrupted. `StoreFault` where the first read has no answer; later ones are told below what was read last."""
+    """Draws until it is interrupted. `StoreFault` where the first read has no answer; later ones
+    are told below what was read last."""
     snapshot, drawing = person.store.read(), Drawing(person.fleet)
     while True:
         drawing.draw(snapshot)

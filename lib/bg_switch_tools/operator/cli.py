@@ -1,4 +1,5 @@
-"""bin/operator: sends lines to the control port of a running switch, shows its state, and waits for it."""
+"""bin/operator: sends lines to the control port of a running switch, shows its state, and waits for
+it."""
 import argparse
 import json
 import os
@@ -43,22 +44,61 @@ HELD_BACK = 4  # the exit status of `status` where the controller holds a revisi
 
 def parser() -> argparse.ArgumentParser:
     made = argparse.ArgumentParser(
-        prog="operator", usage=named("bin/operator PORT [LINE | COMMAND] [options]"), description=named(ABOUT),
-        epilog=named("\n".join(["lines and commands, with an example each:", *examples()]) + "\n" + END),
-        formatter_class=argparse.RawDescriptionHelpFormatter)
-    made.add_argument("port", type=port_of, nargs="?", metavar="PORT", help="the control port of the switch, on 127.0.0.1")
+        prog="operator",
+        usage=named("bin/operator PORT [LINE | COMMAND] [options]"),
+        description=named(ABOUT),
+        epilog=named(
+            "\n".join(["lines and commands, with an example each:", *examples()]) + "\n" + END
+        ),
+        formatter_class=argparse.RawDescriptionHelpFormatter,
+    )
+    made.add_argument(
+        "port",
+        type=port_of,
+        nargs="?",
+        metavar="PORT",
+        help="the control port of the switch, on 127.0.0.1",
+    )
     made.add_argument("words", nargs="*", metavar="WORD", help="the words of one line or command")
-    made.add_argument("--wait", type=seconds_of, default=10.0, metavar="SECONDS",
-                      help="how long to wait for the switch to answer (10)")
-    made.add_argument("--timeout", type=seconds_of, metavar="SECONDS", help="how long `wait` waits for its conditions (600)")
-    made.add_argument("--keep-going", action="store_true", help="continues after a line that was refused or faulty")
-    made.add_argument("--json", action="store_true", help="prints each reply, the status and what was waited for as JSON")
-    made.add_argument("--idempotent", action="store_true",
-                      help="a deploy of the revision that is running or stable already counts as carried out")
-    made.add_argument("--yes", action="store_true", help="`shutdown` does not ask, and a `tick` more than a day ahead is sent")
-    made.add_argument("--plan", metavar="PLAN",
-                      help="`wait` first waits until the controller has deployed the last revision of this plan; `status` tells whether "
-                      "the controller runs, and what it holds back")
+    made.add_argument(
+        "--wait",
+        type=seconds_of,
+        default=10.0,
+        metavar="SECONDS",
+        help="how long to wait for the switch to answer (10)",
+    )
+    made.add_argument(
+        "--timeout",
+        type=seconds_of,
+        metavar="SECONDS",
+        help="how long `wait` waits for its conditions (600)",
+    )
+    made.add_argument(
+        "--keep-going",
+        action="store_true",
+        help="continues after a line that was refused or faulty",
+    )
+    made.add_argument(
+        "--json",
+        action="store_true",
+        help="prints each reply, the status and what was waited for as JSON",
+    )
+    made.add_argument(
+        "--idempotent",
+        action="store_true",
+        help="a deploy of the revision that is running or stable already counts as carried out",
+    )
+    made.add_argument(
+        "--yes",
+        action="store_true",
+        help="`shutdown` does not ask, and a `tick` more than a day ahead is sent",
+    )
+    made.add_argument(
+        "--plan",
+        metavar="PLAN",
+        help="`wait` first waits until the controller has deployed the last revision of this plan; `status` tells whether "
+        "the controller runs, and what it holds back",
+    )
     return made
 
 
@@ -82,7 +122,8 @@ class Operator:
         print(json.dumps(told), flush=True)
 
     def show(self, reply: Reply) -> None:
-        """Prints a reply. What it means is no part of it: away from a terminal that goes to standard error."""
+        """Prints a reply. What it means is no part of it: away from a terminal that goes to
+        standard error."""
         is_plain_terminal = sys.stdout.isatty() and not self.is_json
         if self.is_json:
             self.show_json(reply.as_json())
@@ -108,9 +149,10 @@ class Operator:
         return status
 
     def status(self) -> int:
-        """Shows the state in one line. The exit status is 0 where it is steady or an attempt runs, `DARK` where no endpoint of
-        the active revision is available, `NO_CONTROLLER` where no controller acts by the plan, `HELD_BACK` where it holds a
-        revision of the plan back, and else 1."""
+        """Shows the state in one line. The exit status is 0 where it is steady or an attempt runs,
+        `DARK` where no endpoint of the active revision is available, `NO_CONTROLLER` where no
+        controller acts by the plan, `HELD_BACK` where it holds a revision of the plan back, and
+        else 1."""
         try:
             report = read_report(ask(self.port, b"report", self.wait))
         except (Unreachable, NoReport) as reason:
@@ -121,14 +163,26 @@ class Operator:
         controller = life_of(self.plan) if self.plan else ControllerLife(Life.UP)
         if self.is_json:
             told: dict[str, object] = {"phase": None} if report is None else as_json(report)
-            told |= {"controller": controller.life.value, "held_back": [each.as_json() for each in held]} if self.plan else {}
+            told |= (
+                {
+                    "controller": controller.life.value,
+                    "held_back": [each.as_json() for each in held],
+                }
+                if self.plan
+                else {}
+            )
             self.show_json(told)
         else:
             print(in_one_line(report))
-        for text in [*([controller.text] if controller.text else []), *(each.text() for each in held)]:
+        for text in [
+            *([controller.text] if controller.text else []),
+            *(each.text() for each in held),
+        ]:
             self.tell(text)
         if report is not None and report.service("active").available == 0:
-            self.tell(f"no endpoint of {report.service('active').title()}, which is active, is available")
+            self.tell(
+                f"no endpoint of {report.service('active').title()}, which is active, is available"
+            )
             return DARK
         if controller.is_wrong:
             return NO_CONTROLLER
@@ -137,7 +191,8 @@ class Operator:
         return 1 if report is None or report.phase == "aborted" else 0
 
     def telling(self, announced: Callable[[], Announcement]) -> Callable[[], Announcement]:
-        """The same, which also tells at once why a deploy that is announced is not carried out yet."""
+        """The same, which also tells at once why a deploy that is announced is not carried out
+        yet."""
         told = ""
 
         def look() -> Announcement:
@@ -147,6 +202,7 @@ class Operator:
                 told = coming.trouble
                 self.tell(told)
             return coming
+
         return look
 
     def wait_for(self, texts: Sequence[str]) -> int:
@@ -154,7 +210,11 @@ class Operator:
         before: list[Report] = []
         conditions = Conditions(texts)
         try:
-            announced = self.telling(AnnouncedDeploy(self.plan, conditions.revisions).look) if self.plan else nothing_comes
+            announced = (
+                self.telling(AnnouncedDeploy(self.plan, conditions.revisions).look)
+                if self.plan
+                else nothing_comes
+            )
         except WrongPlan as wrong:
             self.tell(f"{self.plan} is not a plan: {wrong}")
             return TOO_LATE
@@ -165,10 +225,15 @@ class Operator:
             for change in dated(before[-1], report) if before else []:
                 self.tell(change)
             before[:] = [report]
-        waited = wait_for(self.port, conditions, WaitLimits(self.timeout, self.wait), see, announced)
+
+        waited = wait_for(
+            self.port, conditions, WaitLimits(self.timeout, self.wait), see, announced
+        )
         if self.is_json:
             report = as_json(waited.report) if waited.report else None
-            self.show_json({"status": waited.status, "reason": waited.reason or None, "report": report})
+            self.show_json(
+                {"status": waited.status, "reason": waited.reason or None, "report": report}
+            )
         elif waited.status == 0:
             print(in_one_line(waited.report))
         if waited.status != 0:
@@ -202,11 +267,19 @@ class Operator:
         """Runs one of `COMMAND_NAMES`."""
         if words[0] == "wait":
             return self.wait_for(words[1:])
-        return {"status": self.status, "watch": self.watch, "shutdown": self.shut_down, "help": self.show_help}[words[0]]()
+        return {
+            "status": self.status,
+            "watch": self.watch,
+            "shutdown": self.shut_down,
+            "help": self.show_help,
+        }[words[0]]()
 
     def prompt(self) -> int:
-        commands: dict[str, PromptCommand] = {"status": lambda _: self.status(), "watch": lambda _: self.watch(),
-                                        "wait": self.wait_for}
+        commands: dict[str, PromptCommand] = {
+            "status": lambda _: self.status(),
+            "watch": lambda _: self.watch(),
+            "wait": self.wait_for,
+        }
         Prompt(self.port, self.wait, commands).run()
         return 0
 

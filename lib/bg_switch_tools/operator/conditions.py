@@ -1,4 +1,5 @@
-"""What `wait` can wait for: conditions on a report, and whether one can still hold unless a line is sent."""
+"""What `wait` can wait for: conditions on a report, and whether one can still hold unless a line is
+sent."""
 import dataclasses
 import difflib
 import re
@@ -12,7 +13,9 @@ CONDITION_SYNTAX = "phase=PHASE, active=NAME, preview=NAME, stable=NAME, newest=
 
 
 class Outlook(NamedTuple):
-    """Whether a condition holds. Where it doesn't and cannot hold unless a line is sent, `never` says why."""
+    """Whether a condition holds. Where it doesn't and cannot hold unless a line is sent, `never`
+    says why."""
+
     holds: bool
     never: str = ""
 
@@ -21,14 +24,16 @@ HOLDS, MAY_COME = Outlook(True), Outlook(False)
 
 
 class SeenRevisions:
-    """What a wait has seen: the names of all revisions that existed, and the number of the one whose attempt it waits for."""
+    """What a wait has seen: the names of all revisions that existed, and the number of the one
+    whose attempt it waits for."""
 
     def __init__(self) -> None:
         self.names: set[str] = set()
         self.newest: int | None = None
 
     def take_in(self, report: Report, awaited: Sequence[str]) -> None:
-        """Takes in a report. The attempt is that of the newest revision at first, or of one that is awaited by its name."""
+        """Takes in a report. The attempt is that of the newest revision at first, or of one that is
+        awaited by its name."""
         self.names |= {revision.name for revision in report.revisions.values()}
         if self.newest is None or report.newest.name in awaited:
             self.newest = report.newest.number
@@ -51,29 +56,40 @@ def _no_revision(name: str) -> Outlook:
 
 def _at_rest(report: Report) -> str:
     """Why nothing moves any more, while no attempt runs."""
-    return f"the attempt of {report.newest.name} was aborted" if report.phase == "aborted" else "no attempt runs"
+    return (
+        f"the attempt of {report.newest.name} was aborted"
+        if report.phase == "aborted"
+        else "no attempt runs"
+    )
 
 
 @dataclasses.dataclass(frozen=True)
 class PhaseIs:
     """The attempt that was the newest at the wait's begin is in this phase, or has ended in it."""
+
     phase: str
 
     def outlook(self, report: Report, seen: SeenRevisions) -> Outlook:
         if report.newest.number != seen.newest:
-            return Outlook(False, f"{report.newest.name} took the place of the revision that it waits for")
+            return Outlook(
+                False, f"{report.newest.name} took the place of the revision that it waits for"
+            )
         if report.phase == self.phase:
             return HOLDS
         if not report.is_running:
             return Outlook(False, _at_rest(report))
         if self.phase in RUNNING and RUNNING.index(self.phase) < RUNNING.index(report.phase):
-            return Outlook(False, f"the attempt of {report.newest.name} is past it, in the phase {report.phase}")
+            return Outlook(
+                False,
+                f"the attempt of {report.newest.name} is past it, in the phase {report.phase}",
+            )
         return MAY_COME
 
 
 @dataclasses.dataclass(frozen=True)
 class ServiceIs:
     """A service, the stable or the newest one, is the revision of this name."""
+
     service: str
     name: str
 
@@ -87,7 +103,9 @@ class ServiceIs:
             return _no_revision(self.name)
         if not report.is_running:
             return Outlook(False, _at_rest(report))
-        reachable = {report.newest.name} | ({report.stable.name} if self.service in ("active", "preview") else set())
+        reachable = {report.newest.name} | (
+            {report.stable.name} if self.service in ("active", "preview") else set()
+        )
         if self.name not in reachable:
             return Outlook(False, f"{report.newest.name} took the place of {self.name}")
         return MAY_COME
@@ -96,6 +114,7 @@ class ServiceIs:
 @dataclasses.dataclass(frozen=True)
 class OpenAre:
     """The revision of this name has so many open requests."""
+
     name: str
     count: int
 
@@ -113,6 +132,7 @@ class OpenAre:
 @dataclasses.dataclass(frozen=True)
 class ScaledDown:
     """The revision of this name is scaled down, or was removed after that."""
+
     name: str
 
     def outlook(self, report: Report, seen: SeenRevisions) -> Outlook:
@@ -141,8 +161,12 @@ def read_condition(text: str) -> Condition:
     key, sign, value = text.partition("=")
     if key == "phase" and sign:
         if value not in PHASES:
-            near = "".join(f"; the nearest is {phase}" for phase in difflib.get_close_matches(value, PHASES, 1))
-            raise WrongCondition(f"{text}: a phase is needed after phase=, one of {', '.join(PHASES)}{near}")
+            near = "".join(
+                f"; the nearest is {phase}" for phase in difflib.get_close_matches(value, PHASES, 1)
+            )
+            raise WrongCondition(
+                f"{text}: a phase is needed after phase=, one of {', '.join(PHASES)}{near}"
+            )
         return PhaseIs(value)
     opened = re.fullmatch(r"open\((.*)\)", key)
     name = opened[1] if opened else value
@@ -166,13 +190,21 @@ class Conditions:
         """`WrongCondition` where a text is none."""
         self.texts = list(texts)
         self.conditions = [read_condition(text) for text in texts]
-        self.revisions = {each.name for each in self.conditions if isinstance(each, ServiceIs)}  # whose deploy is awaited
-        self.newest = [each.name for each in self.conditions if isinstance(each, ServiceIs) and each.service == "newest"]
+        self.revisions = {
+            each.name for each in self.conditions if isinstance(each, ServiceIs)
+        }  # whose deploy is awaited
+        self.newest = [
+            each.name
+            for each in self.conditions
+            if isinstance(each, ServiceIs) and each.service == "newest"
+        ]
         self.seen = SeenRevisions()
 
     def outlook(self, report: Report, coming: str | None = None) -> Outlook:
-        """Whether all hold by this report, which is later than those before; `never` tells of the first that can't come. Up to the
-        deploy of a revision that a plan announces (`coming`) nothing holds, and everything may come; the attempt is its own."""
+        """Whether all hold by this report, which is later than those before; `never` tells of the
+        first that can't come. Up to the deploy of a revision that a plan announces (`coming`)
+        nothing holds, and everything may come; the attempt is its own.
+        """
         if coming and coming not in self.newest:
             self.newest.append(coming)
         self.seen.take_in(report, self.newest)
@@ -183,5 +215,7 @@ class Conditions:
         if not any(name not in self.seen.names for name in self.newest):
             for text, outlook in zip(self.texts, outlooks):
                 if outlook.never:
-                    return Outlook(False, f"{text} cannot hold unless a line is sent: {outlook.never}")
+                    return Outlook(
+                        False, f"{text} cannot hold unless a line is sent: {outlook.never}"
+                    )
         return HOLDS if all(outlook.holds for outlook in outlooks) else MAY_COME

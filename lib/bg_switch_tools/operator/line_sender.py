@@ -11,7 +11,9 @@ LONGEST_NUMBER = 20  # digits, as the switch reads a number
 
 
 class Reply(NamedTuple):
-    """What a line was answered. `note` is told beside it, on standard error. `report` is the report that was asked for."""
+    """What a line was answered. `note` is told beside it, on standard error. `report` is the report
+    that was asked for."""
+
     line: str
     lines: Sequence[str]
     carried_out: bool
@@ -20,15 +22,23 @@ class Reply(NamedTuple):
     report: Report | None = None
 
     def as_json(self) -> dict[str, object]:
-        """An object of JSON: a report's values, or the line, its reply, whether it was carried out, and what it means."""
+        """An object of JSON: a report's values, or the line, its reply, whether it was carried out,
+        and what it means."""
         if self.report is not None:
             return as_json(self.report)
-        return {"line": self.line, "reply": "\n".join(self.lines), "carried_out": self.carried_out, "meaning": self.meaning}
+        return {
+            "line": self.line,
+            "reply": "\n".join(self.lines),
+            "carried_out": self.carried_out,
+            "meaning": self.meaning,
+        }
 
 
-def send_line(port: int, line: bytes, wait: float, is_idempotent: bool, is_sure: bool = False) -> Reply:
-    """Sends a line on a connection of its own. `Unreachable` where the switch does not answer. A tick far ahead is sent only by
-    somebody who is sure."""
+def send_line(
+    port: int, line: bytes, wait: float, is_idempotent: bool, is_sure: bool = False
+) -> Reply:
+    """Sends a line on a connection of its own. `Unreachable` where the switch does not answer. A
+    tick far ahead is sent only by somebody who is sure."""
     words, text = words_of(line), line.decode("utf-8", "replace")
     if words[:1] == [b"deploy"]:
         return _deploy(port, line, wait, is_idempotent)
@@ -42,26 +52,38 @@ def send_line(port: int, line: bytes, wait: float, is_idempotent: bool, is_sure:
 
 
 def send_line_for(port: int, name: str, line: bytes, wait: float) -> Reply:
-    """Sends a line for the newest revision, if that is the one of this name by a report on the same connection."""
+    """Sends a line for the newest revision, if that is the one of this name by a report on the same
+    connection."""
     text = line.decode("utf-8", "replace")
     with Connection(port, wait) as connection:
         report = read_report(connection.answer(b"report"))
         if report is None or report.newest.name != name:
-            newest = "no book is open" if report is None else f"{report.newest.title()} is the newest one, and not {name}"
+            newest = (
+                "no book is open"
+                if report is None
+                else f"{report.newest.title()} is the newest one, and not {name}"
+            )
             return Reply(text, [], False, f"not sent: {newest}", f"not sent: {newest}")
         lines = sent(connection, line, wait)
     return Reply(text, lines, was_carried_out(lines[0]), meaning_of(lines[0]))
 
 
 def _tick(port: int, line: bytes, wait: float) -> Reply:
-    """Sends a tick, unless its moment lies more than a day ahead: no later tick could ever take it back."""
+    """Sends a tick, unless its moment lies more than a day ahead: no later tick could ever take it
+    back."""
     text, told = line.decode("utf-8", "replace"), words_of(line)[1:]
     with Connection(port, wait) as connection:
         before = read_report(connection.answer(b"report"))
-        moment = int(told[0]) if len(told) == 1 and told[0].isdigit() and len(told[0]) <= LONGEST_NUMBER else 0
+        moment = (
+            int(told[0])
+            if len(told) == 1 and told[0].isdigit() and len(told[0]) <= LONGEST_NUMBER
+            else 0
+        )
         if before and moment > before.moment + DAY:
-            why = (f"not sent: moment {moment} is more than a day ahead of moment {before.moment}, and no moment can be taken back; "
-                   "--yes sends it")
+            why = (
+                f"not sent: moment {moment} is more than a day ahead of moment {before.moment}, and no moment can be taken back; "
+                "--yes sends it"
+            )
             return Reply(text, [], False, why, why)
         lines = sent(connection, line, wait)
     return Reply(text, lines, was_carried_out(lines[0]), meaning_of(lines[0]))
@@ -88,14 +110,23 @@ def _made(connection: Connection, before: Report) -> str | None:
     if after is None:
         return None
     newest = after.newest
-    return f"takes {newest.title()} again" if newest.number in before.revisions else f"makes {newest.title()}"
+    return (
+        f"takes {newest.title()} again"
+        if newest.number in before.revisions
+        else f"makes {newest.title()}"
+    )
 
 
 def _deployed_before(text: str, lines: Sequence[str], report: Report) -> Reply:
-    """A deploy of what is the newest revision already: that is as good as carried out, unless its attempt was aborted."""
+    """A deploy of what is the newest revision already: that is as good as carried out, unless its
+    attempt was aborted."""
     newest = report.newest
     if report.phase == "aborted":
         meaning = f"{newest.title()} has this name and these ports already, and its attempt was aborted; retry begins it again"
         return Reply(text, lines, False, meaning)
-    state = f"is running already, in the phase {report.phase}" if report.is_running else "is stable already"
+    state = (
+        f"is running already, in the phase {report.phase}"
+        if report.is_running
+        else "is stable already"
+    )
     return Reply(text, lines, True, f"{newest.title()} {state}", f"{newest.title()} {state}")

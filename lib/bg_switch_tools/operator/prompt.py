@@ -27,7 +27,9 @@ def show_at_terminal(reply: Reply) -> None:
 def confirm_shutdown(port: int) -> bool:
     """Whether the operator wants the switch to be shut down. The end of the input is no."""
     try:
-        told = input(f"Shut the switch at port {port} down? No operator is answered any more. [y/N] ")
+        told = input(
+            f"Shut the switch at port {port} down? No operator is answered any more. [y/N] "
+        )
     except EOFError:
         print()
         return False
@@ -77,7 +79,8 @@ class Prompt:
         return True
 
     def run(self) -> None:
-        """Carries lines out until `quit`, `exit`, the end of the input or ctrl-C. A line that is refused ends nothing."""
+        """Carries lines out until `quit`, `exit`, the end of the input or ctrl-C. A line that is
+        refused ends nothing."""
         print(f"The switch at port {self.port}. help lists the lines; quit leaves this prompt.")
         goes_on = True
         while goes_on:

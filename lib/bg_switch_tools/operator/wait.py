@@ -14,13 +14,17 @@ REACHED, NEVER, TOO_LATE = 0, 1, 2
 
 
 class WaitLimits(NamedTuple):
-    """The seconds that a wait has, and those within which the switch has to answer each question."""
+    """The seconds that a wait has, and those within which the switch has to answer each
+    question."""
+
     whole: float
     answer: float
 
 
 class WaitResult(NamedTuple):
-    """How a wait has ended: `REACHED`, `NEVER` or `TOO_LATE`; the reason of the latter two; the latest report."""
+    """How a wait has ended: `REACHED`, `NEVER` or `TOO_LATE`; the reason of the latter two; the
+    latest report."""
+
     status: int
     reason: str
     report: Report | None
@@ -31,10 +35,16 @@ def nothing_comes() -> Announcement:
     return Announcement()
 
 
-def wait_for(port: int, conditions: Conditions, limits: WaitLimits, see: Callable[[Report], None],
-             announced: Callable[[], Announcement] = nothing_comes) -> WaitResult:
-    """Waits for conditions, as long as the limits say. `see` is given each report. `announced` gives the revision whose
-    deploy a plan announces: up to that deploy the wait goes on, unless the deploy was refused.
+def wait_for(
+    port: int,
+    conditions: Conditions,
+    limits: WaitLimits,
+    see: Callable[[Report], None],
+    announced: Callable[[], Announcement] = nothing_comes,
+) -> WaitResult:
+    """Waits for conditions, as long as the limits say. `see` is given each report. `announced`
+    gives the revision whose deploy a plan announces: up to that deploy the wait goes on, unless the
+    deploy was refused.
 
     A switch that does not answer in time, or has no book yet, is asked again.
     """
@@ -44,7 +54,9 @@ def wait_for(port: int, conditions: Conditions, limits: WaitLimits, see: Callabl
     while True:
         coming = announced()  # before the report: what was deployed by then, the report shows
         try:
-            report = read_report(ask(port, b"report", max(min(limits.answer, deadline - time.monotonic()), PAUSE)))
+            report = read_report(
+                ask(port, b"report", max(min(limits.answer, deadline - time.monotonic()), PAUSE))
+            )
             state = in_one_line(report)
         except (Unreachable, NoReport) as error:
             report, state = None, str(error)
@@ -54,12 +66,22 @@ def wait_for(port: int, conditions: Conditions, limits: WaitLimits, see: Callabl
             if outlook.holds or outlook.never:
                 return WaitResult(REACHED if outlook.holds else NEVER, outlook.never, report)
         # what was overtaken may have been deployed by hand all the same
-        is_overtaken = coming.overtaken and (report is None or report.newest.name not in conditions.revisions)
+        is_overtaken = coming.overtaken and (
+            report is None or report.newest.name not in conditions.revisions
+        )
         if why := coming.refusal or (coming.overtaken if is_overtaken else ""):
-            return WaitResult(NEVER, f"{' '.join(conditions.texts)} cannot hold by the plan: {why}", report)
+            return WaitResult(
+                NEVER, f"{' '.join(conditions.texts)} cannot hold by the plan: {why}", report
+            )
         if time.monotonic() + PAUSE >= deadline:
             break
         time.sleep(PAUSE)
-    state += f"; the controller has not deployed {coming.name} by the plan yet" if coming.name else ""
+    state += (
+        f"; the controller has not deployed {coming.name} by the plan yet" if coming.name else ""
+    )
     state += "".join(f"; {why}" for why in (coming.trouble, coming.absence) if why)
-    return WaitResult(TOO_LATE, f"{' '.join(conditions.texts)} does not hold after {limits.whole:g} seconds: {state}", report)
+    return WaitResult(
+        TOO_LATE,
+        f"{' '.join(conditions.texts)} does not hold after {limits.whole:g} seconds: {state}",
+        report,
+    )

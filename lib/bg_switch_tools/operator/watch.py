@@ -19,7 +19,7 @@ def fitting(lines: Sequence[str], seen: Sequence[str]) -> str:
     width, height = shutil.get_terminal_size()
     room = max(height - len(lines) - 2, 0)
     shown = [*lines, "", *(seen[-room:] if room else [])]
-    return "\n".join(line[:width] for line in shown[:max(height - 1, 1)])
+    return "\n".join(line[:width] for line in shown[: max(height - 1, 1)])
 
 
 def dated(before: Report | None, now: Report | None) -> list[str]:
@@ -29,10 +29,12 @@ def dated(before: Report | None, now: Report | None) -> list[str]:
 
 
 def watch(port: int, wait: float) -> None:
-    """Draws until it is interrupted, or the switch does not answer for so many seconds (`Unreachable`).
+    """Draws until it is interrupted, or the switch does not answer for so many seconds
+    (`Unreachable`).
 
-    At a terminal the screen is drawn anew each second. Elsewhere a block of plain text is written at first, and then
-    after each change of anything but the moment and the numbers of open requests.
+    At a terminal the screen is drawn anew each second. Elsewhere a block of plain text is written
+    at first, and then after each change of anything but the moment and the numbers of open
+    requests.
     """
     is_terminal, is_first = sys.stdout.isatty(), True
     seen: list[str] = []

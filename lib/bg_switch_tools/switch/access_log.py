@@ -1,7 +1,7 @@
 """The access log of a switch: its lines, read into values, and a reader that follows its file.
 
-A line is an object of JSON for each connection that ended (docs/DASHBOARD.md has its members), or `{"time": .., "lost": N}`
-where N lines could not be written before it.
+A line is an object of JSON for each connection that ended (docs/DASHBOARD.md has its members), or
+`{"time": .., "lost": N}` where N lines could not be written before it.
 """
 import datetime
 import functools
@@ -20,18 +20,35 @@ PIECE = 1 << 22  # bytes that are read at a time
 READ_ON_SECONDS = 10.0  # seconds for which a file is read on after another one has taken its place
 SERVER_ERROR = 500
 NO_ENDPOINT = "no_endpoint"  # the reason of a 503 whose service had no available endpoint
-MOST_TIMES = 4096  # texts of times whose seconds are remembered: many lines end within one millisecond
-GREATEST = 1 << 64  # no number of the switch is as large, and each up to it can be counted and written as a float
+MOST_TIMES = (
+    4096  # texts of times whose seconds are remembered: many lines end within one millisecond
+)
+GREATEST = (
+    1 << 64
+)  # no number of the switch is as large, and each up to it can be counted and written as a float
 
 TEXT, COUNT, NUMBER, NOTHING = (str,), (int,), (int, float), type(None)
 # The members of a line, each with the types that it can have.
 MEMBERS: Mapping[str, tuple[type, ...]] = {
-    "service": TEXT, "revision": (*COUNT, NOTHING), "request": (*COUNT, NOTHING), "port": (*COUNT, NOTHING),
-    "method": (*TEXT, NOTHING), "target": (*TEXT, NOTHING), "status": (*COUNT, NOTHING), "end": TEXT,
-    "reason": (*TEXT, NOTHING), "request_bytes": (*COUNT, NOTHING), "response_bytes": (*COUNT, NOTHING), "duration_ms": NUMBER,
-    "upstream_ms": (*NUMBER, NOTHING)}
+    "service": TEXT,
+    "revision": (*COUNT, NOTHING),
+    "request": (*COUNT, NOTHING),
+    "port": (*COUNT, NOTHING),
+    "method": (*TEXT, NOTHING),
+    "target": (*TEXT, NOTHING),
+    "status": (*COUNT, NOTHING),
+    "end": TEXT,
+    "reason": (*TEXT, NOTHING),
+    "request_bytes": (*COUNT, NOTHING),
+    "response_bytes": (*COUNT, NOTHING),
+    "duration_ms": NUMBER,
+    "upstream_ms": (*NUMBER, NOTHING),
+}
 # Members that a line need not have.
-OPTIONAL: Mapping[str, tuple[type, ...]] = {"slot_port": (*COUNT, NOTHING), "tries": (*COUNT, NOTHING)}
+OPTIONAL: Mapping[str, tuple[type, ...]] = {
+    "slot_port": (*COUNT, NOTHING),
+    "tries": (*COUNT, NOTHING),
+}
 TYPES = {**MEMBERS, **OPTIONAL}
 REQUIRED = operator.itemgetter(*MEMBERS)
 
@@ -41,8 +58,11 @@ class NoLogEntry(ValueError):
 
 
 class LogEntry(NamedTuple):
-    """A connection that ended. `time` counts seconds from 1970; `revision` and `request` are numbers of the switch; `slot_port`
-    is the port of the request's slot where the endpoint at another one, `port`, was dialled; `tries` counts its connects."""
+    """A connection that ended. `time` counts seconds from 1970; `revision` and `request` are
+    numbers of the switch; `slot_port` is the port of the request's slot where the endpoint at
+    another one, `port`, was dialled; `tries` counts its connects.
+    """
+
     time: float
     service: str
     revision: int | None
@@ -67,7 +87,8 @@ class LogEntry(NamedTuple):
 
     @property
     def is_without_endpoint(self) -> bool:
-        """Whether it was refused since the revision that its service selects had no available endpoint: it names none."""
+        """Whether it was refused since the revision that its service selects had no available
+        endpoint: it names none."""
         return self.revision is None and self.reason == NO_ENDPOINT
 
     @property
@@ -78,6 +99,7 @@ class LogEntry(NamedTuple):
 
 class LostLines(NamedTuple):
     """So many lines could not be written. The time is None where the switch had none."""
+
     time: float | None
     lost: int
 
@@ -127,16 +149,19 @@ def _fault(told: Mapping[str, object]) -> str:
 
 @functools.lru_cache
 def _numbers_of(types: tuple[type, ...]) -> Callable[[Sequence[object]], tuple[float, ...]] | None:
-    """What takes the numbers out of the values of members that have these types; None where one can't have its type. `bool` is
-    no type of a member, though it is an `int`."""
+    """What takes the numbers out of the values of members that have these types; None where one
+    can't have its type. `bool` is no type of a member, though it is an `int`."""
     if not all(each in known for each, known in zip(types, TYPES.values())):
         return None
     places = [place for place, each in enumerate(types) if each is not str and each is not NOTHING]
-    return operator.itemgetter(places[0], *places)  # the first one twice, since of a single place it would give no tuple
+    return operator.itemgetter(
+        places[0], *places
+    )  # the first one twice, since of a single place it would give no tuple
 
 
 def _values(told: Mapping[str, object]) -> tuple[object, ...]:
-    """The values of the members of a line. `NoLogEntry` where one is missing or wrong: what `_fault` says, found in less time."""
+    """The values of the members of a line. `NoLogEntry` where one is missing or wrong: what
+    `_fault` says, found in less time."""
     try:
         values = (*REQUIRED(told), *map(told.get, OPTIONAL))
     except KeyError:
@@ -160,7 +185,8 @@ def _object(line: bytes) -> dict[str, object]:
 
 
 def read_line(line: bytes) -> LogEntry | LostLines:
-    """The values of a line, without its end. `NoLogEntry` where it is none of an access log; further members are passed over."""
+    """The values of a line, without its end. `NoLogEntry` where it is none of an access log;
+    further members are passed over."""
     told = _object(line)
     lost = told.get("lost")
     if type(lost) is int and 0 <= lost < GREATEST:
@@ -173,12 +199,18 @@ def read_line(line: bytes) -> LogEntry | LostLines:
 
 def written(entry: LogEntry) -> bytes:
     """The line of an entry, with its end, as the switch writes it."""
-    told = {name: value for name, value in entry._asdict().items() if value is not None or name not in OPTIONAL}
+    told = {
+        name: value
+        for name, value in entry._asdict().items()
+        if value is not None or name not in OPTIONAL
+    }
     return (json.dumps({**told, "time": time_text(entry.time)}) + "\n").encode("ascii")
 
 
 class Batch(NamedTuple):
-    """What was read: entries, how many lines the switch could not write, and how many could not be read."""
+    """What was read: entries, how many lines the switch could not write, and how many could not be
+    read."""
+
     entries: list[LogEntry]
     lost: int
     unreadable: int
@@ -209,7 +241,9 @@ class OpenLog:
         self.place = place
         self.part = b""  # of a line whose end has not come
         self.unreadable = 0
-        self.has_more = False  # whether the last look gave a whole piece, so that more is likely to be there
+        self.has_more = (
+            False  # whether the last look gave a whole piece, so that more is likely to be there
+        )
         self.replaced_at: float | None = None
 
     def begin_before(self) -> None:
@@ -219,7 +253,8 @@ class OpenLog:
         self.place = start + before.rfind(b"\n") + 1
 
     def lines(self) -> list[bytes]:
-        """The whole lines that have come, of one piece at most; empty where no more are there now."""
+        """The whole lines that have come, of one piece at most; empty where no more are there
+        now."""
         if os.fstat(self.file.fileno()).st_size < self.place:
             self.place, self.part = 0, b""  # the file was cut
         piece = os.pread(self.file.fileno(), PIECE, self.place)
@@ -241,10 +276,12 @@ def identity(status: os.stat_result) -> tuple[int, int]:
 
 
 class Follower:
-    """Follows the log at a path: a file that was renamed is read on for a while beside the one that has taken its place."""
+    """Follows the log at a path: a file that was renamed is read on for a while beside the one that
+    has taken its place."""
 
     def __init__(self, path: str, backlog: int = 0) -> None:
-        """Reads from the end of the file on, or from so many bytes before it. `fault` says why nothing is read, where it is."""
+        """Reads from the end of the file on, or from so many bytes before it. `fault` says why
+        nothing is read, where it is."""
         self.path = path
         self.files: list[OpenLog] = []
         self.fault = ""
@@ -302,7 +339,9 @@ class Follower:
                 self.fault = error.strerror or "it can't be read"
             unreadable += file.take_unreadable()
         # a file that was cut, or another one that has taken its place, has nothing from before
-        self.is_behind = self.is_behind and len(self.files) == 1 and before < self.files[0].place < self.begun_at
+        self.is_behind = (
+            self.is_behind and len(self.files) == 1 and before < self.files[0].place < self.begun_at
+        )
         return read_lines(lines, unreadable + self._close_earlier())
 
     def close(self) -> None:

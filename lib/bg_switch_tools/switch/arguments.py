@@ -13,8 +13,15 @@ def port_of(text: str) -> int:
 
 
 def numbered_port(text: str, title: str) -> int:
-    if not text.isascii() or not text.isdigit() or len(text) > 9 or not 1 <= int(text) <= GREATEST_PORT:
-        raise argparse.ArgumentTypeError(f"{title} is expected, a number from 1 to {GREATEST_PORT}, and not {text!r}")
+    if (
+        not text.isascii()
+        or not text.isdigit()
+        or len(text) > 9
+        or not 1 <= int(text) <= GREATEST_PORT
+    ):
+        raise argparse.ArgumentTypeError(
+            f"{title} is expected, a number from 1 to {GREATEST_PORT}, and not {text!r}"
+        )
     return int(text)
 
 
@@ -30,12 +37,15 @@ def number_of(text: str) -> float:
 def seconds_of(text: str) -> float:
     seconds = number_of(text)
     if not 0 <= seconds <= LONGEST:
-        raise argparse.ArgumentTypeError(f"a number of seconds from 0 to {LONGEST:.0f} is expected, and not {text!r}")
+        raise argparse.ArgumentTypeError(
+            f"a number of seconds from 0 to {LONGEST:.0f} is expected, and not {text!r}"
+        )
     return seconds
 
 
 def share_of(text: str) -> float:
-    """The share that a text such as `1%` tells: the float that is nearest, as 7 / 1000 is for 0.7%."""
+    """The share that a text such as `1%` tells: the float that is nearest, as 7 / 1000 is for
+    0.7%."""
     told = text.removesuffix("%")
     if not text.endswith("%") or not 0 <= number_of(told) <= 100:
         raise argparse.ArgumentTypeError(f"a percentage is expected, such as 1%, and not {text!r}")

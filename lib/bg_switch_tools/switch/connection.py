@@ -1,7 +1,7 @@
 """Connections to the control port of a switch.
 
-The connections of the control port take turns by lines. A tool opens a connection for one line or a few, and closes it, so it
-takes no place at the port while it sends nothing.
+The connections of the control port take turns by lines. A tool opens a connection for one line or a
+few, and closes it, so it takes no place at the port while it sends nothing.
 """
 import contextlib
 import socket
@@ -24,7 +24,8 @@ class Unreachable(Exception):
 
 
 def words_of(line: bytes) -> list[bytes]:
-    """The words of a line, as the switch splits it: spaces alone part words, and a CR at the end does not count."""
+    """The words of a line, as the switch splits it: spaces alone part words, and a CR at the end
+    does not count."""
     return [word for word in line.removesuffix(b"\r").split(b" ") if word]
 
 
@@ -32,7 +33,8 @@ class Connection:
     """A connection to the control port. No call waits past the deadline, which `allow` sets."""
 
     def __init__(self, port: int, wait: float) -> None:
-        """Connects within `wait` seconds, since the switch may be starting. `Unreachable` where that fails."""
+        """Connects within `wait` seconds, since the switch may be starting. `Unreachable` where
+        that fails."""
         self.port = port
         self.wait = wait
         self.unread = b""
@@ -42,7 +44,12 @@ class Connection:
     def __enter__(self) -> "Connection":
         return self
 
-    def __exit__(self, kind: type[BaseException] | None, error: BaseException | None, trace: TracebackType | None) -> None:
+    def __exit__(
+        self,
+        kind: type[BaseException] | None,
+        error: BaseException | None,
+        trace: TracebackType | None,
+    ) -> None:
         self.close()
 
     def close(self) -> None:
@@ -65,10 +72,14 @@ class Connection:
             try:
                 return socket.create_connection((HOST, self.port), timeout=self._left())
             except TimeoutError:
-                raise Unreachable(f"port {self.port} takes no connection: others wait there already") from None
+                raise Unreachable(
+                    f"port {self.port} takes no connection: others wait there already"
+                ) from None
             except OSError as error:
                 if time.monotonic() + PAUSE >= self.deadline:
-                    raise Unreachable(f"port {self.port} of {HOST} can't be reached: {error.strerror}") from None
+                    raise Unreachable(
+                        f"port {self.port} of {HOST} can't be reached: {error.strerror}"
+                    ) from None
                 time.sleep(PAUSE)
 
     def send(self, *lines: bytes) -> None:
@@ -77,10 +88,13 @@ class Connection:
         try:
             self.socket.sendall(b"".join(line + b"\n" for line in lines))
         except OSError as error:
-            raise Unreachable(f"port {self.port} takes no line: {error.strerror or 'it is too slow'}") from None
+            raise Unreachable(
+                f"port {self.port} takes no line: {error.strerror or 'it is too slow'}"
+            ) from None
 
     def receive(self) -> bytes:
-        """The bytes that come next; none where the connection has ended. `TimeoutError` past the deadline."""
+        """The bytes that come next; none where the connection has ended. `TimeoutError` past the
+        deadline."""
         if time.monotonic() >= self.deadline:
             raise TimeoutError
         self.socket.settimeout(self._left())
@@ -90,13 +104,16 @@ class Connection:
             return b""
 
     def next_line(self) -> str:
-        """The next line of a reply. `Unreachable` where none comes in time, or the connection has ended."""
+        """The next line of a reply. `Unreachable` where none comes in time, or the connection has
+        ended."""
         while b"\n" not in self.unread:
             try:
                 piece = self.receive()
             except TimeoutError:
-                raise Unreachable(f"port {self.port} gave no answer in time: the switch is stopped or busy, or takes no "
-                                  "lines any more") from None
+                raise Unreachable(
+                    f"port {self.port} gave no answer in time: the switch is stopped or busy, or takes no "
+                    "lines any more"
+                ) from None
             if not piece:
                 raise Unreachable("the switch has ended the connection")
             self.unread += piece
@@ -106,14 +123,16 @@ class Connection:
         return line.decode("ascii", "replace")
 
     def _not_allowed(self) -> Unreachable:
-        return Unreachable(f"the switch at port {self.port} takes no lines of this user: its BG_SWITCH_OPERATORS lists others")
+        return Unreachable(
+            f"the switch at port {self.port} takes no lines of this user: its BG_SWITCH_OPERATORS lists others"
+        )
 
     def _no_switch(self) -> Unreachable:
         return Unreachable(f"what answers at port {self.port} is not a switch")
 
     def reply_to(self, line: bytes) -> list[str]:
-        """The lines of the reply to a line that was sent. A report has several; every other reply has one. `Unreachable` where
-        the switch takes no lines of this user."""
+        """The lines of the reply to a line that was sent. A report has several; every other reply
+        has one. `Unreachable` where the switch takes no lines of this user."""
         replies = [self.next_line()]
         if replies[0] == NOT_ALLOWED:
             raise self._not_allowed()
@@ -130,18 +149,20 @@ class Connection:
         return self.reply_to(line)
 
     def answers(self, lines: Sequence[bytes]) -> list[list[str]]:
-        """Sends lines in one piece, so that the switch has each at hand after the one before. Gives the reply to each."""
+        """Sends lines in one piece, so that the switch has each at hand after the one before. Gives
+        the reply to each."""
         self.send(*lines)
         return [self.reply_to(line) for line in lines]
 
     def answer_to(self, line: str) -> str:
-        """Sends a line within a new deadline, as long as the constructor's, and gives the first line of its reply."""
+        """Sends a line within a new deadline, as long as the constructor's, and gives the first
+        line of its reply."""
         self.allow(self.wait)
         return self.answer(line.encode("ascii"))[0]
 
     def quit(self) -> None:
-        """Sends `quit`, which has no reply, and waits up to the deadline for the switch to end the connection. `Unreachable` where
-        it takes no lines of this user."""
+        """Sends `quit`, which has no reply, and waits up to the deadline for the switch to end the
+        connection. `Unreachable` where it takes no lines of this user."""
         self.send(b"quit")
         got = b""
         try:
@@ -156,8 +177,9 @@ class Connection:
 def ask(port: int, line: bytes, wait: float) -> list[str]:
     """Sends a line on a connection of its own, and gives the lines of its reply; none for `quit`.
 
-    The line is sent only once the switch has answered a `report` on this connection. So no line is carried out later that
-    this call gave up. `Unreachable` where the switch does not answer within `wait` seconds.
+    The line is sent only once the switch has answered a `report` on this connection. So no line is
+    carried out later that this call gave up. `Unreachable` where the switch does not answer within
+    `wait` seconds.
     """
     with Connection(port, wait) as connection:
         state = connection.answer(b"report")
@@ -167,7 +189,8 @@ def ask(port: int, line: bytes, wait: float) -> list[str]:
 
 
 def sent(connection: Connection, line: bytes, wait: float) -> list[str]:
-    """Sends a line on a connection that has answered, and gives the lines of its reply; none for `quit`."""
+    """Sends a line on a connection that has answered, and gives the lines of its reply; none for
+    `quit`."""
     connection.allow(max(wait, 1))
     try:
         if words_of(line) == [b"quit"]:
@@ -175,4 +198,6 @@ def sent(connection: Connection, line: bytes, wait: float) -> list[str]:
             return []
         return connection.answer(line)
     except Unreachable:
-        raise Unreachable("the line was sent and no reply came: a report tells whether it was carried out") from None
+        raise Unreachable(
+            "the line was sent and no reply came: a report tells whether it was carried out"
+        ) from None

@@ -1,4 +1,5 @@
-"""The names of tools, pages and schemas in a help: those of the repository, or in a package those that it has installed."""
+"""The names of tools, pages and schemas in a help: those of the repository, or in a package those
+that it has installed."""
 import os
 import re
 

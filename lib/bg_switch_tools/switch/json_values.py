@@ -1,4 +1,5 @@
-"""Values of JSON, judged one by one. What is wrong with one is noted with its place, and the reading goes on."""
+"""Values of JSON, judged one by one. What is wrong with one is noted with its place, and the
+reading goes on."""
 import collections
 import difflib
 import json
@@ -22,15 +23,21 @@ class JsonObject(dict[str, object]):
 
     def __init__(self, pairs: Sequence[tuple[str, object]]) -> None:
         super().__init__(pairs)
-        self.repeated = sorted(key for key, count in collections.Counter(key for key, _ in pairs).items() if count > 1)
+        self.repeated = sorted(
+            key for key, count in collections.Counter(key for key, _ in pairs).items() if count > 1
+        )
 
 
 def decoded(text: bytes) -> object:
     """The value of a text of JSON in UTF-8. `ValueError` where it is none, or nested too deep."""
+
     def refuse(name: str) -> object:
         raise ValueError(f"{name} is not a JSON value")
+
     try:
-        value: object = json.loads(text.decode("utf-8"), object_pairs_hook=JsonObject, parse_constant=refuse)
+        value: object = json.loads(
+            text.decode("utf-8"), object_pairs_hook=JsonObject, parse_constant=refuse
+        )
     except RecursionError as error:
         raise ValueError(str(error)) from None
     return value
@@ -43,7 +50,8 @@ def shown(value: object) -> str:
 
 
 class Judge:
-    """Reads values, and notes each problem that it finds with its place. `whole` is what the outermost value is."""
+    """Reads values, and notes each problem that it finds with its place. `whole` is what the
+    outermost value is."""
 
     def __init__(self, whole: str = "the plan") -> None:
         self.whole = whole
@@ -52,15 +60,21 @@ class Judge:
     def note(self, place: str, problem: str) -> None:
         self.problems.append(f"{place}: {problem}" if place else problem)
 
-    def members(self, told: object, place: str, known: Sequence[str], needed: Iterable[str] = ()) -> JsonObject:
-        """The members of an object that has no other keys than these; none where it is not an object."""
+    def members(
+        self, told: object, place: str, known: Sequence[str], needed: Iterable[str] = ()
+    ) -> JsonObject:
+        """The members of an object that has no other keys than these; none where it is not an
+        object."""
         if not isinstance(told, JsonObject):
             self.note(place or self.whole, f"{shown(told)} is not an object")
             return JsonObject([])
         prefix = f"{place}." if place else ""
         for key in told:
             if key not in known:
-                self.note(f"{prefix}{self.key_shown(key)}", f"there is no such key; {self.nearest(key, known)}")
+                self.note(
+                    f"{prefix}{self.key_shown(key)}",
+                    f"there is no such key; {self.nearest(key, known)}",
+                )
         for key in told.repeated:
             self.note(f"{prefix}{self.key_shown(key)}", "is there more than once")
         for key in needed:
@@ -75,9 +89,20 @@ class Judge:
     @staticmethod
     def nearest(key: str, known: Sequence[str]) -> str:
         found = difflib.get_close_matches(key, known, 1, 0.5)
-        return f"the nearest is {found[0]}" if found else "those that can stand there are " + ", ".join(known)
+        return (
+            f"the nearest is {found[0]}"
+            if found
+            else "those that can stand there are " + ", ".join(known)
+        )
 
-    def member(self, told: JsonObject, key: str, place: str, read: Callable[[object, str], Value], default: Value) -> Value:
+    def member(
+        self,
+        told: JsonObject,
+        key: str,
+        place: str,
+        read: Callable[[object, str], Value],
+        default: Value,
+    ) -> Value:
         """The value of a key, as `read` reads it, or the default where the key isn't there."""
         return read(told[key], f"{place}.{key}" if place else key) if key in told else default
 
@@ -114,15 +139,23 @@ class Judge:
         """The path of a request: printable ASCII that begins with a slash."""
         if isinstance(told, str) and PATH.fullmatch(told):
             return told
-        self.note(place, f"{shown(told)} is not a path, such as \"/health\"")
+        self.note(place, f'{shown(told)} is not a path, such as "/health"')
         return "/"
 
     def command(self, told: object, place: str) -> tuple[str, ...]:
         """A command as a list of words, the program first."""
         if isinstance(told, str):
-            self.note(place, f"{shown(told)} is not a list of words, such as {json.dumps(split(told))}")
-        elif not isinstance(told, list) or not told or not all(isinstance(word, str) for word in told):
-            self.note(place, f"{shown(told)} is not a list of words, such as [\"./smoke_test.sh\", \"8081\"]")
+            self.note(
+                place, f"{shown(told)} is not a list of words, such as {json.dumps(split(told))}"
+            )
+        elif (
+            not isinstance(told, list)
+            or not told
+            or not all(isinstance(word, str) for word in told)
+        ):
+            self.note(
+                place, f'{shown(told)} is not a list of words, such as ["./smoke_test.sh", "8081"]'
+            )
         elif not told[0] or not all(is_argument(word) for word in told):
             self.note(place, f"{shown(told)} has a word that no command can have")
         else:
@@ -137,14 +170,20 @@ class Judge:
         return ""
 
     def ports(self, told: object, place: str) -> tuple[int, ...]:
-        """A revision's ports, by the switch's rule: distinct numbers from 1 to 65535, 64 at most."""
+        """A revision's ports, by the switch's rule: distinct numbers from 1 to 65535, 64 at
+        most."""
         if not isinstance(told, list) or not 1 <= len(told) <= MOST_PORTS:
             self.note(place, f"{shown(told)} is not a list of 1 to {MOST_PORTS} ports")
             return ()
-        ports = tuple(self.whole_number(port, f"{place}[{number}]", 1, GREATEST_PORT) for number, port in enumerate(told))
+        ports = tuple(
+            self.whole_number(port, f"{place}[{number}]", 1, GREATEST_PORT)
+            for number, port in enumerate(told)
+        )
         for number, port in enumerate(told):
             if port in told[:number]:
-                self.note(f"{place}[{number}]", f"{shown(port)} is already at {place}[{told.index(port)}]")
+                self.note(
+                    f"{place}[{number}]", f"{shown(port)} is already at {place}[{told.index(port)}]"
+                )
         return ports
 
 
@@ -157,7 +196,8 @@ def split(text: str) -> list[str]:
 
 
 def is_argument(word: str) -> bool:
-    """Whether a process can be given this word: it has no NUL, and can be written in the system's encoding."""
+    """Whether a process can be given this word: it has no NUL, and can be written in the system's
+    encoding."""
     try:
         return b"\0" not in os.fsencode(word)
     except ValueError:

@@ -1,33 +1,59 @@
-"""The lines that an operator can send, and what each refusal and fault means. docs/LINES.md says the same at length."""
+"""The lines that an operator can send, and what each refusal and fault means. docs/LINES.md says
+the same at length."""
 from typing import NamedTuple
 
 
 class Line(NamedTuple):
     """A line: its form, what it does, and an example."""
+
     syntax: str
     meaning: str
     example: str
 
 
 LINES = (
-    Line("open NAME PORT..", "opens the book with revision 1, which has one port for each replica", "open web-v1 9101 9102"),
-    Line("deploy NAME PORT..", "deploys a new revision, or the one of this name again (undo)",
-         "deploy web-v2 9201 9202"),
-    Line("available R N", "says that N endpoints of revision R can take requests: the first N, or the first N that are not down", "available 2 2"),
+    Line(
+        "open NAME PORT..",
+        "opens the book with revision 1, which has one port for each replica",
+        "open web-v1 9101 9102",
+    ),
+    Line(
+        "deploy NAME PORT..",
+        "deploys a new revision, or the one of this name again (undo)",
+        "deploy web-v2 9201 9202",
+    ),
+    Line(
+        "available R N",
+        "says that N endpoints of revision R can take requests: the first N, or the first N that are not down",
+        "available 2 2",
+    ),
     Line("tick M", "says that the time is M seconds from the start", "tick 30"),
-    Line("verdict pre RESULT", "ends the analysis before the switch: successful, failed or error", "verdict pre successful"),
-    Line("verdict post RESULT", "ends the analysis after the switch: successful, failed or error", "verdict post failed"),
+    Line(
+        "verdict pre RESULT",
+        "ends the analysis before the switch: successful, failed or error",
+        "verdict pre successful",
+    ),
+    Line(
+        "verdict post RESULT",
+        "ends the analysis after the switch: successful, failed or error",
+        "verdict post failed",
+    ),
     Line("promote", "ends the pause of the attempt", "promote"),
     Line("promote full", "skips the analyses and pauses of the attempt", "promote full"),
     Line("abort", "ends the attempt: both services select the stable revision again", "abort"),
     Line("retry", "begins the attempt of the newest revision again", "retry"),
-    Line("down PORT..", "names all ports that are down now, in place of those before; without a port, none is down", "down 9101"),
+    Line(
+        "down PORT..",
+        "names all ports that are down now, in place of those before; without a port, none is down",
+        "down 9101",
+    ),
     Line("report", "shows the state", "report"),
     Line("compact", "drops the entries of closed requests from the history", "compact"),
     Line("quit", "shuts the switch down: no operator is answered any more", "quit"),
 )
 
-# The sentences of the switch itself: those of its error types. tests/test_sentences.py compares them.
+# The sentences of the switch itself: those of its error types. tests/test_sentences.py compares
+# them.
 REFUSALS = {
     "Aborted": "the last attempt was aborted",
     "AlreadyAborted": "the last attempt was already aborted",
@@ -84,7 +110,8 @@ HINTS = {
 
 
 def meaning_of(reply: str) -> str | None:
-    """What a line `refused NAME` or `fault NAME` means, and a hint where there is one; None for any other line."""
+    """What a line `refused NAME` or `fault NAME` means, and a hint where there is one; None for any
+    other line."""
     kind, _, name = reply.partition(" ")
     sentence = {"refused": REFUSALS, "fault": FAULTS}.get(kind, {}).get(name)
     return f"{sentence}; {HINTS[name]}" if sentence and name in HINTS else sentence

@@ -1,4 +1,5 @@
-"""The moments that a controller ticks, and how far a moment that somebody else has set is believed."""
+"""The moments that a controller ticks, and how far a moment that somebody else has set is
+believed."""
 import time
 
 DAY = 86400  # seconds: how far ahead of the clock a moment may be
@@ -24,6 +25,7 @@ class Clock:
 
 
 def believed(moment: int, since: int, now: float) -> int:
-    """The moment, or the latest one that can be true where that is earlier: a day after the seconds that have passed since the
-    moment was 0. `since` and `now` are seconds of the system's clock (Unix time)."""
+    """The moment, or the latest one that can be true where that is earlier: a day after the seconds
+    that have passed since the moment was 0. `since` and `now` are seconds of the system's clock
+    (Unix time)."""
     return max(0, min(moment, int(now - since) + DAY))

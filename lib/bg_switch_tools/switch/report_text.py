@@ -28,8 +28,13 @@ def _scale_down(revision: Revision, moment: int) -> str:
 
 def _cells(report: Report, revision: Revision) -> tuple[str, ...]:
     services = [service for service, number in report.selected.items() if number == revision.number]
-    return (f"{revision.number} {revision.name}", ", ".join(services), f"{revision.available} of {revision.desired}",
-            str(revision.open), _scale_down(revision, report.moment))
+    return (
+        f"{revision.number} {revision.name}",
+        ", ".join(services),
+        f"{revision.available} of {revision.desired}",
+        str(revision.open),
+        _scale_down(revision, report.moment),
+    )
 
 
 def draw(report: Report | None) -> list[str]:
@@ -37,10 +42,16 @@ def draw(report: Report | None) -> list[str]:
     if report is None:
         return [NO_BOOK]
     newest_first = sorted(report.revisions.values(), key=lambda revision: -revision.number)
-    lines_of_cells = [("REVISION", "SERVICES", "AVAILABLE", "OPEN", "SCALE-DOWN"), *(_cells(report, each) for each in newest_first)]
+    lines_of_cells = [
+        ("REVISION", "SERVICES", "AVAILABLE", "OPEN", "SCALE-DOWN"),
+        *(_cells(report, each) for each in newest_first),
+    ]
     widths = [max(len(cells[column]) for cells in lines_of_cells) for column in range(5)]
     branches = ["   "] + ["├─ "] * (len(lines_of_cells) - 2) + ["└─ "]
-    table = ["  ".join(cell.ljust(width) for cell, width in zip(cells, widths)) for cells in lines_of_cells]
+    table = [
+        "  ".join(cell.ljust(width) for cell, width in zip(cells, widths))
+        for cells in lines_of_cells
+    ]
     head = f"phase {report.phase} ({WAITS_FOR[report.phase]})   moment {report.moment}"
     return [head] + [(branch + line).rstrip() for branch, line in zip(branches, table)]
 

@@ -16,7 +16,9 @@ class NoReport(ValueError):
 
 @dataclasses.dataclass(frozen=True)
 class Revision:
-    """A line `revision`. `open` is the number of its open requests, `deadline` the moment from which it may be scaled down."""
+    """A line `revision`. `open` is the number of its open requests, `deadline` the moment from
+    which it may be scaled down."""
+
     number: int
     name: str
     desired: int
@@ -32,7 +34,9 @@ class Revision:
 
 @dataclasses.dataclass(frozen=True)
 class Report:
-    """A whole report. `selected` has the number of the revision of each of `SERVICES`, `revisions` each one by its number."""
+    """A whole report. `selected` has the number of the revision of each of `SERVICES`, `revisions`
+    each one by its number."""
+
     moment: int
     phase: str
     selected: Mapping[str, int]
@@ -57,7 +61,9 @@ class Report:
 
     def named(self, name: str) -> Revision | None:
         """The revision that has this name, where one exists. No two that exist have one name."""
-        return next((revision for revision in self.revisions.values() if revision.name == name), None)
+        return next(
+            (revision for revision in self.revisions.values() if revision.name == name), None
+        )
 
     def title(self, number: int) -> str:
         return self.revisions[number].title() if number in self.revisions else f"revision {number}"
@@ -76,7 +82,16 @@ def _read_revision(words: Sequence[str]) -> Revision:
         raise NoReport(" ".join(words))
     number, desired, available, opened = (_number(words[place]) for place in (1, 4, 6, 8))
     deadline = None if words[10] == "none" else _number(words[10])
-    return Revision(number, words[2], desired, available, opened, deadline, "draining" in words[11:], "cut" in words[11:])
+    return Revision(
+        number,
+        words[2],
+        desired,
+        available,
+        opened,
+        deadline,
+        "draining" in words[11:],
+        "cut" in words[11:],
+    )
 
 
 def _read_values(lines: Sequence[str]) -> Report:
@@ -90,13 +105,17 @@ def _read_values(lines: Sequence[str]) -> Report:
         else:
             values[words[0]] = words[1]
     selected = {service: _number(values[service]) for service in SERVICES}
-    if not all(number in revisions for number in selected.values()) or values["phase"] not in PHASES:
+    if (
+        not all(number in revisions for number in selected.values())
+        or values["phase"] not in PHASES
+    ):
         raise NoReport("a service or the phase is not one that a report can have")
     return Report(_number(values["moment"]), values["phase"], selected, revisions)
 
 
 def read_report(lines: Sequence[str]) -> Report | None:
-    """The report of these lines, or None where they say that no book is open. `NoReport` where they are neither."""
+    """The report of these lines, or None where they say that no book is open. `NoReport` where they
+    are neither."""
     if lines and not was_carried_out(lines[0]):
         return None
     try:
@@ -106,7 +125,11 @@ def read_report(lines: Sequence[str]) -> Report | None:
 
 
 def as_json(report: Report) -> dict[str, object]:
-    """A report as an object of JSON: `moment`, `phase`, each service with its revision's number and name, `revisions`."""
-    services = {service: {"number": number, "name": report.revisions[number].name} for service, number in report.selected.items()}
+    """A report as an object of JSON: `moment`, `phase`, each service with its revision's number and
+    name, `revisions`."""
+    services = {
+        service: {"number": number, "name": report.revisions[number].name}
+        for service, number in report.selected.items()
+    }
     revisions = [dataclasses.asdict(revision) for revision in report.revisions.values()]
     return {"moment": report.moment, "phase": report.phase, **services, "revisions": revisions}

@@ -1,6 +1,7 @@
-"""An analysis: python3 -m support.fleet.analysis FOLDER HOST STEP PORT. It asks the switch for a while, and longer while the file
-hold-HOST-STEP-REVISION is in the folder. It fails where an answer is none of the revision, or where the file bad-HOST-STEP-REVISION
-is there. It writes down what it came to."""
+"""An analysis: python3 -m support.fleet.analysis FOLDER HOST STEP PORT. It asks the switch for a
+while, and longer while the file hold-HOST-STEP-REVISION is in the folder. It fails where an answer
+is none of the revision, or where the file bad-HOST-STEP-REVISION is there. It writes down what it
+came to."""
 import json
 import os
 import pathlib
@@ -28,7 +29,9 @@ def hold_file(host: str, step: str, revision: str) -> str:
 def verdict_of(folder: pathlib.Path, host: str, step: str, port: int, revision: str) -> str:
     end = time.monotonic() + SECONDS
     latest = end + LONGEST_HOLD
-    while time.monotonic() < end or ((folder / hold_file(host, step, revision)).exists() and time.monotonic() < latest):
+    while time.monotonic() < end or (
+        (folder / hold_file(host, step, revision)).exists() and time.monotonic() < latest
+    ):
         answered = ask("127.0.0.1", port)
         if not answered.status:
             return "error"
@@ -39,7 +42,13 @@ def verdict_of(folder: pathlib.Path, host: str, step: str, port: int, revision: 
 
 
 def main(words: list[str]) -> int:
-    folder, host, step, port, revision = pathlib.Path(words[0]), words[1], words[2], int(words[3]), os.environ["BG_REVISION"]
+    folder, host, step, port, revision = (
+        pathlib.Path(words[0]),
+        words[1],
+        words[2],
+        int(words[3]),
+        os.environ["BG_REVISION"],
+    )
     verdict = verdict_of(folder, host, step, port, revision)
     with open(folder / VERDICTS, "a", encoding="utf-8") as file:
         file.write(json.dumps(Verdict(time.time(), host, step, revision, verdict)._asdict()) + "\n")

@@ -1,4 +1,5 @@
-"""Clients that ask in a loop: python3 -m support.fleet.client HOST PORT THREADS. A line of JSON for each request."""
+"""Clients that ask in a loop: python3 -m support.fleet.client HOST PORT THREADS. A line of JSON for
+each request."""
 import http.client
 import json
 import sys
@@ -36,6 +37,7 @@ def main(host: str, port: int, threads: int) -> None:
             with lock:
                 print(json.dumps(answered._asdict()), flush=True)
             time.sleep(PAUSE)
+
     for _ in range(threads):
         threading.Thread(target=go_on, daemon=True).start()
     threading.Event().wait()

@@ -1,4 +1,5 @@
-"""The endpoints of a machine: python3 -m support.fleet.endpoints NAME=PORT.. Each answers with its revision's name."""
+"""The endpoints of a machine: python3 -m support.fleet.endpoints NAME=PORT.. Each answers with its
+revision's name."""
 import asyncio
 import contextlib
 import sys
@@ -13,9 +14,13 @@ def served(name: str) -> Serve:
         body = f"{name}\n".encode()
         with contextlib.suppress(OSError, asyncio.IncompleteReadError, asyncio.TimeoutError):
             await asyncio.wait_for(reader.readuntil(b"\r\n\r\n"), LONGEST)
-            writer.write(f"HTTP/1.1 200 OK\r\nContent-Length: {len(body)}\r\nConnection: close\r\n\r\n".encode() + body)
+            writer.write(
+                f"HTTP/1.1 200 OK\r\nContent-Length: {len(body)}\r\nConnection: close\r\n\r\n".encode()
+                + body
+            )
             await writer.drain()
         writer.close()
+
     return serve
 
 

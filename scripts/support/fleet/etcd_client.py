@@ -1,4 +1,5 @@
-"""A small client of etcd for drills, which shares no code with the fleet: its keys, their history, and the moments of revisions."""
+"""A small client of etcd for drills, which shares no code with the fleet: its keys, their history,
+and the moments of revisions."""
 import base64
 import contextlib
 import http.client
@@ -12,8 +13,8 @@ from typing import Any
 from support.fleet.hosts import Address, Network
 from support.fleet.recording import HISTORY, POLLS, Event, Poll
 
-TIMEOUT = 1.0   # seconds for a call
-PERIOD = 0.05   # seconds between two polls
+TIMEOUT = 1.0  # seconds for a call
+PERIOD = 0.05  # seconds between two polls
 FIELDS = {"Grpc-Metadata-hasleader": "true"}  # a member without a leader says so, and is not silent
 
 
@@ -64,11 +65,17 @@ class EtcdClient:
 
     def revision(self) -> int:
         """The revision of the store, by a linearizable read."""
-        return int(self._call("/v3/kv/range", {"key": coded("/"), "count_only": True})["header"]["revision"])
+        return int(
+            self._call("/v3/kv/range", {"key": coded("/"), "count_only": True})["header"][
+                "revision"
+            ]
+        )
 
     def entries(self) -> dict[str, Event]:
         """All keys of the fleet by their names, each as it was changed last."""
-        found = [self._event(key) for key in self._call("/v3/kv/range", self._range()).get("kvs", [])]
+        found = [
+            self._event(key) for key in self._call("/v3/kv/range", self._range()).get("kvs", [])
+        ]
         return {event.name: event for event in found}
 
     def keys(self) -> dict[str, str]:
@@ -76,19 +83,31 @@ class EtcdClient:
         return {name: event.value or "" for name, event in self.entries().items()}
 
     def _event(self, key: dict[str, Any], is_deleted: bool = False) -> Event:
-        return Event(int(key["mod_revision"]), decoded(key["key"]).removeprefix(self.prefix),
-                     None if is_deleted else decoded(key.get("value", "")), int(key.get("create_revision", 0)))
+        return Event(
+            int(key["mod_revision"]),
+            decoded(key["key"]).removeprefix(self.prefix),
+            None if is_deleted else decoded(key.get("value", "")),
+            int(key.get("create_revision", 0)),
+        )
 
     def put(self, name: str, value: str) -> int:
         """Writes a key. Gives the revision."""
-        return int(self._call("/v3/kv/put", {"key": coded(self.prefix + name), "value": coded(value)})["header"]["revision"])
+        return int(
+            self._call("/v3/kv/put", {"key": coded(self.prefix + name), "value": coded(value)})[
+                "header"
+            ]["revision"]
+        )
 
     def delete(self, name: str) -> int:
-        return int(self._call("/v3/kv/deleterange", {"key": coded(self.prefix + name)})["header"]["revision"])
+        return int(
+            self._call("/v3/kv/deleterange", {"key": coded(self.prefix + name)})["header"][
+                "revision"
+            ]
+        )
 
     def history(self, seconds: float = 30.0) -> list[Event]:
-        """All changes of the keys so far, by a watch from the first revision on. It needs a store that was never compacted.
-        `NoAnswer` where they did not come in time."""
+        """All changes of the keys so far, by a watch from the first revision on. It needs a store
+        that was never compacted. `NoAnswer` where they did not come in time."""
         end = time.monotonic() + seconds
         while True:
             with contextlib.suppress(NoAnswer):
@@ -99,20 +118,27 @@ class EtcdClient:
 
     def _history(self, end: float) -> list[Event]:
         last = self.revision()
-        marker = self.put("drill/end-of-history", "")  # the watch has all changes before it once it has this one
+        marker = self.put(
+            "drill/end-of-history", ""
+        )  # the watch has all changes before it once it has this one
         for endpoint in list(self.endpoints):
             found: list[Event] = []
             with contextlib.suppress(OSError, ValueError, http.client.HTTPException):
                 for event in self._watched(endpoint, max(PERIOD, end - time.monotonic())):
                     if event.revision >= marker:
-                        return [each for each in found if not each.name.startswith("drill/") and each.revision <= last]
+                        return [
+                            each
+                            for each in found
+                            if not each.name.startswith("drill/") and each.revision <= last
+                        ]
                     found.append(event)
                     if time.monotonic() > end:
                         break
         raise NoAnswer("no member gives the history")
 
     def follow(self, seconds: float) -> Iterator[Event]:
-        """The changes of the keys from now on, as they come, for so many seconds. `NoAnswer` where no member answers at first."""
+        """The changes of the keys from now on, as they come, for so many seconds. `NoAnswer` where
+        no member answers at first."""
         after, end = self.revision(), time.monotonic() + seconds
         while (left := end - time.monotonic()) > 0:
             with contextlib.suppress(OSError, ValueError, http.client.HTTPException):
@@ -123,7 +149,8 @@ class EtcdClient:
             time.sleep(PERIOD)
 
     def _watched(self, endpoint: Address, seconds: float, first: int = 1) -> Iterator[Event]:
-        """The changes from a revision on, by one member, which has so many seconds for each of them."""
+        """The changes from a revision on, by one member, which has so many seconds for each of
+        them."""
         with contextlib.closing(self._connected(endpoint, seconds)) as connection:
             message = {"create_request": {**self._range(), "start_revision": str(first)}}
             connection.request("POST", "/v3/watch", json.dumps(message), FIELDS)

@@ -1,4 +1,5 @@
-"""An agent with a planted fault: python3 -m support.fleet.faulty_agent FAULT FLEET.json. A drill has to find it by a rule."""
+"""An agent with a planted fault: python3 -m support.fleet.faulty_agent FAULT FLEET.json. A drill
+has to find it by a rule."""
 import sys
 
 import support  # noqa: F401 - it tells where the tools' package is

@@ -1,7 +1,9 @@
-"""The hosts of a drill: network namespaces where this user is root, else one host whose parts have ports of their own.
+"""The hosts of a drill: network namespaces where this user is root, else one host whose parts have
+ports of their own.
 
-In namespaces each host has two networks: one for clients, and one for etcd, which can be cut. On one host, relays stand between
-each host and etcd, and are what is cut: bytes stop, and connections stay open, as where packets are lost.
+In namespaces each host has two networks: one for clients, and one for etcd, which can be cut. On
+one host, relays stand between each host and etcd, and are what is cut: bytes stop, and connections
+stay open, as where packets are lost.
 """
 import contextlib
 import ctypes
@@ -17,14 +19,16 @@ from typing import NamedTuple, Protocol
 from support.reserved import reserved, reserved_block
 
 LOOPBACK = "127.0.0.1"
-# Below the ports that the system gives to connections by itself, and below those of the other scripts. Single addresses and blocks
-# have ranges of their own, so that single ones leave room for blocks.
+# Below the ports that the system gives to connections by itself, and below those of the other
+# scripts. Single addresses and blocks have ranges of their own, so that single ones leave room for
+# blocks.
 SINGLE_PORTS, BLOCKS = range(10_000, 14_000), range(14_000, 20_000)
 PIECE = 65536
 
 
 class Address(NamedTuple):
     """Where something listens, or is reached."""
+
     host: str
     port: int
 
@@ -33,7 +37,9 @@ class Address(NamedTuple):
 
 
 class Addresses(NamedTuple):
-    """The addresses of a host. Those of the switch are on loopback of the host; `web` is that of nginx before it."""
+    """The addresses of a host. Those of the switch are on loopback of the host; `web` is that of
+    nginx before it."""
+
     active: Address
     preview: Address
     control: Address
@@ -44,18 +50,36 @@ class Addresses(NamedTuple):
 
 class Network(Protocol):
     """How hosts reach one another."""
+
     hosts: Sequence[str]
     shares_loopback: bool  # whether all hosts have one loopback, so that the endpoints of a revision are the same ones
 
-    def up(self) -> None: ...
-    def down(self) -> None: ...
-    def addresses(self, host: str) -> Addresses: ...
-    def balancer(self) -> Address: ...
-    def etcd_of(self, host: str) -> list[Address]: ...  # the members as the programs of a host reach them, its own first
-    def words(self, host: str) -> list[str]: ...  # what stands before a command of a host; an empty name is the load balancer's
-    def cut(self, host: str) -> None: ...
-    def mend(self, host: str) -> None: ...
-    def inside(self) -> contextlib.AbstractContextManager[None]: ...  # where a socket is made that reaches the hosts
+    def up(self) -> None:
+        ...
+
+    def down(self) -> None:
+        ...
+
+    def addresses(self, host: str) -> Addresses:
+        ...
+
+    def balancer(self) -> Address:
+        ...
+
+    def etcd_of(self, host: str) -> list[Address]:
+        ...  # the members as the programs of a host reach them, its own first
+
+    def words(self, host: str) -> list[str]:
+        ...  # what stands before a command of a host; an empty name is the load balancer's
+
+    def cut(self, host: str) -> None:
+        ...
+
+    def mend(self, host: str) -> None:
+        ...
+
+    def inside(self) -> contextlib.AbstractContextManager[None]:
+        ...  # where a socket is made that reaches the hosts
 
 
 def run(words: Sequence[str], is_needed: bool = True) -> None:
@@ -73,20 +97,32 @@ def rotated(hosts: Sequence[str], host: str) -> list[str]:
 
 class Namespaces:
     """Each host is a network namespace, and so is the load balancer. It needs root, and `ip`."""
+
     shares_loopback = False
 
     def __init__(self, hosts: Sequence[str]) -> None:
         self.hosts = hosts
-        self.mark = f"bg{os.getpid() % 100_000}"  # two drills at a time have namespaces of their own
+        self.mark = (
+            f"bg{os.getpid() % 100_000}"  # two drills at a time have namespaces of their own
+        )
 
     @staticmethod
     def can_be_made() -> bool:
         if os.geteuid() or not shutil.which("ip"):
             return False
         name = f"bgtry{os.getpid()}"
-        made = subprocess.run(["ip", "netns", "add", name], capture_output=True, check=False).returncode == 0
+        made = (
+            subprocess.run(
+                ["ip", "netns", "add", name], capture_output=True, check=False
+            ).returncode
+            == 0
+        )
         if made:
-            tried = subprocess.run(["ip", "-n", name, "link", "add", "try0", "type", "bridge"], capture_output=True, check=False)
+            tried = subprocess.run(
+                ["ip", "-n", name, "link", "add", "try0", "type", "bridge"],
+                capture_output=True,
+                check=False,
+            )
             subprocess.run(["ip", "netns", "del", name], capture_output=True, check=False)
             return tried.returncode == 0
         return False
@@ -107,8 +143,23 @@ class Namespaces:
             self._ip("", "link", "set", bridge, "up")
             for number, host in enumerate(self.hosts):
                 inner, outer = f"{bridge[0]}0", f"{bridge[0]}{number}"
-                run(["ip", "link", "add", inner, "netns", self.name(host), "type", "veth", "peer", "name", outer,
-                     "netns", self.name("")])
+                run(
+                    [
+                        "ip",
+                        "link",
+                        "add",
+                        inner,
+                        "netns",
+                        self.name(host),
+                        "type",
+                        "veth",
+                        "peer",
+                        "name",
+                        outer,
+                        "netns",
+                        self.name(""),
+                    ]
+                )
                 self._ip("", "link", "set", outer, "master", bridge, "up")
                 self._ip(host, "addr", "add", f"10.77.{net}.{11 + number}/24", "dev", inner)
                 self._ip(host, "link", "set", inner, "up")
@@ -119,8 +170,14 @@ class Namespaces:
 
     def addresses(self, host: str) -> Addresses:
         last = 11 + self.hosts.index(host)
-        return Addresses(Address(LOOPBACK, 8080), Address(LOOPBACK, 8081), Address(LOOPBACK, 8082), Address(f"10.77.1.{last}", 80),
-                         Address(f"10.77.2.{last}", 2379), Address(f"10.77.2.{last}", 2380))
+        return Addresses(
+            Address(LOOPBACK, 8080),
+            Address(LOOPBACK, 8081),
+            Address(LOOPBACK, 8082),
+            Address(f"10.77.1.{last}", 80),
+            Address(f"10.77.2.{last}", 2379),
+            Address(f"10.77.2.{last}", 2380),
+        )
 
     def balancer(self) -> Address:
         return Address("10.77.1.1", 8000)
@@ -141,7 +198,9 @@ class Namespaces:
     def inside(self) -> Iterator[None]:
         """The thread that calls it is in the namespace of the load balancer meanwhile."""
         library = ctypes.CDLL(None, use_errno=True)
-        with open("/proc/thread-self/ns/net", "rb") as before, open(f"/run/netns/{self.name('')}", "rb") as there:
+        with open("/proc/thread-self/ns/net", "rb") as before, open(
+            f"/run/netns/{self.name('')}", "rb"
+        ) as there:
             if library.setns(there.fileno(), 0):
                 raise OSError(ctypes.get_errno(), "setns")
             try:
@@ -171,7 +230,9 @@ class Relay:
     def _pass_on(self, taken: socket.socket) -> None:
         with contextlib.suppress(OSError), taken:
             self.is_mended.wait()
-            with socket.create_connection(self.to, timeout=2) as there, selectors.DefaultSelector() as selector:
+            with socket.create_connection(
+                self.to, timeout=2
+            ) as there, selectors.DefaultSelector() as selector:
                 there.settimeout(5)
                 taken.settimeout(5)
                 selector.register(taken, selectors.EVENT_READ, there)
@@ -198,13 +259,15 @@ def free_addresses(count: int) -> list[Address]:
 
 
 def free_block(count: int) -> int:
-    """The first of so many ports of loopback, one after the other, that nothing listens at, reserved for this process."""
+    """The first of so many ports of loopback, one after the other, that nothing listens at,
+    reserved for this process."""
     return reserved_block(BLOCKS, count)
 
 
 class OneHost:
-    """All hosts are this machine, and have ports of their own. A cut stops the relays by which a host reaches etcd; the members of
-    etcd still reach one another."""
+    """All hosts are this machine, and have ports of their own. A cut stops the relays by which a
+    host reaches etcd; the members of etcd still reach one another."""
+
     shares_loopback = True
 
     def __init__(self, hosts: Sequence[str]) -> None:
@@ -215,8 +278,14 @@ class OneHost:
         found = free_addresses(1 + len(self.hosts) * len(Addresses._fields))
         self.front = found.pop()
         each = len(Addresses._fields)
-        self.places = {host: Addresses(*found[place * each:(place + 1) * each]) for place, host in enumerate(self.hosts)}
-        self.relays = {host: {member: Relay(self.places[member].etcd) for member in self.hosts} for host in self.hosts}
+        self.places = {
+            host: Addresses(*found[place * each : (place + 1) * each])
+            for place, host in enumerate(self.hosts)
+        }
+        self.relays = {
+            host: {member: Relay(self.places[member].etcd) for member in self.hosts}
+            for host in self.hosts
+        }
 
     def down(self) -> None:
         for relay in [relay for relays in self.relays.values() for relay in relays.values()]:

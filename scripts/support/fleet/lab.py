@@ -1,5 +1,6 @@
-"""A fleet for drills: hosts, each with a member of etcd, a switch, nginx before it, endpoints and an agent; HAProxy and clients before
-them; a looker at each switch; and a recorder of etcd's keys. What each has seen is in the folder of the run."""
+"""A fleet for drills: hosts, each with a member of etcd, a switch, nginx before it, endpoints and
+an agent; HAProxy and clients before them; a looker at each switch; and a recorder of etcd's keys.
+What each has seen is in the folder of the run."""
 import contextlib
 import json
 import pathlib
@@ -16,7 +17,15 @@ from support.fleet.analysis import bad_file, hold_file
 from support.fleet.etcd_client import EtcdClient, NoAnswer, Recorder, write_rows
 from support.fleet.hosts import Network, free_block, network_of
 from support.fleet.programs import Programs
-from support.fleet.recording import OUTAGES, REQUESTS, Look, Outage, Recording, look_file, read_recording
+from support.fleet.recording import (
+    OUTAGES,
+    REQUESTS,
+    Look,
+    Outage,
+    Recording,
+    look_file,
+    read_recording,
+)
 from support.fleet.seen import Seen
 from support.fleet.servers import etcd_words, haproxy_words, nginx_words
 from support.processes import Run, run_to_end
@@ -28,9 +37,22 @@ FIRST_PORT = 9000  # of the endpoints, where each host has a loopback of its own
 WORKERS, CLIENTS = 4, 4
 LONGEST = 30.0  # seconds for which anything is awaited
 TAIL = 4096  # bytes at the end of a file of looks: more than two of them
-ROLLOUT = {"spec": {"replicas": 2, "revisionHistoryLimit": 3, "strategy": {"blueGreen": {
-    "activeService": "web", "previewService": "web-preview", "autoPromotionEnabled": False,
-    "prePromotionAnalysis": {}, "postPromotionAnalysis": {}, "scaleDownDelaySeconds": 10}}}}
+ROLLOUT = {
+    "spec": {
+        "replicas": 2,
+        "revisionHistoryLimit": 3,
+        "strategy": {
+            "blueGreen": {
+                "activeService": "web",
+                "previewService": "web-preview",
+                "autoPromotionEnabled": False,
+                "prePromotionAnalysis": {},
+                "postPromotionAnalysis": {},
+                "scaleDownDelaySeconds": 10,
+            }
+        },
+    }
+}
 ROLLOUT_FILE = "rollout.json"
 Words = Callable[["Lab", str], Sequence[str]]
 
@@ -51,7 +73,12 @@ def module_words(module: str, *words: str) -> list[str]:
 def switch_words(lab: "Lab", host: str) -> Sequence[str]:
     """The built switch."""
     places = lab.network.addresses(host)
-    return [PROGRAM, *words_of_serve(places.active.port, places.control.port, places.preview.port, WORKERS, None)]
+    return [
+        PROGRAM,
+        *words_of_serve(
+            places.active.port, places.control.port, places.preview.port, WORKERS, None
+        ),
+    ]
 
 
 def agent_words(lab: "Lab", host: str) -> Sequence[str]:
@@ -60,12 +87,23 @@ def agent_words(lab: "Lab", host: str) -> Sequence[str]:
 
 
 class Lab:
-    """A running fleet. It is used in a `with` block, which ends all that it has started, also after an exception or SIGTERM."""
+    """A running fleet. It is used in a `with` block, which ends all that it has started, also after
+    an exception or SIGTERM."""
 
-    def __init__(self, folder: pathlib.Path, hosts: Sequence[str] = ("a", "b", "c"), *, revisions: int = 40, network: Network | None = None,
-                 switch: Words = switch_words, agent: Words | None = agent_words, is_quiet: bool = False) -> None:
-        """`revisions` is how many revisions have endpoints. Other words than those of the switch and of the agent can be given; without
-        an agent none is started. A quiet lab prints nothing."""
+    def __init__(
+        self,
+        folder: pathlib.Path,
+        hosts: Sequence[str] = ("a", "b", "c"),
+        *,
+        revisions: int = 40,
+        network: Network | None = None,
+        switch: Words = switch_words,
+        agent: Words | None = agent_words,
+        is_quiet: bool = False,
+    ) -> None:
+        """`revisions` is how many revisions have endpoints. Other words than those of the switch
+        and of the agent can be given; without an agent none is started. A quiet lab prints
+        nothing."""
         self.folder = folder
         self.hosts = hosts
         self.revisions = revisions
@@ -77,7 +115,11 @@ class Lab:
         self.broken: dict[tuple[str, str], float] = {}  # by fault and host: since when
         self.outages: list[Outage] = []
         self.recorder: Recorder | None = None
-        self.failures: list[str] = []  # of programs, up to the recording: what has ended by itself, or has told of an exception
+        self.failures: list[
+            str
+        ] = (
+            []
+        )  # of programs, up to the recording: what has ended by itself, or has told of an exception
 
     def __enter__(self) -> "Lab":
         self.previous = signal.signal(signal.SIGTERM, self._interrupt)
@@ -102,7 +144,8 @@ class Lab:
             file.write(f"{time.time():.3f} {text}\n")
 
     def ports_of(self, number: int) -> list[int]:
-        """The ports of the endpoints of web-NUMBER, which are the same on each host: NUMBER is from 1 to `revisions`."""
+        """The ports of the endpoints of web-NUMBER, which are the same on each host: NUMBER is from
+        1 to `revisions`."""
         first = self.first_port + 2 * (number - 1)
         return [first, first + 1]
 
@@ -112,7 +155,12 @@ class Lab:
 
     def send(self, host: str, line: str) -> Run:
         """Sends a line to the switch of a host, as a person does who is on that machine."""
-        return self.on_host(host, str(TOP / "bin" / "operator"), str(self.network.addresses(host).control.port), line)
+        return self.on_host(
+            host,
+            str(TOP / "bin" / "operator"),
+            str(self.network.addresses(host).control.port),
+            line,
+        )
 
     # ---- what is started ----
 
@@ -121,7 +169,9 @@ class Lab:
         self.network.up()
         self.etcd = EtcdClient(self.network, FLEET)
         endpoints = [str(each) for each in self.network.etcd_of("")]
-        self.person_file.write_text(json.dumps({"fleet": FLEET, "etcd": endpoints}), encoding="ascii")
+        self.person_file.write_text(
+            json.dumps({"fleet": FLEET, "etcd": endpoints}), encoding="ascii"
+        )
         for host in self.hosts:
             self.fleet_file(host).parent.mkdir(exist_ok=True)
             self.start_etcd(host)
@@ -133,7 +183,12 @@ class Lab:
         self._await("etcd has a leader", self._has_etcd)
         self.recorder = Recorder(self.network, FLEET, self.folder)
         for host in self.hosts:
-            self._start(f"look-{host}", host, module_words("look", str(self.network.addresses(host).control.port)), look_file(host))
+            self._start(
+                f"look-{host}",
+                host,
+                module_words("look", str(self.network.addresses(host).control.port)),
+                look_file(host),
+            )
             if self.agent_words:
                 self.start_agent(host)
         self._start_haproxy()
@@ -147,14 +202,29 @@ class Lab:
             return self.etcd.revision() > 0
         return False
 
-    def _start(self, name: str, host: str, words: Sequence[str], output: str = "", given: bytes = b"", is_timed: bool = False) -> None:
-        self.programs.start(name, [*self.network.words(host), *words], output=output, given=given, is_timed=is_timed)
+    def _start(
+        self,
+        name: str,
+        host: str,
+        words: Sequence[str],
+        output: str = "",
+        given: bytes = b"",
+        is_timed: bool = False,
+    ) -> None:
+        self.programs.start(
+            name, [*self.network.words(host), *words], output=output, given=given, is_timed=is_timed
+        )
 
     def start_etcd(self, host: str) -> None:
         self._start(f"etcd-{host}", host, etcd_words(self.folder, self.network, host))
 
     def start_switch(self, host: str) -> None:
-        self._start(f"switch-{host}", host, self.switch_words(self, host), given=json.dumps(ROLLOUT).encode())
+        self._start(
+            f"switch-{host}",
+            host,
+            self.switch_words(self, host),
+            given=json.dumps(ROLLOUT).encode(),
+        )
 
     def start_agent(self, host: str) -> None:
         if self.agent_words:
@@ -163,10 +233,16 @@ class Lab:
     def start_clients(self) -> None:
         """From now on clients ask the load balancer."""
         at = self.network.balancer()
-        self._start("client", "", module_words("client", at.host, str(at.port), str(CLIENTS)), REQUESTS)
+        self._start(
+            "client", "", module_words("client", at.host, str(at.port), str(CLIENTS)), REQUESTS
+        )
 
     def _start_endpoints(self, host: str) -> None:
-        words = [f"{name_of(number)}={port}" for number in range(1, self.revisions + 1) for port in self.ports_of(number)]
+        words = [
+            f"{name_of(number)}={port}"
+            for number in range(1, self.revisions + 1)
+            for port in self.ports_of(number)
+        ]
         self._start(f"endpoints-{host}", host, module_words("endpoints", *words))
 
     def _start_nginx(self, host: str) -> None:
@@ -191,21 +267,38 @@ class Lab:
 
     def _write_fleet_file(self, host: str) -> None:
         places = self.network.addresses(host)
-        analyses = {step: module_words("analysis", str(self.folder), host, step, str(port))
-                    for step, port in (("pre", places.preview.port), ("post", places.active.port))}
-        told = {"fleet": FLEET, "host": host, "control": places.control.port, "active": places.active.port,
-                "preview": places.preview.port, "rollout": ROLLOUT_FILE, "analyses": analyses,
-                "etcd": [str(each) for each in self.network.etcd_of(host)]}
-        (self.fleet_file(host).parent / ROLLOUT_FILE).write_text(json.dumps(ROLLOUT), encoding="ascii")
+        analyses = {
+            step: module_words("analysis", str(self.folder), host, step, str(port))
+            for step, port in (("pre", places.preview.port), ("post", places.active.port))
+        }
+        told = {
+            "fleet": FLEET,
+            "host": host,
+            "control": places.control.port,
+            "active": places.active.port,
+            "preview": places.preview.port,
+            "rollout": ROLLOUT_FILE,
+            "analyses": analyses,
+            "etcd": [str(each) for each in self.network.etcd_of(host)],
+        }
+        (self.fleet_file(host).parent / ROLLOUT_FILE).write_text(
+            json.dumps(ROLLOUT), encoding="ascii"
+        )
         self.fleet_file(host).write_text(json.dumps(told), encoding="ascii")
 
     def plan_text(self, *numbers: int, **fleet: object) -> str:
         """The plan with these revisions, and this for its key `fleet`."""
-        return json.dumps({
-            "health": {"path": "/", "interval": 0.5, "timeout": 2, "failures": 2},
-            "analyses": {"pre": "pre", "post": "post", "seconds": 20},
-            "progress": {"seconds": 25, "abort": True}, "fleet": fleet,
-            "revisions": [{"name": name_of(number), "ports": self.ports_of(number)} for number in numbers]})
+        return json.dumps(
+            {
+                "health": {"path": "/", "interval": 0.5, "timeout": 2, "failures": 2},
+                "analyses": {"pre": "pre", "post": "post", "seconds": 20},
+                "progress": {"seconds": 25, "abort": True},
+                "fleet": fleet,
+                "revisions": [
+                    {"name": name_of(number), "ports": self.ports_of(number)} for number in numbers
+                ],
+            }
+        )
 
     def fail_analysis(self, host: str, step: str, number: int) -> None:
         """Lets an analysis of a revision fail on one host: `step` is pre or post."""
@@ -217,7 +310,8 @@ class Lab:
 
     @contextlib.contextmanager
     def held_analysis(self, host: str, step: str, number: int) -> Iterator[None]:
-        """An analysis of a revision goes on on one host, until the block ends or a switch gives it no answer."""
+        """An analysis of a revision goes on on one host, until the block ends or a switch gives it
+        no answer."""
         path = self.folder / hold_file(host, step, name_of(number))
         path.touch()
         try:
@@ -242,7 +336,9 @@ class Lab:
 
     def restart(self, what: str, host: str) -> None:
         """Starts again what was killed."""
-        {"switch": self.start_switch, "agent": self.start_agent, "etcd": self.start_etcd}[what](host)
+        {"switch": self.start_switch, "agent": self.start_agent, "etcd": self.start_etcd}[what](
+            host
+        )
         self._end_outage(what, host, f"{what} is started again:")
 
     def stop(self, what: str, host: str) -> None:
@@ -255,7 +351,8 @@ class Lab:
         self._end_outage(what, host, f"{what} continues:")
 
     def delay_switch(self, host: str) -> None:
-        """Stops a switch, which answers late then. That is no outage: no request of it fails, where it is let go on soon."""
+        """Stops a switch, which answers late then. That is no outage: no request of it fails, where
+        it is let go on soon."""
         self.say(f"DELAY switch {host}")
         self.programs.stop(f"switch-{host}")
 
@@ -313,7 +410,8 @@ class Lab:
         return comes(lambda: bool(keys := self.keys()) and holds(keys), longest)
 
     def record(self) -> Recording:
-        """Ends the recording while the fleet still runs, and reads it. All that is broken has to be mended before."""
+        """Ends the recording while the fleet still runs, and reads it. All that is broken has to be
+        mended before."""
         self.failures = self.programs.failures()
         self.programs.kill("client")
         for host in self.hosts:
@@ -328,5 +426,7 @@ class Lab:
         signal.signal(signal.SIGTERM, self.previous)
         if self.recorder:
             self.recorder.ending.set()
-        self.programs.end_all([name for name in list(self.programs.running) if name.startswith("agent-")])
+        self.programs.end_all(
+            [name for name in list(self.programs.running) if name.startswith("agent-")]
+        )
         self.network.down()

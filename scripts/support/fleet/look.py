@@ -1,4 +1,5 @@
-"""Looks at a switch ten times a second, apart from its agent: python3 -m support.fleet.look CONTROL. A line of JSON for each look."""
+"""Looks at a switch ten times a second, apart from its agent: python3 -m support.fleet.look
+CONTROL. A line of JSON for each look."""
 import json
 import sys
 import time
@@ -20,7 +21,12 @@ def look_at(control: int) -> Look:
         report = None
     if report is None:
         return Look(begun, time.time())
-    return Look(begun, time.time(), report.phase, *(report.service(service).name for service in ("active", "stable", "newest")))
+    return Look(
+        begun,
+        time.time(),
+        report.phase,
+        *(report.service(service).name for service in ("active", "stable", "newest")),
+    )
 
 
 if __name__ == "__main__":

@@ -1,4 +1,5 @@
-"""Planted faults of agents, each with a drill in which it breaks a rule. Agents without it break none in the same drill."""
+"""Planted faults of agents, each with a drill in which it breaks a rule. Agents without it break
+none in the same drill."""
 import contextlib
 import pathlib
 import sys
@@ -18,11 +19,19 @@ from support.fleet.session import Session
 sys.path.insert(0, str(TOP))
 from bg_switch_tools.fleet.agent import LEASE  # noqa: E402
 from bg_switch_tools.fleet.candidate import Candidate, Pending  # noqa: E402
-from tests.fleet_faults import (Patch, alone, back_by_permission, no_catch_up, on_changes, on_reads_of_any_age,  # noqa: E402
-                                without_compares, without_one_member)
+from tests.fleet_faults import (  # noqa: E402
+    Patch,
+    alone,
+    back_by_permission,
+    no_catch_up,
+    on_changes,
+    on_reads_of_any_age,
+    without_compares,
+    without_one_member,
+)
 
-LATE = 2.0       # seconds for which a switch is late: a read of before is too old then, and no round has given up yet
-LOST = 6.0       # seconds for which a machine has no etcd: more than its agent needs to notice that
+LATE = 2.0  # seconds for which a switch is late: a read of before is too old then, and no round has given up yet
+LOST = 6.0  # seconds for which a machine has no etcd: more than its agent needs to notice that
 CATCHING_UP = 20.0  # seconds in which a machine that was away catches up
 SLEEP = LEASE + 2.0  # seconds for which a leader sleeps before it writes: it leads no longer then
 
@@ -36,11 +45,13 @@ def slow_without_compares() -> Iterator[None]:
         if pending.write.record and pending.write.record.is_running:
             time.sleep(SLEEP)
         return send(self, pending)
+
     with without_compares(""), mock.patch.object(Candidate, "send", late):
         yield
 
 
 # ---- the drills ----
+
 
 def one_member_away(session: Session) -> None:
     """An attempt begins while a machine is cut off."""
@@ -108,7 +119,9 @@ def failure_without_etcd(session: Session) -> None:
 
 
 class Planted(NamedTuple):
-    """A fault of the agents, the drill in which it shows, the rule that it breaks, and a part of what that says."""
+    """A fault of the agents, the drill in which it shows, the rule that it breaks, and a part of
+    what that says."""
+
     plant: Callable[[], Patch]
     drill: Callable[[Session], None]
     rule: int
@@ -119,13 +132,20 @@ class Planted(NamedTuple):
 
 
 PLANTED: Mapping[str, Planted] = {
-    "without-one-member": Planted(without_one_member, one_member_away, 1, "promoting was written while"),
+    "without-one-member": Planted(
+        without_one_member, one_member_away, 1, "promoting was written while"
+    ),
     "alone": Planted(alone, etcd_lost, 1, "selected web-2"),
-    "without-compares": Planted(slow_without_compares, one_good_revision, 3, "was written by the leader"),
+    "without-compares": Planted(
+        slow_without_compares, one_good_revision, 3, "was written by the leader"
+    ),
     "no-catch-up": Planted(no_catch_up, missed_attempt, 4, "at the end"),
     "old-reads": Planted(on_reads_of_any_age, late_switch, 2, "by a read"),
     "changes": Planted(on_changes, missed_attempt, 4, "at the end"),
-    "back-by-permission": Planted(back_by_permission, failure_without_etcd, 6, "still selected web-2")}
+    "back-by-permission": Planted(
+        back_by_permission, failure_without_etcd, 6, "still selected web-2"
+    ),
+}
 
 
 def faulty_words(fault: str) -> Callable[[Lab, str], list[str]]:

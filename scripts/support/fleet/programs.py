@@ -14,7 +14,10 @@ from support import TOP, processes
 
 LONGEST = 10  # seconds that a program has to end by itself
 # What of the drill runs in processes of its own finds this package and that of the tools.
-PATHS = {"PYTHONPATH": os.pathsep.join((str(TOP / "scripts"), str(TOP / "lib"), str(TOP))), "PYTHONDONTWRITEBYTECODE": "1"}
+PATHS = {
+    "PYTHONPATH": os.pathsep.join((str(TOP / "scripts"), str(TOP / "lib"), str(TOP))),
+    "PYTHONDONTWRITEBYTECODE": "1",
+}
 
 
 class Programs:
@@ -24,29 +27,58 @@ class Programs:
         self.folder = folder
         self.running: dict[str, subprocess.Popen[bytes]] = {}
         self.stopped: set[str] = set()
-        self.ended: list[str] = []  # what has ended by itself, with its status, before it was killed
+        self.ended: list[
+            str
+        ] = []  # what has ended by itself, with its status, before it was killed
 
-    def start(self, name: str, words: Sequence[str], *, output: str = "", given: bytes = b"", is_timed: bool = False) -> None:
-        """Starts a program with this standard input. Its output goes to a file, `NAME.log` if none is named; with `is_timed`, each
-        line as an object of JSON with the moment at which it came. `ValueError` where one of this name runs."""
+    def start(
+        self,
+        name: str,
+        words: Sequence[str],
+        *,
+        output: str = "",
+        given: bytes = b"",
+        is_timed: bool = False,
+    ) -> None:
+        """Starts a program with this standard input. Its output goes to a file, `NAME.log` if none
+        is named; with `is_timed`, each line as an object of JSON with the moment at which it came.
+        `ValueError` where one of this name runs.
+        """
         if name in self.running:
             raise ValueError(f"{name} runs already")
         with contextlib.ExitStack() as stack:
             out = stack.enter_context(open(self.folder / (output or f"{name}.log"), "ab"))
             told = stack.enter_context(open(self.folder / f"{name}.err", "ab"))
-            process = subprocess.Popen(words, stdin=subprocess.PIPE, stdout=subprocess.PIPE if is_timed else out, stderr=told,
-                                       cwd=self.folder, env={**os.environ, **PATHS}, start_new_session=True)
+            process = subprocess.Popen(
+                words,
+                stdin=subprocess.PIPE,
+                stdout=subprocess.PIPE if is_timed else out,
+                stderr=told,
+                cwd=self.folder,
+                env={**os.environ, **PATHS},
+                start_new_session=True,
+            )
             if process.stdin:
                 with contextlib.suppress(BrokenPipeError), process.stdin:
                     process.stdin.write(given)
         self.running[name] = process
         if is_timed and process.stdout:
-            threading.Thread(target=self._keep_lines, args=(process.stdout, output or f"{name}.log"), daemon=True).start()
+            threading.Thread(
+                target=self._keep_lines, args=(process.stdout, output or f"{name}.log"), daemon=True
+            ).start()
 
     def _keep_lines(self, out: IO[bytes], name: str) -> None:
         with open(self.folder / name, "a", encoding="utf-8") as file, out:
             for line in out:
-                file.write(json.dumps({"moment": time.time(), "line": line.decode("utf-8", "replace").rstrip("\n")}) + "\n")
+                file.write(
+                    json.dumps(
+                        {
+                            "moment": time.time(),
+                            "line": line.decode("utf-8", "replace").rstrip("\n"),
+                        }
+                    )
+                    + "\n"
+                )
                 file.flush()
 
     def is_running(self, name: str) -> bool:
@@ -58,7 +90,8 @@ class Programs:
             self._remove(name)
 
     def _is_there(self, name: str) -> bool:
-        """Whether a program was started and not ended since. It is noted where it has ended by itself."""
+        """Whether a program was started and not ended since. It is noted where it has ended by
+        itself."""
         process = self.running.get(name)
         if process and process.poll() is not None:
             self.ended.append(f"{name}: status {process.returncode}")
@@ -72,9 +105,18 @@ class Programs:
         return process.wait(LONGEST)
 
     def failures(self) -> list[str]:
-        """What has ended by itself, and what has told of an exception that nobody expected: a line each. A drill has none."""
-        found = [f"{name}: status {process.returncode}" for name, process in self.running.items() if process.poll() is not None]
-        told = [path.name for path in sorted(self.folder.glob("*.err")) if b"Traceback" in path.read_bytes()]
+        """What has ended by itself, and what has told of an exception that nobody expected: a line
+        each. A drill has none."""
+        found = [
+            f"{name}: status {process.returncode}"
+            for name, process in self.running.items()
+            if process.poll() is not None
+        ]
+        told = [
+            path.name
+            for path in sorted(self.folder.glob("*.err"))
+            if b"Traceback" in path.read_bytes()
+        ]
         return [*self.ended, *found, *(f"{name} has a traceback" for name in told)]
 
     def stop(self, name: str) -> None:
@@ -88,7 +130,8 @@ class Programs:
         self.stopped.discard(name)
 
     def end(self, name: str, number: int = signal.SIGTERM) -> int | None:
-        """Ends a program by a signal, and kills it where that takes too long. Gives its status; None where it did not run."""
+        """Ends a program by a signal, and kills it where that takes too long. Gives its status;
+        None where it did not run."""
         self.wake(name)
         if not self._is_there(name):
             return None

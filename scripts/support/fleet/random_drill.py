@@ -1,4 +1,5 @@
-"""A fleet under faults at random, with plans and persons at random: what happens by a seed, until the fleet has settled again."""
+"""A fleet under faults at random, with plans and persons at random: what happens by a seed, until
+the fleet has settled again."""
 import collections
 import contextlib
 import pathlib
@@ -15,17 +16,31 @@ from support.fleet.recording import Recording
 from support.fleet.seen import Seen
 from support.fleet.session import Session
 
-PACE = (0.5, 4.5)        # seconds between two looks at what comes next
-EACH_PLAN = 4.0          # seconds that a plan takes at least: how many revisions have endpoints follows from it
-LONGEST_ATTEMPT = 50.0   # seconds until the next plan is put at the latest
-REST = (0.5, 3.0)        # seconds from the end of an attempt to the next plan
-MIDDLE = (0.3, 5.0)      # seconds from a plan to the next one that comes in the middle of its attempt
-SETTLING = 90.0          # seconds after the last fault in which the fleet has to settle
-AIMING = 40.0            # seconds for which a person waits for `promoting`, to abort
-LATE = (0.1, 1.4)        # seconds for which a switch is late then: a promote must not rest on a read that is older than one
-ON_ITS_WAY = (0.0, 0.25)  # seconds from the beginning of `promoting` to the abort: agents read the one, and not the other
+PACE = (0.5, 4.5)  # seconds between two looks at what comes next
+EACH_PLAN = (
+    4.0  # seconds that a plan takes at least: how many revisions have endpoints follows from it
+)
+LONGEST_ATTEMPT = 50.0  # seconds until the next plan is put at the latest
+REST = (0.5, 3.0)  # seconds from the end of an attempt to the next plan
+MIDDLE = (0.3, 5.0)  # seconds from a plan to the next one that comes in the middle of its attempt
+SETTLING = 90.0  # seconds after the last fault in which the fleet has to settle
+AIMING = 40.0  # seconds for which a person waits for `promoting`, to abort
+LATE = (
+    0.1,
+    1.4,
+)  # seconds for which a switch is late then: a promote must not rest on a read that is older than one
+ON_ITS_WAY = (
+    0.0,
+    0.25,
+)  # seconds from the beginning of `promoting` to the abort: agents read the one, and not the other
 GOOD, BAD_BEFORE, BAD_AFTER = "plans good", "plans bad before", "plans bad after"
-PROMOTE, ABORT, AIMED_ABORT, RETRY, UNDO = "promotes ordered", "aborts ordered", "aborts aimed at promoting", "retries", "undos"
+PROMOTE, ABORT, AIMED_ABORT, RETRY, UNDO = (
+    "promotes ordered",
+    "aborts ordered",
+    "aborts aimed at promoting",
+    "retries",
+    "undos",
+)
 COUNTED = (GOOD, BAD_BEFORE, BAD_AFTER, PROMOTE, ABORT, AIMED_ABORT, RETRY, UNDO)
 KINDS, WEIGHTS = (GOOD, BAD_BEFORE, BAD_AFTER), (8, 1, 1)
 # How probable it is at each look that a person does this, where it has an effect.
@@ -33,8 +48,9 @@ PERSONS = {PROMOTE: 0.7, ABORT: 0.03, RETRY: 0.1, UNDO: 0.05}
 
 
 class PlanChoice(NamedTuple):
-    """A plan at random: its kind, its key `fleet`, whether a person aborts it when it is promoting, and whether the next plan comes
-    in the middle of its attempt."""
+    """A plan at random: its kind, its key `fleet`, whether a person aborts it when it is promoting,
+    and whether the next plan comes in the middle of its attempt."""
+
     kind: str
     fleet: dict[str, object]
     is_aimed: bool
@@ -72,8 +88,11 @@ class Due:
 
 
 class Outcome(NamedTuple):
-    """What a drill came to: how often each thing was done, the recording, and the seconds from the last fault until the fleet had
-    settled (None where it did not in time). `failures` are those of programs, which the drill has not made."""
+    """What a drill came to: how often each thing was done, the recording, and the seconds from the
+    last fault until the fleet had settled (None where it did not in time). `failures` are those of
+    programs, which the drill has not made.
+    """
+
     counts: collections.Counter[str]
     recording: Recording
     settled: float | None
@@ -116,7 +135,10 @@ class RandomDrill:
         if not self.due.is_due(seen, now) or self.number == self.lab.revisions:
             return
         plan, number = next_plan(self.chance), self.number + 1
-        host, step = self.chance.choice(self.lab.hosts), "pre" if plan.kind == BAD_BEFORE else "post"
+        host, step = (
+            self.chance.choice(self.lab.hosts),
+            "pre" if plan.kind == BAD_BEFORE else "post",
+        )
         if plan.kind != GOOD:
             self.lab.fail_analysis(host, step, number)
         if plan.is_aimed:
@@ -133,8 +155,12 @@ class RandomDrill:
 
     def _order(self, seen: Seen) -> None:
         """A person gives a command, where it has an effect."""
-        can = {PROMOTE: seen.is_by_hand and seen.stage == "deploying" and seen.are_all("ready"), ABORT: seen.is_running,
-               RETRY: seen.stage == "aborted" and seen.is_of_the_plan, UNDO: seen.is_settled}
+        can = {
+            PROMOTE: seen.is_by_hand and seen.stage == "deploying" and seen.are_all("ready"),
+            ABORT: seen.is_running,
+            RETRY: seen.stage == "aborted" and seen.is_of_the_plan,
+            UNDO: seen.is_settled,
+        }
         words = {PROMOTE: "promote", ABORT: "abort", RETRY: "retry", UNDO: "undo"}
         for what, probability in PERSONS.items():
             if can[what] and self.chance.random() < probability:
@@ -143,9 +169,12 @@ class RandomDrill:
                 return
 
     def _aim(self, number: int) -> None:
-        """A person aborts the attempt of this revision at the moment at which it begins to be promoted, while a switch is late: so its
-        agent sends `promote` when the abort is written already."""
-        threading.Thread(target=self._abort_when_promoting, args=(name_of(number),), daemon=True).start()
+        """A person aborts the attempt of this revision at the moment at which it begins to be
+        promoted, while a switch is late: so its agent sends `promote` when the abort is written
+        already."""
+        threading.Thread(
+            target=self._abort_when_promoting, args=(name_of(number),), daemon=True
+        ).start()
 
     def _abort_when_promoting(self, name: str) -> None:
         client = EtcdClient(self.lab.network, FLEET)

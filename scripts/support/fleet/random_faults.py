@@ -1,4 +1,5 @@
-"""Faults of a fleet at random: which one comes next, for how long, and what it does to the fleet of a drill."""
+"""Faults of a fleet at random: which one comes next, for how long, and what it does to the fleet of
+a drill."""
 import collections
 import random
 import threading
@@ -8,30 +9,66 @@ from typing import NamedTuple
 
 from support.fleet.lab import Lab
 
-AGENT_KILLED, AGENT_STOPPED, LINK_CUT = "agents killed", "agents stopped and woken", "links to etcd cut"
-MEMBER_KILLED, MAJORITY_KILLED, SWITCH_KILLED = "members of etcd killed", "majorities of etcd killed", "switches killed"
+AGENT_KILLED, AGENT_STOPPED, LINK_CUT = (
+    "agents killed",
+    "agents stopped and woken",
+    "links to etcd cut",
+)
+MEMBER_KILLED, MAJORITY_KILLED, SWITCH_KILLED = (
+    "members of etcd killed",
+    "majorities of etcd killed",
+    "switches killed",
+)
 SWITCH_DELAYED = "switches delayed"
-KINDS = (AGENT_KILLED, AGENT_STOPPED, LINK_CUT, MEMBER_KILLED, MAJORITY_KILLED, SWITCH_KILLED, SWITCH_DELAYED)
-# How often a kind comes beside the others. Without a majority or a leader nothing is decided, so those are rare.
+KINDS = (
+    AGENT_KILLED,
+    AGENT_STOPPED,
+    LINK_CUT,
+    MEMBER_KILLED,
+    MAJORITY_KILLED,
+    SWITCH_KILLED,
+    SWITCH_DELAYED,
+)
+# How often a kind comes beside the others. Without a majority or a leader nothing is decided, so
+# those are rare.
 WEIGHTS = (3, 3, 2, 3, 0.5, 3, 2)
-LEADER = 0.1        # how probable it is that a fault of an agent hits the leader
-PAST_LEASE = 0.2    # how probable it is that an agent is stopped past its lease
+LEADER = 0.1  # how probable it is that a fault of an agent hits the leader
+PAST_LEASE = 0.2  # how probable it is that an agent is stopped past its lease
 # Seconds from the fault to its end, by its kind.
 SECONDS: Mapping[str, tuple[float, float]] = {
-    AGENT_KILLED: (0.5, 5), AGENT_STOPPED: (0.5, 6), LINK_CUT: (1, 8), MEMBER_KILLED: (1, 6), MAJORITY_KILLED: (1, 4),
-    SWITCH_KILLED: (0.3, 2), SWITCH_DELAYED: (0.1, 1.4)}
+    AGENT_KILLED: (0.5, 5),
+    AGENT_STOPPED: (0.5, 6),
+    LINK_CUT: (1, 8),
+    MEMBER_KILLED: (1, 6),
+    MAJORITY_KILLED: (1, 4),
+    SWITCH_KILLED: (0.3, 2),
+    SWITCH_DELAYED: (0.1, 1.4),
+}
 PAST_LEASE_SECONDS = (11.0, 15.0)
-PERIOD = 0.02       # seconds between two looks at whether a fault is to end
+PERIOD = 0.02  # seconds between two looks at whether a fault is to end
 # What a kind breaks, as the lab calls it, and what may not be broken anywhere while it comes.
-BREAKS: Mapping[str, str] = {AGENT_KILLED: "agent", AGENT_STOPPED: "agent", LINK_CUT: "link", MEMBER_KILLED: "etcd",
-                             MAJORITY_KILLED: "etcd", SWITCH_KILLED: "switch", SWITCH_DELAYED: "delay"}
-EXCLUDED_BY: Mapping[str, tuple[str, ...]] = {"agent": (), "link": ("link", "etcd"), "etcd": ("link", "etcd"),
-                                              "switch": ("switch", "delay"), "delay": ("switch", "delay")}
+BREAKS: Mapping[str, str] = {
+    AGENT_KILLED: "agent",
+    AGENT_STOPPED: "agent",
+    LINK_CUT: "link",
+    MEMBER_KILLED: "etcd",
+    MAJORITY_KILLED: "etcd",
+    SWITCH_KILLED: "switch",
+    SWITCH_DELAYED: "delay",
+}
+EXCLUDED_BY: Mapping[str, tuple[str, ...]] = {
+    "agent": (),
+    "link": ("link", "etcd"),
+    "etcd": ("link", "etcd"),
+    "switch": ("switch", "delay"),
+    "delay": ("switch", "delay"),
+}
 Broken = Collection[tuple[str, str]]  # by what and host
 
 
 class Fault(NamedTuple):
     """A fault that comes now, and ends after so many seconds."""
+
     kind: str
     hosts: tuple[str, ...]
     seconds: float
@@ -42,13 +79,17 @@ class Fault(NamedTuple):
 
 
 def may_come(fault: Fault, broken: Broken) -> bool:
-    """Whether a fault may come beside those that last: etcd keeps its majority unless it is killed on purpose, and one switch at the most
-    is down, so that each request finds a machine."""
+    """Whether a fault may come beside those that last: etcd keeps its majority unless it is killed
+    on purpose, and one switch at the most is down, so that each request finds a machine."""
     excluded = EXCLUDED_BY[BREAKS[fault.kind]]
-    return not any(what in excluded for what, _ in broken) and not any(one in broken for one in fault.broken)
+    return not any(what in excluded for what, _ in broken) and not any(
+        one in broken for one in fault.broken
+    )
 
 
-def next_fault(chance: random.Random, hosts: Sequence[str], leader: str, broken: Broken) -> Fault | None:
+def next_fault(
+    chance: random.Random, hosts: Sequence[str], leader: str, broken: Broken
+) -> Fault | None:
     """A fault at random; None where it may not come now."""
     kind = chance.choices(KINDS, WEIGHTS)[0]
     host = chance.choice(hosts)
@@ -63,7 +104,8 @@ def next_fault(chance: random.Random, hosts: Sequence[str], leader: str, broken:
 
 
 class Faults:
-    """The faults of a running fleet. Several threads may use it; one of its own ends each fault in time."""
+    """The faults of a running fleet. Several threads may use it; one of its own ends each fault in
+    time."""
 
     def __init__(self, lab: Lab, chance: random.Random) -> None:
         self.lab = lab
@@ -81,7 +123,8 @@ class Faults:
         return [one for _, fault in self.lasting for one in fault.broken]
 
     def begin_some(self, leader: str) -> None:
-        """A fault at random begins, if it may come now. Raises what has kept one before from its end."""
+        """A fault at random begins, if it may come now. Raises what has kept one before from its
+        end."""
         if self.error:
             raise self.error
         with self.lock:
@@ -90,7 +133,8 @@ class Faults:
                 self._begin(fault)
 
     def delay_some_switch(self, seconds: float) -> bool:
-        """A switch at random answers late from now on, for so many seconds. False where one is down or late already."""
+        """A switch at random answers late from now on, for so many seconds. False where one is down
+        or late already."""
         with self.lock:
             fault = Fault(SWITCH_DELAYED, (self.chance.choice(self.lab.hosts),), seconds)
             if self.ending.is_set() or not may_come(fault, self.broken):

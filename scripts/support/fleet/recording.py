@@ -1,7 +1,9 @@
-"""What a drill records, from sources that do not know one another: the history of etcd's keys, the moments at which the store had a
-revision, looks at each switch, the agents' logs, the verdicts of the analyses, the clients, and the faults that the drill made.
+"""What a drill records, from sources that do not know one another: the history of etcd's keys, the
+moments at which the store had a revision, looks at each switch, the agents' logs, the verdicts of
+the analyses, the clients, and the faults that the drill made.
 
-Each source is a file of lines of JSON in the folder of a run. All moments are seconds of the clock of the one machine.
+Each source is a file of lines of JSON in the folder of a run. All moments are seconds of the clock
+of the one machine.
 """
 import json
 import pathlib
@@ -10,11 +12,19 @@ from collections.abc import Iterator, Mapping, Sequence
 from typing import NamedTuple
 
 PROMOTES = re.compile(r"promotes (\S+) by attempt (\d+), which was read ([\d.]+) seconds ago")
-HISTORY, POLLS, VERDICTS, REQUESTS, OUTAGES = "history.jsonl", "polls.jsonl", "verdicts.jsonl", "client.jsonl", "outages.jsonl"
+HISTORY, POLLS, VERDICTS, REQUESTS, OUTAGES = (
+    "history.jsonl",
+    "polls.jsonl",
+    "verdicts.jsonl",
+    "client.jsonl",
+    "outages.jsonl",
+)
 
 
 class Event(NamedTuple):
-    """A change of a key. `revision` is etcd's; `created` that of its creation; `value` is None where the key was deleted."""
+    """A change of a key. `revision` is etcd's; `created` that of its creation; `value` is None
+    where the key was deleted."""
+
     revision: int
     name: str
     value: str | None
@@ -23,6 +33,7 @@ class Event(NamedTuple):
 
 class Poll(NamedTuple):
     """A linearizable read between two moments, and the revision that the store had in it."""
+
     begun: float
     ended: float
     revision: int
@@ -30,6 +41,7 @@ class Poll(NamedTuple):
 
 class Look(NamedTuple):
     """What a switch answered between two moments. The phase is empty where it gave no answer."""
+
     begun: float
     ended: float
     phase: str = ""
@@ -43,8 +55,10 @@ class Look(NamedTuple):
 
 
 class Promote(NamedTuple):
-    """A line `promote` of an agent, by its log: of which revision, by the record of which attempt, and how many seconds before it had
-    read that. A machine that catches up promotes the stable revision of the record."""
+    """A line `promote` of an agent, by its log: of which revision, by the record of which attempt,
+    and how many seconds before it had read that. A machine that catches up promotes the stable
+    revision of the record."""
+
     host: str
     moment: float
     revision: str
@@ -54,6 +68,7 @@ class Promote(NamedTuple):
 
 class Verdict(NamedTuple):
     """What an analysis came to: `step` is pre or post."""
+
     moment: float
     host: str
     step: str
@@ -62,7 +77,9 @@ class Verdict(NamedTuple):
 
 
 class Answered(NamedTuple):
-    """A client's request. The status is 0 where no answer came. `revision` is the one that answered, and `host` its machine."""
+    """A client's request. The status is 0 where no answer came. `revision` is the one that
+    answered, and `host` its machine."""
+
     begun: float
     seconds: float
     status: int
@@ -71,7 +88,9 @@ class Answered(NamedTuple):
 
 
 class Outage(NamedTuple):
-    """A fault that the drill made: `what` is switch, agent, etcd or link. It was mended at `ended`."""
+    """A fault that the drill made: `what` is switch, agent, etcd or link. It was mended at
+    `ended`."""
+
     what: str
     host: str
     begun: float
@@ -80,6 +99,7 @@ class Outage(NamedTuple):
 
 class Recording(NamedTuple):
     """A whole run."""
+
     events: Sequence[Event]
     polls: Sequence[Poll]
     looks: Mapping[str, Sequence[Look]]
@@ -98,7 +118,8 @@ def agent_file(host: str) -> str:
 
 
 def _objects(path: pathlib.Path) -> Iterator[dict[str, object]]:
-    """The lines of a file; none where it is missing. The last one may be cut off where its program was killed."""
+    """The lines of a file; none where it is missing. The last one may be cut off where its program
+    was killed."""
     if path.exists():
         lines = path.read_text(encoding="utf-8").split("\n")
         for line in lines[:-1]:
@@ -108,13 +129,17 @@ def _objects(path: pathlib.Path) -> Iterator[dict[str, object]]:
 def _promotes(path: pathlib.Path, host: str) -> Iterator[Promote]:
     for told in _objects(path):
         if found := PROMOTES.search(str(told["line"])):
-            yield Promote(host, float(str(told["moment"])), found[1], int(found[2]), float(found[3]))
+            yield Promote(
+                host, float(str(told["moment"])), found[1], int(found[2]), float(found[3])
+            )
 
 
 def read_recording(folder: pathlib.Path, hosts: Sequence[str]) -> Recording:
     """The recording of a run with these hosts."""
+
     def rows(name: str) -> list[dict[str, object]]:
         return list(_objects(folder / name))
+
     return Recording(
         [Event(**row) for row in rows(HISTORY)],  # type: ignore[arg-type]
         [Poll(**row) for row in rows(POLLS)],  # type: ignore[arg-type]
@@ -122,4 +147,5 @@ def read_recording(folder: pathlib.Path, hosts: Sequence[str]) -> Recording:
         [promote for host in hosts for promote in _promotes(folder / agent_file(host), host)],
         [Verdict(**row) for row in rows(VERDICTS)],  # type: ignore[arg-type]
         [Answered(**row) for row in rows(REQUESTS)],  # type: ignore[arg-type]
-        [Outage(**row) for row in rows(OUTAGES)])  # type: ignore[arg-type]
+        [Outage(**row) for row in rows(OUTAGES)],  # type: ignore[arg-type]
+    )

@@ -1,7 +1,8 @@
 """The six rules of a fleet, checked on a recording.
 
-The checks read etcd's keys by themselves and use no code of the fleet. Where moments are compared, a rule counts as broken only if it
-is broken whatever happened between two looks: a write has an earliest and a latest moment, by the reads before and after it.
+The checks read etcd's keys by themselves and use no code of the fleet. Where moments are compared,
+a rule counts as broken only if it is broken whatever happened between two looks: a write has an
+earliest and a latest moment, by the reads before and after it.
 """
 import collections
 import json
@@ -11,26 +12,34 @@ from typing import Any, NamedTuple
 from support.fleet.recording import Answered, Event, Look, Outage, Promote, Recording
 
 OLDEST_READ = 1.0  # seconds: how old a read may be that a promote rests on
-SLACK = 0.5        # seconds: how late a line of a log or a look may be on a busy machine
-GOING_BACK = 3.0   # seconds in which a machine goes back after its analysis has failed
-SETTLING = 1.5     # seconds after which the load balancer has left out a machine whose switch was killed, or has taken it in again
+SLACK = 0.5  # seconds: how late a line of a log or a look may be on a busy machine
+GOING_BACK = 3.0  # seconds in which a machine goes back after its analysis has failed
+SETTLING = 1.5  # seconds after which the load balancer has left out a machine whose switch was killed, or has taken it in again
 RUNNING = ("deploying", "promoting")
 OVER = ("successful", "aborted")
 # The stages that may follow a stage in one attempt; None before its first one.
-STEPS: Mapping[str | None, tuple[str, ...]] = {None: ("deploying", "successful"), "deploying": ("promoting", "aborted"),
-                                               "promoting": OVER, "successful": (), "aborted": ()}
+STEPS: Mapping[str | None, tuple[str, ...]] = {
+    None: ("deploying", "successful"),
+    "deploying": ("promoting", "aborted"),
+    "promoting": OVER,
+    "successful": (),
+    "aborted": (),
+}
 QUIET = ("steady", "aborted")  # phases of a switch in which no attempt runs
 FOREVER = float("inf")
 
 
 class Broken(NamedTuple):
     """A rule that is broken, and how."""
+
     rule: int
     text: str
 
 
 class Write(NamedTuple):
-    """A write of the record. `before` are the keys as they were at the revision before; `earliest` and `latest` enclose its moment."""
+    """A write of the record. `before` are the keys as they were at the revision before; `earliest`
+    and `latest` enclose its moment."""
+
     revision: int
     record: dict[str, Any]
     before: Mapping[str, Event]
@@ -60,7 +69,9 @@ class Write(NamedTuple):
         return {str(self.record["stable"]["name"]), *([self.name] if self.promotes else [])}
 
     def members(self) -> list[str]:
-        return [name.removeprefix("members/") for name in self.before if name.startswith("members/")]
+        return [
+            name.removeprefix("members/") for name in self.before if name.startswith("members/")
+        ]
 
     def told(self, name: str) -> dict[str, Any] | None:
         """The value of a key before the write, which is JSON."""
@@ -79,15 +90,21 @@ class Run:
 
     def __init__(self, recording: Recording) -> None:
         self.recording = recording
-        self.reports: list[tuple[int, str, str]] = []  # the revision, the host, and what its switch selects
+        self.reports: list[
+            tuple[int, str, str]
+        ] = []  # the revision, the host, and what its switch selects
         self.writes = list(self._replay())
         self.next_latest = [write.latest for write in self.writes[1:]] + [FOREVER]
-        self.known_from: dict[str, float] = {}  # by a revision: from when on it may have been promoted or stable
+        self.known_from: dict[
+            str, float
+        ] = {}  # by a revision: from when on it may have been promoted or stable
         for write in self.writes:
             for name in write.names():
                 self.known_from.setdefault(name, write.earliest)
         if self.writes:
-            self.known_from[str(self.writes[0].record["stable"]["name"])] = 0.0  # it was live before there was a fleet
+            self.known_from[
+                str(self.writes[0].record["stable"]["name"])
+            ] = 0.0  # it was live before there was a fleet
 
     def moments(self, revision: int) -> tuple[float, float]:
         """Between which moments a revision came to be."""
@@ -114,27 +131,53 @@ class Run:
                 if event.name == "attempt":
                     yield Write(revision, json.loads(event.value), before, *self.moments(revision))
                 elif event.name.startswith("machines/"):
-                    self.reports.append((revision, event.name.removeprefix("machines/"), json.loads(event.value).get("active", "")))
+                    self.reports.append(
+                        (
+                            revision,
+                            event.name.removeprefix("machines/"),
+                            json.loads(event.value).get("active", ""),
+                        )
+                    )
 
     def in_force(self, begun: float, ended: float) -> list[Write]:
         """The writes that may have been the newest one at a moment between these two."""
-        return [write for write, until in zip(self.writes, self.next_latest) if write.earliest <= ended and until >= begun]
+        return [
+            write
+            for write, until in zip(self.writes, self.next_latest)
+            if write.earliest <= ended and until >= begun
+        ]
 
     def abort_of(self, promote: Promote) -> Write | None:
         """The abort of the attempt that is promoted; None where there was none."""
-        return next((write for write in self.writes if (write.record["id"], write.stage, write.name)
-                     == (promote.attempt, "aborted", promote.revision)), None)
+        return next(
+            (
+                write
+                for write in self.writes
+                if (write.record["id"], write.stage, write.name)
+                == (promote.attempt, "aborted", promote.revision)
+            ),
+            None,
+        )
 
     def late_promotes(self) -> list[Promote]:
-        """The promotes that met an abort on its way: it was written already for sure, and the agent had read the record before."""
-        return [promote for promote in self.recording.promotes if (aborted := self.abort_of(promote)) and aborted.latest <= promote.moment]
+        """The promotes that met an abort on its way: it was written already for sure, and the agent
+        had read the record before."""
+        return [
+            promote
+            for promote in self.recording.promotes
+            if (aborted := self.abort_of(promote)) and aborted.latest <= promote.moment
+        ]
 
     def is_known(self, name: str, moment: float) -> bool:
         """Whether a revision may have been promoted up to a moment."""
         return self.known_from.get(name, FOREVER) <= moment
 
     def outages(self, what: str, host: str) -> list[Outage]:
-        return [outage for outage in self.recording.outages if (outage.what, outage.host) == (what, host)]
+        return [
+            outage
+            for outage in self.recording.outages
+            if (outage.what, outage.host) == (what, host)
+        ]
 
 
 def _report_is(report: dict[str, Any] | None, attempt: int, state: str) -> bool:
@@ -142,7 +185,8 @@ def _report_is(report: dict[str, Any] | None, attempt: int, state: str) -> bool:
 
 
 def _without_word(write: Write, state: str) -> Iterator[str]:
-    """The members with a vote that did not report this when the record was written, and members without one that are too many."""
+    """The members with a vote that did not report this when the record was written, and members
+    without one that are too many."""
     attempt, missing = write.record["id"], write.record.get("missing", [])
     for host in write.members():
         report = write.told(f"machines/{host}")
@@ -167,27 +211,36 @@ def _promoting_is_allowed(run: Run) -> Iterator[str]:
             continue
         yield from _without_word(write, "ready")
         order = write.told("order")
-        is_ordered = order is not None and (order["order"], order["attempt"]) == ("promote", write.record["id"])
+        is_ordered = order is not None and (order["order"], order["attempt"]) == (
+            "promote",
+            write.record["id"],
+        )
         if write.fleet_settings().get("by_hand") and not is_ordered:
             yield f"revision {write.revision}: promoting was written, and nobody had ordered it"
 
 
 def _reports_follow(run: Run) -> Iterator[str]:
-    """No report in etcd says that a machine selects a revision that was not promoted before, by etcd's own revisions."""
+    """No report in etcd says that a machine selects a revision that was not promoted before, by
+    etcd's own revisions."""
     if not run.writes:
         return
     first = run.writes[0].revision
     known = {name for revision, _, name in run.reports if revision < first}
     selected: dict[str, str] = {}
     for revision, host, name in run.reports:
-        if name and name != selected.get(host) and name not in known and not any(
-                name in write.names() for write in run.writes if write.revision < revision):
+        if (
+            name
+            and name != selected.get(host)
+            and name not in known
+            and not any(name in write.names() for write in run.writes if write.revision < revision)
+        ):
             yield f"revision {revision}: {host} reports that it selects {name}, which was not promoted"
         selected[host] = name or selected.get(host, "")
 
 
 def rule_1(run: Run) -> Iterator[str]:
-    """No active service selects a revision before `promoting` was written, and that only while every member was ready."""
+    """No active service selects a revision before `promoting` was written, and that only while
+    every member was ready."""
     yield from _promoting_is_allowed(run)
     yield from _reports_follow(run)
     for host, looks in run.recording.looks.items():
@@ -195,11 +248,20 @@ def rule_1(run: Run) -> Iterator[str]:
             if not run.is_known(after.active, after.ended):
                 yield f"{host} selected {after.active} at {after.ended:.3f}, before it was promoted"
     for promote in run.recording.promotes:
-        allowing = [write for write in run.writes if write.record["id"] == promote.attempt
-                    and (promote.revision == write.stable or (write.promotes and promote.revision == write.name))]
+        allowing = [
+            write
+            for write in run.writes
+            if write.record["id"] == promote.attempt
+            and (
+                promote.revision == write.stable
+                or (write.promotes and promote.revision == write.name)
+            )
+        ]
         if not any(write.earliest <= promote.moment + SLACK for write in allowing):
-            yield (f"{promote.host} promoted {promote.revision} at {promote.moment:.3f}, before promoting was written for attempt "
-                   f"{promote.attempt}")
+            yield (
+                f"{promote.host} promoted {promote.revision} at {promote.moment:.3f}, before promoting was written for attempt "
+                f"{promote.attempt}"
+            )
     for request in run.recording.requests:
         if request.revision and not run.is_known(request.revision, request.begun + request.seconds):
             yield f"a client was answered by {request.revision} at {request.begun:.3f}, before it was promoted"
@@ -222,27 +284,39 @@ def _promote_is_fresh(run: Run, promote: Promote) -> Iterator[str]:
         yield f"{promote.host} promoted {promote.revision} by a read {promote.age:.3f} seconds old"
     aborted, read_at = run.abort_of(promote), promote.moment - promote.age
     if aborted and aborted.latest < read_at - SLACK:
-        yield (f"{promote.host} promoted {promote.revision} by a read at {read_at:.3f}, and attempt {promote.attempt} was aborted at "
-               f"{aborted.latest:.3f}")
+        yield (
+            f"{promote.host} promoted {promote.revision} by a read at {read_at:.3f}, and attempt {promote.attempt} was aborted at "
+            f"{aborted.latest:.3f}"
+        )
 
 
 def rule_2(run: Run) -> Iterator[str]:
-    """An attempt that was aborted is not promoted by a read of that or of anything later, nor by a read older than a second."""
+    """An attempt that was aborted is not promoted by a read of that or of anything later, nor by a
+    read older than a second."""
     yield from _steps_are_legal(run)
     for promote in run.recording.promotes:
         yield from _promote_is_fresh(run, promote)
     for host, looks in run.recording.looks.items():
         for before, after in selections(looks):
-            # a switch that was started again, or goes back to its own stable revision, needs no permission
-            if not before.is_up or after.active == before.stable or not run.is_known(after.active, after.ended):
+            # a switch that was started again, or goes back to its own stable revision, needs no
+            # permission
+            if (
+                not before.is_up
+                or after.active == before.stable
+                or not run.is_known(after.active, after.ended)
+            ):
                 continue
             found = run.in_force(before.begun - OLDEST_READ - SLACK, after.ended)
-            if not any(after.active in (write.name if write.promotes else "", write.stable) for write in found):
+            if not any(
+                after.active in (write.name if write.promotes else "", write.stable)
+                for write in found
+            ):
                 yield f"{host} selected {after.active} at {after.ended:.3f}, more than a second after it was no longer promoted"
 
 
 def rule_3(run: Run) -> Iterator[str]:
-    """The writer of the record holds the leader's key, no older leader writes after a newer one, and the plan is that of the attempt."""
+    """The writer of the record holds the leader's key, no older leader writes after a newer one,
+    and the plan is that of the attempt."""
     last = 0
     for write in run.writes:
         leader, by = write.before.get("leader"), int(write.record["by"])
@@ -252,7 +326,11 @@ def rule_3(run: Run) -> Iterator[str]:
             yield f"revision {write.revision} was written by the leader {by} after the leader {last}"
         last = max(last, by)
         plan = write.before.get("plan")
-        if write.stage != "aborted" and write.record["id"] and (plan is None or plan.revision != write.record["id"]):
+        if (
+            write.stage != "aborted"
+            and write.record["id"]
+            and (plan is None or plan.revision != write.record["id"])
+        ):
             stands = plan.revision if plan else "none"
             yield f"revision {write.revision}: {write.stage} of attempt {write.record['id']}, and the plan was {stands}"
 
@@ -264,7 +342,11 @@ def rule_4(run: Run) -> Iterator[str]:
         yield f"at the end attempt {run.writes[-1].record['id']} is {run.writes[-1].stage}"
     for host, looks in run.recording.looks.items():
         last = looks[-1] if looks else None
-        if last is None or (last.active, last.stable) != (stable, stable) or last.phase not in QUIET:
+        if (
+            last is None
+            or (last.active, last.stable) != (stable, stable)
+            or last.phase not in QUIET
+        ):
             yield f"at the end {host} is at {last}, and the fleet at {stable}"
 
 
@@ -272,7 +354,10 @@ def _is_excused(run: Run, request: Answered) -> bool:
     """Whether the switch of the machine that answered was killed itself."""
     for outage in run.outages("switch", request.host):
         looks = run.recording.looks.get(request.host, ())
-        back = next((look.ended for look in looks if look.begun >= outage.ended and look.is_up), outage.ended)
+        back = next(
+            (look.ended for look in looks if look.begun >= outage.ended and look.is_up),
+            outage.ended,
+        )
         if outage.begun - request.seconds - SLACK <= request.begun <= back + SETTLING:
             return True
     return False
@@ -286,18 +371,32 @@ def rule_5(run: Run) -> Iterator[str]:
 
 
 def rule_6(run: Run) -> Iterator[str]:
-    """A machine whose analysis after the switch fails goes back at once, and the fleet does not succeed without its word."""
+    """A machine whose analysis after the switch fails goes back at once, and the fleet does not
+    succeed without its word."""
     for write in run.writes:
-        if write.stage == "successful" and write.told("attempt") and write.record["revision"] != write.record["stable"]:
+        if (
+            write.stage == "successful"
+            and write.told("attempt")
+            and write.record["revision"] != write.record["stable"]
+        ):
             yield from _without_word(write, "passed")
     for verdict in run.recording.verdicts:
         if verdict.step != "post" or verdict.verdict == "successful":
             continue
         until = verdict.moment + GOING_BACK
-        down = [outage for what in ("switch", "agent") for outage in run.outages(what, verdict.host)
-                if outage.begun <= until and outage.ended >= verdict.moment - SLACK]
-        left = any(look.ended >= verdict.moment and look.begun <= until and look.is_up and look.active != verdict.revision
-                   for look in run.recording.looks.get(verdict.host, ()))
+        down = [
+            outage
+            for what in ("switch", "agent")
+            for outage in run.outages(what, verdict.host)
+            if outage.begun <= until and outage.ended >= verdict.moment - SLACK
+        ]
+        left = any(
+            look.ended >= verdict.moment
+            and look.begun <= until
+            and look.is_up
+            and look.active != verdict.revision
+            for look in run.recording.looks.get(verdict.host, ())
+        )
         if not left and not down:
             yield f"{verdict.host} still selected {verdict.revision} {GOING_BACK:g} seconds after its analysis had failed"
 
@@ -321,7 +420,10 @@ def figures(recording: Recording) -> dict[str, str]:
         "leaders": str(len({write.record["by"] for write in run.writes})),
         "promotes of agents": f"{len(recording.promotes)}, {len(run.late_promotes())} of them while an abort was on its way",
         "oldest read of a promote": f"{max((promote.age for promote in recording.promotes), default=0):.3f} s",
-        "changes of active services": str(sum(1 for looks in recording.looks.values() for _ in selections(looks))),
+        "changes of active services": str(
+            sum(1 for looks in recording.looks.values() for _ in selections(looks))
+        ),
         "requests": f"{len(recording.requests)}, {len(failed)} failed, {sum(_is_excused(run, each) for each in failed)} of these at a "
-                    "machine whose switch was killed",
-        "slowest answer": f"{max((request.seconds for request in recording.requests), default=0):.2f} s"}
+        "machine whose switch was killed",
+        "slowest answer": f"{max((request.seconds for request in recording.requests), default=0):.2f} s",
+    }

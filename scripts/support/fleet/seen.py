@@ -49,7 +49,11 @@ class Seen:
     @property
     def stable(self) -> str:
         """The stable revision of the fleet."""
-        return self.revision if self.stage == "successful" else str(self.attempt.get("stable", {}).get("name", ""))
+        return (
+            self.revision
+            if self.stage == "successful"
+            else str(self.attempt.get("stable", {}).get("name", ""))
+        )
 
     @property
     def is_by_hand(self) -> bool:
@@ -64,13 +68,16 @@ class Seen:
 
     @property
     def members(self) -> list[str]:
-        return sorted(name.removeprefix("members/") for name in self.entries if name.startswith("members/"))
+        return sorted(
+            name.removeprefix("members/") for name in self.entries if name.startswith("members/")
+        )
 
     def is_away(self, host: str) -> bool:
         return f"machines/{host}" not in self.entries
 
     def state(self, host: str) -> str:
-        """What a machine reports of the attempt; empty where it is away, and where it reports of another one."""
+        """What a machine reports of the attempt; empty where it is away, and where it reports of
+        another one."""
         told = self._told(f"machines/{host}")
         return str(told["state"]) if told.get("attempt") == self.id else ""
 

@@ -1,11 +1,29 @@
-"""What a random drill comes to: its figures, whether its mix had what it has to have, and the verdict of the rules."""
+"""What a random drill comes to: its figures, whether its mix had what it has to have, and the
+verdict of the rules."""
 import collections
 from collections.abc import Iterator, Mapping
 from typing import NamedTuple
 
-from support.fleet.random_drill import (ABORT, AIMED_ABORT, BAD_AFTER, BAD_BEFORE, GOOD, PROMOTE, RETRY, UNDO, Outcome)
-from support.fleet.random_faults import (AGENT_KILLED, AGENT_STOPPED, LINK_CUT, MAJORITY_KILLED, MEMBER_KILLED, SWITCH_DELAYED,
-                                         SWITCH_KILLED)
+from support.fleet.random_drill import (
+    ABORT,
+    AIMED_ABORT,
+    BAD_AFTER,
+    BAD_BEFORE,
+    GOOD,
+    PROMOTE,
+    RETRY,
+    UNDO,
+    Outcome,
+)
+from support.fleet.random_faults import (
+    AGENT_KILLED,
+    AGENT_STOPPED,
+    LINK_CUT,
+    MAJORITY_KILLED,
+    MEMBER_KILLED,
+    SWITCH_DELAYED,
+    SWITCH_KILLED,
+)
 from support.fleet.rules import RULES, Broken, Run, broken_rules, figures
 
 MOST_SHOWN = 10  # of the ways in which a rule is broken
@@ -14,14 +32,27 @@ LEAST_PROMOTED = 1 / 3  # of the attempts that were begun
 # By the name of a row: the counts that stand in it.
 ROWS: Mapping[str, tuple[str, ...]] = {
     "agents killed / stopped and woken": (AGENT_KILLED, AGENT_STOPPED),
-    "links to etcd cut / members killed / majorities killed": (LINK_CUT, MEMBER_KILLED, MAJORITY_KILLED),
+    "links to etcd cut / members killed / majorities killed": (
+        LINK_CUT,
+        MEMBER_KILLED,
+        MAJORITY_KILLED,
+    ),
     "switches killed / delayed": (SWITCH_KILLED, SWITCH_DELAYED),
     "plans good / bad before / bad after": (GOOD, BAD_BEFORE, BAD_AFTER),
-    "ordered: promotes / aborts / aborts aimed at promoting / retries / undos": (PROMOTE, ABORT, AIMED_ABORT, RETRY, UNDO)}
+    "ordered: promotes / aborts / aborts aimed at promoting / retries / undos": (
+        PROMOTE,
+        ABORT,
+        AIMED_ABORT,
+        RETRY,
+        UNDO,
+    ),
+}
 
 
 class Mix(NamedTuple):
-    """How the attempts of a drill went: how many had each stage, and how many promotes of agents met an abort on its way."""
+    """How the attempts of a drill went: how many had each stage, and how many promotes of agents
+    met an abort on its way."""
+
     begun: int
     promoted: int
     met_abort: int
@@ -29,10 +60,14 @@ class Mix(NamedTuple):
     def faults(self) -> list[str]:
         """What the drill does not show, since too few attempts came to it."""
         if self.begun < LEAST_ATTEMPTS:
-            return [f"{self.begun} attempts are too few to judge the mix: {LEAST_ATTEMPTS} are needed"]
+            return [
+                f"{self.begun} attempts are too few to judge the mix: {LEAST_ATTEMPTS} are needed"
+            ]
         found = []
         if self.promoted < LEAST_PROMOTED * self.begun:
-            found.append(f"{self.promoted} of {self.begun} attempts were promoted, which is below a third")
+            found.append(
+                f"{self.promoted} of {self.begun} attempts were promoted, which is below a third"
+            )
         if not self.met_abort:
             found.append("no promote met an abort on its way")
         return found
@@ -45,19 +80,26 @@ def mix_of(run: Run) -> Mix:
 
 def table(outcome: Outcome) -> Iterator[str]:
     """The figures, a row of a table for each."""
-    rows = {name: " / ".join(str(outcome.counts[what]) for what in counted) for name, counted in ROWS.items()}
-    rows["settled after the last fault"] = "no" if outcome.settled is None else f"{outcome.settled:.1f} s"
+    rows = {
+        name: " / ".join(str(outcome.counts[what]) for what in counted)
+        for name, counted in ROWS.items()
+    }
+    rows["settled after the last fault"] = (
+        "no" if outcome.settled is None else f"{outcome.settled:.1f} s"
+    )
     for name, figure in {**rows, **figures(outcome.recording)}.items():
         yield f"| {name} | {figure} |"
 
 
 def verdict(outcome: Outcome) -> tuple[list[str], bool]:
-    """The lines of the verdict, and whether all rules hold, no program has failed, the fleet has settled, and the mix had what it has
-    to have."""
+    """The lines of the verdict, and whether all rules hold, no program has failed, the fleet has
+    settled, and the mix had what it has to have."""
     broken, mix = broken_rules(outcome.recording), mix_of(Run(outcome.recording)).faults()
     lines = [line for number in range(1, len(RULES) + 1) for line in rule_lines(number, broken)]
     lines += [f"FAILED {failure}" for failure in outcome.failures] or ["no program has failed"]
-    lines += [f"mix: {fault}" for fault in mix] or ["mix: a third of the attempts were promoted, and some promotes met an abort on its way"]
+    lines += [f"mix: {fault}" for fault in mix] or [
+        "mix: a third of the attempts were promoted, and some promotes met an abort on its way"
+    ]
     return lines, not broken and not mix and not outcome.failures and outcome.settled is not None
 
 
