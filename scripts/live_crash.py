@@ -10,12 +10,12 @@ import time
 from collections.abc import Callable
 from typing import NamedTuple
 
-from support import TOP, checks, clients, processes
+from support import PROGRAM, TOP, checks, clients, processes
 from support.checks import check, check_soon, comes
 from support.endpoints import Endpoint, by_target
 from support.plans import Plan
 from support.ports import free_ports
-from support.switch import LISTENING, PROGRAM, words_of_serve
+from support.switch import LISTENING, words_of_serve
 
 # isort: split; `support` tells where the tools' package is
 from bg_switch_tools.switch.connection import Unreachable, ask

@@ -14,7 +14,7 @@ from collections.abc import Callable, Iterator
 from support import TOP, checks, processes
 from support.checks import check, comes
 from support.fleet.demonstration import HOSTS, PACKAGES, place_of
-from support.pages import Limits, run_session
+from support.pages import Surroundings, run_session
 
 PAGE = TOP / "docs" / "FLEET.md"
 TITLE = "From the start to the end"
@@ -39,7 +39,7 @@ PORTS = (
 )
 LEAST_BLOCKS = 16
 # By the variable, etcd does not wait for the disk, which others may use much.
-LIMITS = Limits(300.0, {"ETCD_UNSAFE_NO_FSYNC": "true"})
+LIMITS = Surroundings(300.0, {"ETCD_UNSAFE_NO_FSYNC": "true"})
 OF_THE_SESSION = ("etcd", "etcdctl", "openssl", "curl")
 DEMONSTRATION = TOP / "examples" / "fleet" / "fleet_demo.py"
 LONGEST_RUN = 360  # seconds for the script

@@ -12,7 +12,7 @@ import time
 from collections.abc import Iterator
 from functools import partial
 
-from support import checks, processes
+from support import PROGRAM, checks, processes
 from support.checks import check, check_beside, comes
 from support.clients import connect, received
 from support.endpoints import Endpoint, by_target
@@ -21,7 +21,7 @@ from support.ports import INODE, LOCAL, STATE, TABLE, free_ports
 from support.processes import Run
 from support.socket_list import SocketList, socket_list, with_fields
 from support.stderr_lines import line_of_user, refused_connections, told
-from support.switch import LISTENING, PROGRAM, Switch, book, words_of_serve
+from support.switch import LISTENING, Switch, book, words_of_serve
 from support.users import NOBODY, connect_as, is_root
 
 VARIABLE = "BG_SWITCH_OPERATORS"

@@ -22,6 +22,7 @@ from collections.abc import Iterator, Sequence
 from functools import partial
 
 from support.checks import check, comes, fail, run
+from support.pages import Surroundings, as_installed, run_session
 
 UNITS = pathlib.Path("/lib/systemd/system")
 DOCUMENTS = pathlib.Path("/usr/share/doc/bg-switch")
@@ -30,6 +31,9 @@ PLAN = pathlib.Path("/var/lib/bg/plan.json")
 HOST = "127.0.0.1"
 ACTIVE, PREVIEW, CONTROL, PAGE = 8080, 8081, 8082, 8090
 ENDPOINTS = {"v1": (9101, 9102), "v2": (9201, 9202)}
+# The ports of README.md's session, and how many blocks it and that of OPERATING.md have at least.
+PAGE_PORTS = ("8080", "8081", "8082", "9101", "9102", "9201", "9202")
+LEAST_BLOCKS, LEAST_OF_RUNBOOK = 4, 8
 SOON = 30  # seconds for a command
 CLIENTS = 4
 # A user without rights of whom the switch takes orders, by the list in its unit.
@@ -388,6 +392,17 @@ def commands() -> None:
         check(f"{name} --help", (status, "usage" in printed.lower()), (0, True))
 
 
+def pages() -> None:
+    """The sessions of the packaged README.md and OPERATING.md print what the pages say, with the
+    names that the commands have here. The first block of README.md shows settings alone."""
+    here = Surroundings(folder=DOCUMENTS, is_alone=True)
+    readme = as_installed((DOCUMENTS / "README.md").read_text(encoding="utf-8"))
+    run_session(readme, "A session by hand", PAGE_PORTS, here).check(LEAST_BLOCKS, first=1)
+    runbook = as_installed((DOCUMENTS / "docs" / "OPERATING.md").read_text(encoding="utf-8"))
+    ports = (*PAGE_PORTS, "8180", "8181", "8182")
+    run_session(runbook, "From the start to the end", ports, here).check(LEAST_OF_RUNBOOK)
+
+
 def examples() -> None:
     """The examples of the package run from where it puts them, and write nothing there."""
     folder = DOCUMENTS / "examples"
@@ -433,4 +448,4 @@ def session() -> None:
 
 
 if __name__ == "__main__":
-    run("package_session", [commands, variables_of_the_c_library, session, examples])
+    run("package_session", [commands, variables_of_the_c_library, session, pages, examples])

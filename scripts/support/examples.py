@@ -5,7 +5,8 @@ import subprocess
 import sys
 from collections.abc import Mapping
 
-from support.switch import LISTENING, PROGRAM
+from support import PROGRAM
+from support.switch import LISTENING
 
 
 def start_switch(

@@ -10,11 +10,11 @@ import time
 from collections.abc import Callable
 from typing import NamedTuple
 
-from support import TOP, clients, processes
+from support import PROGRAM, TOP, clients, processes
 from support.checks import check, comes
 from support.plans import Plan
 from support.ports import free_ports
-from support.switch import LISTENING, PROGRAM, words_of_serve
+from support.switch import LISTENING, words_of_serve
 
 # isort: split; `support` tells where the tools' package is
 from bg_switch_tools.switch.connection import Unreachable, ask

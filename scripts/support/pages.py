@@ -1,6 +1,7 @@
 """The commands of a page of the documents, run from its own text in one shell."""
 import contextlib
 import os
+import pathlib
 import re
 import signal
 import subprocess
@@ -8,9 +9,9 @@ import tempfile
 from collections.abc import Mapping, Sequence
 from typing import IO, NamedTuple
 
+from support import PROGRAM
 from support.checks import check, comes, fail
 from support.ports import free_ports, is_refused
-from support.switch import PROGRAM
 
 WAIT = 80  # seconds until a shell that was killed has ended
 END_OF_BLOCK = "-- end of block --"
@@ -34,15 +35,26 @@ def with_places(page: str, ports: dict[str, str], folder: str) -> str:
     return moved.replace(FOLDER, folder)
 
 
-class Limits(NamedTuple):
-    """How long a session may take, in seconds, and the variables of the environment that it has
-    beside those of the script."""
+def as_installed(page: str) -> str:
+    """The page with the names that the commands have in the package."""
+    page = re.sub(r"\bbin/(operator|controller|analysis|dashboard|fleet)\b", r"bg-\1", page)
+    return re.sub(r"\bbin/(bgctl|bg_switch)\b", r"\1", page)
+
+
+class Surroundings(NamedTuple):
+    """How long a session may take, in seconds; the variables of the environment that it has beside
+    those of the script; the folder in which it runs, the script's own where none is named; and
+    whether the machine is its own, so that it can use the page's ports."""
 
     longest: float = 80.0
     variables: Mapping[str, str] = {}
+    folder: pathlib.Path | None = None
+    is_alone: bool = False
 
 
-def run_script(script: str, printed: IO[str], ports: Sequence[str], limits: Limits) -> list[str]:
+def run_script(
+    script: str, printed: IO[str], ports: Sequence[str], around: Surroundings
+) -> list[str]:
     """Runs a script in a shell; what it leaves running is ended. Gives the ports that still listen
     after it; none where it does not end."""
     shell = subprocess.Popen(
@@ -50,14 +62,15 @@ def run_script(script: str, printed: IO[str], ports: Sequence[str], limits: Limi
         stdin=subprocess.DEVNULL,
         stdout=printed,
         start_new_session=True,
-        env={**os.environ, **limits.variables},
+        cwd=around.folder,
+        env={**os.environ, **around.variables},
     )
-    has_ended = comes(lambda: shell.poll() is not None, limits.longest)
+    has_ended = comes(lambda: shell.poll() is not None, around.longest)
     if not has_ended:
         printed.seek(0)
         fail(
             "the session",
-            f"it doesn't end in {limits.longest:g} seconds, and has printed at last {printed.read()[-300:]!r}",
+            f"it doesn't end in {around.longest:g} seconds, and has printed at last {printed.read()[-300:]!r}",
         )
     # what was told to end may take a moment
     listening = [port for port in ports if has_ended and not is_refused(int(port))]
@@ -88,17 +101,20 @@ class Session(NamedTuple):
         check("what still listens after the session", self.listening, [])
 
 
-def run_session(page: str, title: str, ports: Sequence[str], limits: Limits = Limits()) -> Session:
+def run_session(
+    page: str, title: str, ports: Sequence[str], around: Surroundings = Surroundings()
+) -> Session:
     """Runs the blocks of a section one after the other in one shell, with other ports and another
     folder."""
-    places = dict(zip(ports, map(str, free_ports(len(ports)))))
+    chosen = ports if around.is_alone else map(str, free_ports(len(ports)))
+    places = dict(zip(ports, chosen))
     with tempfile.TemporaryDirectory() as folder, tempfile.TemporaryFile(
         "w+", encoding="utf-8"
     ) as printed:
         blocks = blocks_of(with_places(page, places, folder), title)
         script = "".join(f"{block}\necho '{END_OF_BLOCK}'\n" for block in blocks)
         listening = run_script(
-            script.replace("bin/bg_switch ", f"{PROGRAM} "), printed, list(places.values()), limits
+            script.replace("bin/bg_switch ", f"{PROGRAM} "), printed, list(places.values()), around
         )
         printed.seek(0)
         return Session(blocks, printed.read().split(f"{END_OF_BLOCK}\n")[:-1], listening)

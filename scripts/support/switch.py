@@ -7,15 +7,13 @@ import threading
 from collections.abc import Callable, Iterator, Mapping, Sequence
 from typing import NamedTuple
 
-from support import TOP, clients, processes
+from support import PROGRAM, clients, processes
 from support.checks import check, comes, fail
 from support.endpoints import Endpoint, by_target
 from support.messages import BY_HAND, ROLLOUT
 from support.operators import Operator
 from support.ports import free_ports
 
-# Another program can be tried by hand in its place.
-PROGRAM = os.environ.get("BG_SWITCH_PROGRAM", str(TOP / "bin" / "bg_switch"))
 TIMEOUT_VARIABLE = "BG_SWITCH_PATIENCE_SECONDS"
 LISTENING = "listening\n"
 # The usual limit of a system, which holds whatever the script itself may have. The program raises

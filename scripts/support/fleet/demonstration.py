@@ -12,7 +12,7 @@ import threading
 from collections.abc import Mapping
 from typing import Any, NamedTuple
 
-from support import TOP
+from support import PROGRAM, TOP
 from support.checks import comes
 from support.fleet.client import PAUSE, ask
 from support.fleet.hosts import Address, free_addresses, free_block
@@ -21,7 +21,7 @@ from support.fleet.programs import Programs
 from support.fleet.recording import Answered
 from support.ports import is_open
 from support.processes import run_to_end
-from support.switch import PROGRAM, words_of_serve
+from support.switch import words_of_serve
 
 HOSTS = ("web-1", "web-2", "web-3")
 REVISIONS = ("web-v1", "web-v2", "web-v3")

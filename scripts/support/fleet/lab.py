@@ -11,7 +11,7 @@ import time
 from collections.abc import Callable, Iterator, Sequence
 from types import FrameType
 
-from support import TOP
+from support import PROGRAM, TOP
 from support.checks import comes
 from support.fleet.analysis import bad_file, hold_file
 from support.fleet.etcd_client import EtcdClient, NoAnswer, Recorder, write_rows
@@ -29,7 +29,7 @@ from support.fleet.recording import (
 from support.fleet.seen import Seen
 from support.fleet.servers import etcd_words, haproxy_words, nginx_words
 from support.processes import Run, run_to_end
-from support.switch import PROGRAM, words_of_serve
+from support.switch import words_of_serve
 
 NEEDED = ("etcd", "haproxy", "nginx")
 FLEET = "web"
