@@ -41,10 +41,8 @@ HOSTILE_NAME = "<img/src=x/onerror=window.taken=1><script>window.taken=1</script
 REBOUND = "rebound.example"
 DEMONSTRATION = TOP / "examples" / "live" / "bad_revision.py"
 LONGEST_DEMONSTRATION = 100
-MANY, SWITCHES = (
-    15,
-    8,
-)  # revisions of a page that is full, and switches of the active service among them
+# revisions of a page that is full, and switches of the active service among them
+MANY, SWITCHES = (15, 8)
 OUTLIER = 20_000.0  # milliseconds of one request, of which the others take 4
 
 

@@ -21,10 +21,8 @@ AWAY = 20.0  # seconds until a lease of 10 seconds has ended, also where etcd ha
 NO_ANSWER = 4  # the exit status of bin/fleet where etcd gives no answer
 PACKAGES = "apt-get install etcd-server haproxy nginx"
 LAST_LINES = 150  # of a log that is shown where a check has failed
-LEAST_REQUESTS, LEAST_LOOKS = (
-    1000,
-    300,
-)  # of a whole session: fewer are a recording that shows nothing
+# of a whole session: fewer are a recording that shows nothing
+LEAST_REQUESTS, LEAST_LOOKS = (1000, 300)
 
 
 def check_end(session: Session, name: str, number: int, stage: str) -> None:

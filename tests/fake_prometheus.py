@@ -17,9 +17,8 @@ from tests.fake_port import free_port
 from tests.tool_runs import WAIT, comes
 
 HOST = "127.0.0.1"
-Answer = Callable[
-    [str], tuple[int, bytes]
-]  # the status and the body for a query, or for a path that is read
+# the status and the body for a query, or for a path that is read
+Answer = Callable[[str], tuple[int, bytes]]
 
 
 def vector(*values: str) -> bytes:

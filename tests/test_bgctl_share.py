@@ -126,11 +126,8 @@ class Share(unittest.TestCase):
         for line in ("open web-v1 1 2", "deploy web-v2 3 4"):
             switch.book.answer(line)
         port = str(switch.port)
-        phases = [
-            "preAnalysis",
-            "paused",
-            "postAnalysis",
-        ]  # bash completes what stands behind the sign
+        # bash completes what stands behind the sign
+        phases = ["preAnalysis", "paused", "postAnalysis"]
         for line, expected in (
             ("bgctl undo --to w", ["web-v1", "web-v2"]),
             ("bgctl promote web-v2", ["web-v2"]),

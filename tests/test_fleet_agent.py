@@ -142,9 +142,8 @@ class Freshness(FleetCase):
         self.time += 60
         self.agent.read()
         self.assertEqual(self.line(report("postAnalysis", "web-v1", "web-v2")), "abort")
-        self.assertIsNone(
-            self.line(report("paused", "web-v1", "web-v3"))
-        )  # a person's, who may have no other way
+        # a person's, who may have no other way
+        self.assertIsNone(self.line(report("paused", "web-v1", "web-v3")))
 
     def test_the_store_is_told_once(self) -> None:
         self.agent.read()

@@ -293,9 +293,8 @@ class Undone(Plans):
         self.check_undone(
             "web-v1 is deployed again: the plan before names it too", ["web-v3", "web-v2", "web-v1"]
         )
-        self.assertEqual(
-            json.loads(self.text())["health"], {"path": "/health"}
-        )  # the rest of the plan stays
+        # the rest of the plan stays
+        self.assertEqual(json.loads(self.text())["health"], {"path": "/health"})
 
     def test_an_undo_of_an_undo(self) -> None:
         self.put_plan(V1, V2)

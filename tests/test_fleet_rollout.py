@@ -20,9 +20,8 @@ def rollout(**settings: object) -> bytes:
 class Rollouts(unittest.TestCase):
     def test_one_that_fits(self) -> None:
         self.assertEqual(rollout_faults(rollout(), True), [])
-        self.assertEqual(
-            rollout_faults(rollout(autoPromotionSeconds=5), True), []
-        )  # without effect while it is not enabled
+        # without effect while it is not enabled
+        self.assertEqual(rollout_faults(rollout(autoPromotionSeconds=5), True), [])
         self.assertEqual(rollout_faults(rollout(prePromotionAnalysis="left out"), False), [])
 
     def test_one_that_promotes_by_itself(self) -> None:

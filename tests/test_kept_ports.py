@@ -413,9 +413,8 @@ class ByHand(KeptPorts):
             "revision 2 web-v2 is stable and was not deployed by the plan, so its ports are not known: a switch that is "
             "started again would be opened with web-v1"
         )
-        for endpoint in self.endpoints[
-            "web-v3"
-        ]:  # they are those of the plan alone, so no outage comes of it
+        # they are those of the plan alone, so no outage comes of it
+        for endpoint in self.endpoints["web-v3"]:
             endpoint.stop()
         probes = self.runner.controller.probes
         self.assertTrue(comes(lambda: all(probes.is_down(port) for port in self.ports("web-v3"))))

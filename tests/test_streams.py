@@ -133,9 +133,8 @@ class Signals(unittest.TestCase):
             ]
 
             def take_signals() -> None:
-                signal.signal(
-                    signal.SIGINT, signal.SIG_DFL
-                )  # a job in the background would ignore it
+                # a job in the background would ignore it
+                signal.signal(signal.SIGINT, signal.SIG_DFL)
 
             process = subprocess.Popen(
                 words, stdout=subprocess.PIPE, stderr=subprocess.PIPE, preexec_fn=take_signals

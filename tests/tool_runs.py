@@ -22,9 +22,8 @@ from support.processes import Run, run_to_end
 from tests.fake_switch import FakeSwitch
 
 TOP = pathlib.Path(__file__).resolve().parents[1]
-TOOLS = pathlib.Path(
-    os.environ.get("BG_SWITCH_TOOLS", str(TOP / "bin"))
-)  # other tools can be tried in their place
+# other tools can be tried in their place
+TOOLS = pathlib.Path(os.environ.get("BG_SWITCH_TOOLS", str(TOP / "bin")))
 WAIT = 60.0  # seconds for which anything is awaited
 
 

@@ -129,8 +129,18 @@ class Traffic:
 class Program:
     """A program that is killed and started again. What it prints is kept."""
 
-    def __init__(self, words: list[str], given: str, first: str, folder: str) -> None:
+    def __init__(
+        self,
+        words: list[str],
+        given: str,
+        first: str,
+        folder: str,
+        longest: float = processes.LONGEST,
+    ) -> None:
+        """Starts it with this standard input, and waits for its first line where one is named. Each
+        of its processes runs for so many seconds at most."""
         self.words, self.given, self.first, self.folder = words, given, first, folder
+        self.longest = longest
         self.lines: list[str] = []
         self.start()
 
@@ -138,7 +148,7 @@ class Program:
         self.process = subprocess.Popen(
             self.words, stdin=subprocess.PIPE, stdout=subprocess.PIPE, text=True, cwd=self.folder
         )
-        processes.limit(self.process)
+        processes.limit(self.process, self.longest)
         if self.process.stdin is None or self.process.stdout is None:
             raise OSError("no pipes")
         with self.process.stdin:

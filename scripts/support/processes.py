@@ -35,11 +35,11 @@ def run_to_end(words: Sequence[str], given: str = "", longest: float = LONGEST) 
     return Run(run.stdout, run.stderr, run.returncode)
 
 
-def limit(process: subprocess.Popen[str]) -> None:
+def limit(process: subprocess.Popen[str], longest: float = LONGEST) -> None:
     """Ends a process after a while, and with this script, so that whoever waits for it fails and
     doesn't hang."""
     atexit.register(process.kill)
-    at_the_limit(LONGEST, process.kill)
+    at_the_limit(longest, process.kill)
 
 
 def stop(process: subprocess.Popen[str]) -> None:

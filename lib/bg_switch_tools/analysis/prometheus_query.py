@@ -52,9 +52,8 @@ def _cut_after(connection: http.client.HTTPConnection, wait: float) -> Iterator[
     and then. The event says whether it was cut."""
     was_cut = threading.Event()
     connection.connect()
-    connected: socket.socket = (
-        connection.sock
-    )  # which the connection gives away with the head of an answer
+    # which the connection gives away with the head of an answer
+    connected: socket.socket = connection.sock
 
     def cut() -> None:
         was_cut.set()

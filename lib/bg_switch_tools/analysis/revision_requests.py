@@ -58,9 +58,8 @@ class ByNeighbours:
         self.latest: dict[
             str, tuple[float, int]
         ] = {}  # by the service: when its latest request began, and its revision
-        self.held: dict[str, list[LogEntry]] = {
-            service: [] for service in CLIENT_SERVICES
-        }  # before the first request
+        # before the first request
+        self.held: dict[str, list[LogEntry]] = {service: [] for service in CLIENT_SERVICES}
 
     def take(self, entries: Sequence[LogEntry], number: int) -> list[LogEntry]:
         """Those of these entries that are the revision's, and those held before which turn out to
@@ -87,9 +86,8 @@ class ByNeighbours:
         known = self.latest.get(entry.service)
         if known is None:
             held = self.held[entry.service]
-            held.append(
-                held[0] if held else entry
-            )  # the first one stands for each: all are judged alike, and many can come
+            # the first one stands for each: all are judged alike, and many can come
+            held.append(held[0] if held else entry)
             return ()
         return (entry,) if known[1] == number else ()
 

@@ -15,10 +15,8 @@ from bg_switch_tools.controller.process_groups import Group, begin_end, is_runni
 from bg_switch_tools.controller.state_file import HeldBack
 from bg_switch_tools.switch.reports import Report
 
-FIRST_PAUSE, LONGEST_PAUSE = (
-    1.0,
-    60.0,
-)  # seconds until a command is run again; each time they double
+# seconds until a command is run again; each time they double
+FIRST_PAUSE, LONGEST_PAUSE = (1.0, 60.0)
 MOST_AT_ONCE = 16  # commands that run at a time
 GRACE = 5.0  # seconds between SIGTERM and SIGKILL for a command that took too long
 LAST_GRACE = 0.5  # the same where the controller ends

@@ -27,9 +27,8 @@ class EditLock:
     def __enter__(self) -> None:
         """Waits for the lock. `EditGoesOn` after `longest` seconds; `OSError` where the folder
         takes no file."""
-        self.descriptor = os.open(
-            self.path, os.O_RDONLY | os.O_CREAT | os.O_CLOEXEC, 0o644
-        )  # a lock needs no right to write
+        # a lock needs no right to write
+        self.descriptor = os.open(self.path, os.O_RDONLY | os.O_CREAT | os.O_CLOEXEC, 0o644)
         deadline = time.monotonic() + self.longest
         while not self._is_taken():
             if time.monotonic() >= deadline:

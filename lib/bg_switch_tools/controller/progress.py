@@ -1,10 +1,8 @@
 """Whether an attempt makes progress, as Argo Rollouts' `progressDeadlineSeconds` asks."""
 from bg_switch_tools.switch.reports import Report
 
-WAITS = (
-    "scaling",
-    "sizing",
-)  # the phases that wait for endpoints; a pause and an analysis do not count
+# the phases that wait for endpoints; a pause and an analysis do not count
+WAITS = ("scaling", "sizing")
 
 
 class ProgressClock:

@@ -5,10 +5,8 @@ from bg_switch_tools.controller.plan_reader import LARGEST
 from bg_switch_tools.switch.json_values import JsonObject, decoded
 
 STRATEGY = "spec.strategy"
-ANALYSES = {
-    "pre": "prePromotionAnalysis",
-    "post": "postPromotionAnalysis",
-}  # by the key in the plan: that in the Rollout
+# by the key in the plan: that in the Rollout
+ANALYSES = {"pre": "prePromotionAnalysis", "post": "postPromotionAnalysis"}
 
 
 def _member(told: object, *keys: str) -> object:

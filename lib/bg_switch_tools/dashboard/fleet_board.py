@@ -70,9 +70,8 @@ class FleetBoard:
     ) -> None:
         self.fleet = fleet
         self.now, self.unix_time = now, unix_time
-        self.session = secrets.token_hex(
-            8
-        )  # by which a page notices that another dashboard has taken the place
+        # by which a page notices that another dashboard has taken the place
+        self.session = secrets.token_hex(8)
         self.state: FleetState | None = (
             None  # of the latest read that was answered; None before the first one
         )
@@ -83,11 +82,8 @@ class FleetBoard:
         self.own_fault = ""  # what has ended the last look, where it was not expected
         self.own_faults = 0
         self.seen = Seen()
-        self.leaders: dict[
-            int, str
-        ] = (
-            {}
-        )  # hosts by the `created` revision of the leader's key, those that were seen first first
+        # hosts by the `created` revision of the leader's key, those that were seen first first
+        self.leaders: dict[int, str] = {}
         self.failed_at = ""  # the stage in which the attempt was aborted, where that was seen
         self.happened: list[FleetHappening] = []
         self.next_id = 1

@@ -7,11 +7,8 @@ from bg_switch_tools.fleet.record import ABORTED, PROMOTING, SUCCESSFUL
 from bg_switch_tools.fleet.status import FleetStatus, MemberStatus
 from bg_switch_tools.fleet.status_text import attempt_title
 
-KINDS = {
-    ABORTED: "abort",
-    PROMOTING: "switch",
-    SUCCESSFUL: "switch",
-}  # of changes to a stage; `change` for others
+# of changes to a stage; `change` for others
+KINDS = {ABORTED: "abort", PROMOTING: "switch", SUCCESSFUL: "switch"}
 
 
 class FleetChange(NamedTuple):

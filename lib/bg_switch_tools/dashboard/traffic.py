@@ -10,10 +10,8 @@ from bg_switch_tools.switch.access_log import LogEntry
 SLOT = 2  # seconds that are counted together
 KEPT = 600  # seconds
 RECENT = 30  # seconds of which the present rates are told
-LEAST, FACTOR = (
-    0.05,
-    1.05,
-)  # of the bins of durations: the end of the first one in milliseconds, and the step between two
+# of the bins of durations: the end of the first one in milliseconds, and the step between two
+LEAST, FACTOR = (0.05, 1.05)
 NO_ANSWER = "none"
 CLASSES = ("1xx", "2xx", "3xx", "4xx", "5xx", NO_ANSWER)
 ERRORS = ("5xx", NO_ANSWER)

@@ -40,9 +40,8 @@ FIELDS = {"Grpc-Metadata-hasleader": "true", "Accept": "application/json"}
 LONGEST_PASSWORD = 4096  # bytes
 Value = TypeVar("Value")
 Message = Mapping[str, object]
-Reader = Callable[
-    [JsonObject], Value
-]  # of an answer; it raises `NoAnswer` where the answer can't be read
+# of an answer; it raises `NoAnswer` where the answer can't be read
+Reader = Callable[[JsonObject], Value]
 
 
 class EtcdSettings(NamedTuple):

@@ -13,9 +13,8 @@ from bg_switch_tools.switch.json_values import GREATEST_PORT
 TEXT = re.compile(
     r"(?:\[([0-9A-Fa-f:.]{2,45})\]|([A-Za-z0-9_](?:[A-Za-z0-9._-]{0,251}[A-Za-z0-9_])?)):([1-9][0-9]{0,4})"
 )
-Address = tuple[
-    socket.AddressFamily, socket.SocketKind, int, str, Any
-]  # as the system's lookup gives it
+# as the system's lookup gives it
+Address = tuple[socket.AddressFamily, socket.SocketKind, int, str, Any]
 Addresses = Sequence[Address]
 
 

@@ -9,10 +9,8 @@ def _before(plan: FleetPlan, record: Record, is_waiting: bool) -> PlannedRevisio
     """The revision that was stable before the newest one. The newest one is that of the plan where
     it waits, and else that of the attempt. `Refused` where it can't be told."""
     newest = plan.last if is_waiting else record.revision
-    for stable in (
-        record.fleet_stable,
-        record.stable,
-    ):  # the record of an attempt that was successful keeps the one before
+    # the record of an attempt that was successful keeps the one before
+    for stable in (record.fleet_stable, record.stable):
         if stable.name != newest.name:
             return stable
     others = [revision for revision in plan.revisions if revision.name != newest.name]

@@ -190,9 +190,8 @@ class Conditions:
         """`WrongCondition` where a text is none."""
         self.texts = list(texts)
         self.conditions = [read_condition(text) for text in texts]
-        self.revisions = {
-            each.name for each in self.conditions if isinstance(each, ServiceIs)
-        }  # whose deploy is awaited
+        # whose deploy is awaited
+        self.revisions = {each.name for each in self.conditions if isinstance(each, ServiceIs)}
         self.newest = [
             each.name
             for each in self.conditions

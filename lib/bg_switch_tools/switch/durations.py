@@ -5,12 +5,8 @@ import math
 
 from bg_switch_tools.switch.arguments import LONGEST, number_of, share_of
 
-UNITS = (
-    ("ms", 0.001),
-    ("s", 1.0),
-    ("m", 60.0),
-    ("h", 3600.0),
-)  # of durations, in seconds; `ms` is tried before `s` and `m`
+# of durations, in seconds; `ms` is tried before `s` and `m`
+UNITS = (("ms", 0.001), ("s", 1.0), ("m", 60.0), ("h", 3600.0))
 
 
 def duration_of(text: str) -> float:

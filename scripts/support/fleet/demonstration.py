@@ -25,15 +25,10 @@ from support.switch import words_of_serve
 
 HOSTS = ("web-1", "web-2", "web-3")
 REVISIONS = ("web-v1", "web-v2", "web-v3")
-PACKAGES = {
-    "etcd": "etcd-server",
-    "haproxy": "haproxy",
-    "curl": "curl",
-}  # by the program: Debian's package
-SYSTEM_FOLDERS = (
-    "/usr/sbin",
-    "/sbin",
-)  # where Debian has programs that are not on the path of users
+# by the program: Debian's package
+PACKAGES = {"etcd": "etcd-server", "haproxy": "haproxy", "curl": "curl"}
+# where Debian has programs that are not on the path of users
+SYSTEM_FOLDERS = ("/usr/sbin", "/sbin")
 # The addresses that the files have, and the ports of their revisions.
 MACHINES = {"web-1": "10.0.0.21:443", "web-2": "10.0.0.22:443", "web-3": "10.0.0.23:443"}
 PORTS = {"web-v1": (9101, 9102), "web-v2": (9201, 9202), "web-v3": (9301, 9302)}

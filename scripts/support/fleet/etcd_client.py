@@ -118,9 +118,8 @@ class EtcdClient:
 
     def _history(self, end: float) -> list[Event]:
         last = self.revision()
-        marker = self.put(
-            "drill/end-of-history", ""
-        )  # the watch has all changes before it once it has this one
+        # the watch has all changes before it once it has this one
+        marker = self.put("drill/end-of-history", "")
         for endpoint in list(self.endpoints):
             found: list[Event] = []
             with contextlib.suppress(OSError, ValueError, http.client.HTTPException):

@@ -115,11 +115,8 @@ class Lab:
         self.broken: dict[tuple[str, str], float] = {}  # by fault and host: since when
         self.outages: list[Outage] = []
         self.recorder: Recorder | None = None
-        self.failures: list[
-            str
-        ] = (
-            []
-        )  # of programs, up to the recording: what has ended by itself, or has told of an exception
+        # of programs, up to the recording: what has ended by itself, or has told of an exception
+        self.failures: list[str] = []
 
     def __enter__(self) -> "Lab":
         self.previous = signal.signal(signal.SIGTERM, self._interrupt)

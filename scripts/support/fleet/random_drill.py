@@ -25,14 +25,10 @@ REST = (0.5, 3.0)  # seconds from the end of an attempt to the next plan
 MIDDLE = (0.3, 5.0)  # seconds from a plan to the next one that comes in the middle of its attempt
 SETTLING = 90.0  # seconds after the last fault in which the fleet has to settle
 AIMING = 40.0  # seconds for which a person waits for `promoting`, to abort
-LATE = (
-    0.1,
-    1.4,
-)  # seconds for which a switch is late then: a promote must not rest on a read that is older than one
-ON_ITS_WAY = (
-    0.0,
-    0.25,
-)  # seconds from the beginning of `promoting` to the abort: agents read the one, and not the other
+# seconds for which a switch is late then: a promote must not rest on a read that is older than one
+LATE = (0.1, 1.4)
+# seconds from the beginning of `promoting` to the abort: agents read the one, and not the other
+ON_ITS_WAY = (0.0, 0.25)
 GOOD, BAD_BEFORE, BAD_AFTER = "plans good", "plans bad before", "plans bad after"
 PROMOTE, ABORT, AIMED_ABORT, RETRY, UNDO = (
     "promotes ordered",
