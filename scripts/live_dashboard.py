@@ -43,6 +43,8 @@ DEMONSTRATION = TOP / "examples" / "live" / "bad_revision.py"
 LONGEST_DEMONSTRATION = 100
 # revisions of a page that is full, and switches of the active service among them
 MANY, SWITCHES = (15, 8)
+# of these revisions: those that had no request for so many seconds
+SILENT, SILENT_FOR = (5, 35)
 OUTLIER = 20_000.0  # milliseconds of one request, of which the others take 4
 
 
@@ -341,8 +343,8 @@ def crowded_report(active: int) -> list[str]:
 
 
 def fill_log(log: GrowingLog) -> None:
-    """Requests of each revision in each of the last seconds, and one that took much longer than all
-    others."""
+    """Requests of each revision in each of the last seconds, of the last ones up to half a minute
+    ago only, and one request that took much longer than all others."""
     now = time.time()
     for second in range(50, 0, -1):
         log.add(
@@ -350,7 +352,7 @@ def fill_log(log: GrowingLog) -> None:
                 ANSWERED._replace(
                     time=now - second, revision=number, status=500 if number == 2 else 200
                 )
-                for number in range(1, MANY + 1)
+                for number in range(1, MANY + 1 if second > SILENT_FOR else MANY - SILENT + 1)
                 for _ in range(3)
             ]
         )
@@ -387,6 +389,17 @@ def crowded(browser: Browser) -> None:
             check("texts of marks that overlap", browser.run(OVERLAPS), 0)
             check("colours", browser.run(COLOURS), MANY)
             check_shown("a legend of errors", browser, "#requests .key", "5xx", "no answer", "4xx")
+            for chart in ("#requests", "#durations"):
+                check_shown(
+                    f"revisions that the legend leaves out, {chart}",
+                    browser,
+                    f"{chart} .legend",
+                    f"{SILENT} revisions without a request then",
+                )
+                shown = browser.run(
+                    f"return document.querySelectorAll('{chart} .legend .name').length"
+                )
+                check(f"revisions that the legend names, {chart}", shown, MANY - SILENT)
             tick = browser.run(GREATEST_TICK)
             assert isinstance(tick, (int, float))
             check("an axis that one outlier does not flatten", (tick < 100) or tick, True)
@@ -490,6 +503,22 @@ def hostile_names(browser: Browser) -> None:
         picture(browser, "9-hostile-name")
 
 
+def without_rights(browser: Browser) -> None:
+    """A dashboard whose user the switch does not serve knows nothing of a book."""
+    with FakePort(lambda _: ["refused NotAllowed"], free_port()) as control, showing(
+        control.port, free_port()
+    ) as address:
+        open_page(browser, address)
+        check_shown("no state is told", browser, "#phase-name", "The state is not known")
+        check_shown("the reason", browser, "body", "takes no lines of this user")
+        check_shown("what to do is not told", browser, "#waits-for", "")
+        names = browser.run(
+            "return [...document.querySelectorAll('table')].filter((table) => !table.ariaLabelledByElements?.length"
+            " && !document.getElementById(table.getAttribute('aria-labelledby'))).length"
+        )
+        check("tables without a name", names, 0)
+
+
 def in_a_browser() -> None:
     """What is read off the page."""
     if why := missing():
@@ -497,7 +526,7 @@ def in_a_browser() -> None:
         return
     try:
         with browsing(free_port(), (f"--host-resolver-rules=MAP {REBOUND} {HOST}",)) as browser:
-            for part in (rollout, tricks, hostile_names, outage, crowded, fleet):
+            for part in (rollout, tricks, hostile_names, without_rights, outage, crowded, fleet):
                 part(browser)
             print(f"pictures of the page are in {PICTURES}")
     except NoBrowser as reason:

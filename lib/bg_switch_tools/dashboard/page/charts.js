@@ -197,15 +197,21 @@ class Chart {
     return this.told.slots.find((slot) => slot.begins === this.looked);
   }
 
+  // A revision's value in the last 30 seconds, or in the slot that is looked at; null where it has no request there.
+  shownOf(name) {
+    if (this.looked === null) return this.told.recent[name] ? this.recent(this.told.recent[name]) : null;
+    const slot = this.slot(), cell = slot && slot.cells.find((each) => each.revision === name);
+    return cell ? this.value(cell) : null;
+  }
+
+  // The revisions that have a request then, each with its value, and how many others the chart shows.
   entries() {
-    const when = this.looked === null ? "last 30 s" : clock(this.looked);
-    const slot = this.slot(), names = revisionsIn(this.told.slots);
-    const made = names.map((name) => {
-      const cell = slot && slot.cells.find((each) => each.revision === name);
-      const value = this.looked === null ? this.recent(this.told.recent[name]) : this.value(cell);
-      return element("li", {}, chip(name), span("name", titleOf(name)), span("value", value));
-    });
-    return [element("li", {class: "when", text: names.length ? when : "no requests yet"}), ...made];
+    const when = this.looked === null ? "last 30 s" : clock(this.looked), names = revisionsIn(this.told.slots);
+    const shown = names.filter((name) => this.shownOf(name) !== null), others = names.length - shown.length;
+    const made = shown.map((name) =>
+      element("li", {}, chip(name), span("name", titleOf(name)), span("value", this.shownOf(name))));
+    const rest = others ? [element("li", {class: "others", text: `${others} ${others === 1 ? "revision" : "revisions"} without a request then`})] : [];
+    return [element("li", {class: "when", text: names.length ? when : "no requests yet"}), ...made, ...rest];
   }
 }
 
@@ -242,11 +248,10 @@ export class RequestsChart extends Chart {
   }
 
   recent(told) {
-    return told ? `${rate(told.requests_per_second)} /s, ${percent(told.errors)} errors` : "none";
+    return `${rate(told.requests_per_second)} /s, ${percent(told.errors)} errors`;
   }
 
   value(cell) {
-    if (!cell) return "none";
     const parts = PARTS.slice(1).map((part) => [part.title, sum(cell.counts, part.classes)]).filter(([, count]) => count > 0);
     const told = parts.map(([title, count]) => `${rate(count / this.told.seconds)} /s ${title}`);
     return [`${rate(total(cell.counts) / this.told.seconds)} /s`, ...told].join(", ");
@@ -281,10 +286,10 @@ export class DurationsChart extends Chart {
   }
 
   recent(told) {
-    return told ? `p50 ${milliseconds(told.p50)}, p99 ${milliseconds(told.p99)}` : "none";
+    return `p50 ${milliseconds(told.p50)}, p99 ${milliseconds(told.p99)}`;
   }
 
   value(cell) {
-    return cell ? `p50 ${milliseconds(cell.p50)}, p99 ${milliseconds(cell.p99)}` : "none";
+    return `p50 ${milliseconds(cell.p50)}, p99 ${milliseconds(cell.p99)}`;
   }
 }

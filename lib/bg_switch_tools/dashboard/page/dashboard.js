@@ -109,13 +109,14 @@ function newest() {
 function showAttempt() {
   const report = state.report, phase = report ? report.phase : "";
   setText("control", `at port ${state.control}`);
-  const isAlarmed = state.alarms.length > 0, name = report ? PHASES[phase] : "No book is open yet";
-  document.title = `${isAlarmed ? "no endpoint is up" : report ? name : "no book"} – bg_switch ${state.control}`;
+  const none = state.switch.answers ? "No book is open yet" : "The state is not known";
+  const isAlarmed = state.alarms.length > 0, name = report ? PHASES[phase] : none;
+  document.title = `${isAlarmed ? "no endpoint is up" : report ? name : state.switch.answers ? "no book" : "no answer"} – bg_switch ${state.control}`;
   byId("attempt").dataset.phase = phase;
   byId("attempt").toggleAttribute("data-alarm", isAlarmed);
   setText("phase-name", isAlarmed ? `${name}, and no endpoint is up` : name);
   setText("phase-of", report ? titleOf(newest().name) : "");
-  setText("waits-for", report ? state.waits_for : "bin/operator sends open, or bin/controller does");
+  setText("waits-for", report ? state.waits_for : state.switch.answers ? "bin/operator sends open, or bin/controller does" : "");
   setText("moment", report ? `moment ${report.moment}` : "");
   const told = JSON.stringify(state.steps), list = byId("steps");
   if (list.dataset.told !== told) {
