@@ -2,6 +2,7 @@
 and the revision is taken back; by the access log alone, by reports of the switch, and by
 Prometheus."""
 import contextlib
+import json
 import pathlib
 import shutil
 import subprocess
@@ -10,6 +11,7 @@ import tempfile
 from collections.abc import Iterator
 
 from support import TOP, checks
+from support.browser import NoBrowser, browsing
 from support.checks import check, comes
 from support.dashboards import failing, missing, showing
 from support.endpoints import Endpoint
@@ -206,5 +208,83 @@ def by_prometheus() -> None:
                 )
 
 
+NAMED = (
+    ("latency", "echo measures; exec sleep 600"),
+    ("errors", "exec {} --log {} {}"),
+)  # two analyses of a plan, of which the second one fails
+SHOWN = (
+    "analysis post errors",
+    "failed",
+    "errors are above 1%",
+    "analysis post latency",
+    "stopped",
+)
+
+
+def page_shows(port: int, plan: Plan) -> None:
+    """A browser shows each result on the page of the dashboard."""
+    if why := missing():
+        print(f"live_analysis: the page is not looked at: {why}")
+        return
+    try:
+        with showing(port, free_port(), "--plan", plan.path) as address, browsing(
+            free_port()
+        ) as browser:
+            browser.open(address)
+            shown = browser.shows("#analyses", *SHOWN)
+            check("the page shows each result", shown or browser.text("#analyses"), True)
+            check("it names no other one", browser.text("#analyses").count("analysis post "), 2)
+            check("it has no complaint", browser.complaints(), [])
+    except NoBrowser as reason:
+        print(f"live_analysis: the page is not looked at: {reason}")
+
+
+def several_in_a_plan() -> None:
+    """Two analyses after the switch, of which one fails: the revision goes back, the other one is
+    ended, and the log, the history and the page name which has failed."""
+    with logged_switch() as played:
+        played.endpoints["web-v2"].stop()
+        Endpoint(failing(b"web-v2", 3), played.ports["web-v2"])
+        texts = {name: text.format(ANALYSIS, played.log, " ".join(LIMITS)) for name, text in NAMED}
+        post = [{"name": name, "command": ["sh", "-c", text]} for name, text in texts.items()]
+        plan = Plan(
+            str(played.folder),
+            played.switch.control,
+            health={"path": "/", "interval": 0.3, "failures": 9},
+            analyses={"post": post},
+        )
+        plan.write([("web-v1", [played.ports["web-v1"]])])
+        with running(played.folder / "controller.log", CONTROLLER, plan.path) as controller:
+            controller.check_says("available 1 1 => ok 0")
+            played.traffic.start()
+            plan.write([(name, [port]) for name, port in played.ports.items()])
+            controller.check_says("verdict post failed => ok")
+            for text in (
+                "latency: measures\n",
+                "errors: analysis of revision 2 web-v2: 1 s: ",
+                "analysis post errors of web-v2: failed: ",
+                "analysis post latency of web-v2 is stopped: errors has failed",
+            ):
+                check(f"the log has {text}", text in controller.text(), True)
+            controller.check_says("phase: postAnalysis -> aborted")
+            check("live traffic is back", ask(played.switch.active).revision, "web-v1")
+            words = [str(TOP / "bin" / "bgctl"), "history", "--json", "--plan", plan.path]
+            told = subprocess.run(words, capture_output=True, text=True, check=False).stdout
+            analyses = json.loads(told.splitlines()[-1]).get("analyses", [])
+            check(
+                "the history names which has failed",
+                [(each["analysis"], each["name"], each["result"]) for each in analyses],
+                [("post", "latency", "stopped"), ("post", "errors", "failed")],
+            )
+            check(
+                "it has its last measurements",
+                ["errors are above 1%" in " ".join(each["last"]) for each in analyses],
+                [False, True],
+            )
+            page_shows(played.switch.control, plan)
+
+
 if __name__ == "__main__":
-    checks.run("live_analysis", [in_a_plan, by_reports, by_prometheus], at_once=3)
+    checks.run(
+        "live_analysis", [in_a_plan, by_reports, by_prometheus, several_in_a_plan], at_once=3
+    )

@@ -27,6 +27,7 @@ from bg_switch_tools.controller.plan import (  # noqa: E402  (the path stands ab
 from bg_switch_tools.controller.plan_reader import (  # noqa: E402
     LEAST_SECONDS,
     LONGEST,
+    MOST_AT_ONCE,
     MOST_FAILURES,
     MOST_REVISIONS,
 )
@@ -61,6 +62,27 @@ def port() -> Schema:
 def command() -> Schema:
     first: Schema = {**WORD, "minLength": 1}
     return {"type": "array", "minItems": 1, "items": [first], "additionalItems": WORD}
+
+
+def commands_of_analysis() -> Schema:
+    """A command, or a list of analyses with names."""
+    named = an_object(
+        {
+            "name": told(
+                "The name of one of several analyses, which all run at the same time; it stands once.",
+                text_of(NAME.pattern),
+            ),
+            "command": told("Its command.", command()),
+        },
+        ("name", "command"),
+    )
+    several: Schema = {
+        "type": "array",
+        "minItems": 1,
+        "maxItems": MOST_AT_ONCE,
+        "items": named,
+    }
+    return {"anyOf": [command(), several]}
 
 
 def text_of(pattern: str) -> Schema:
@@ -130,10 +152,16 @@ def schema() -> Schema:
             "any other status, or a timeout, is an error.",
             an_object(
                 {
-                    "pre": told("The command of the analysis before the switch.", command()),
-                    "post": told("The command of the analysis after the switch.", command()),
+                    "pre": told(
+                        "The command of the analysis before the switch, or a list of analyses, which all have to succeed.",
+                        commands_of_analysis(),
+                    ),
+                    "post": told(
+                        "The command of the analysis after the switch, or a list of analyses, which all have to succeed.",
+                        commands_of_analysis(),
+                    ),
                     "seconds": told(
-                        "Seconds within which an analysis has to end.", seconds(Analyses.seconds)
+                        "Seconds within which each analysis has to end.", seconds(Analyses.seconds)
                     ),
                 }
             ),
@@ -207,6 +235,8 @@ def text() -> str:
 
 def values_told(schema: Any) -> str:
     """The values that a schema takes, in words."""
+    if "anyOf" in schema:
+        return ", or ".join(values_told(each) for each in schema["anyOf"])
     if schema["type"] == "boolean":
         return "`true`, `false`"
     if "minimum" in schema:
@@ -224,14 +254,18 @@ def values_told(schema: Any) -> str:
     return "object" if schema["type"] == "object" else "text"
 
 
+def objects_below(schema: Any) -> Iterator[tuple[str, Any]]:
+    """The objects that a schema takes, each with how a place of its keys goes on."""
+    for each in schema.get("anyOf", [schema]):
+        if each["type"] == "object":
+            yield ".", each
+        elif each["type"] == "array" and isinstance(each["items"], dict):
+            yield from (("[].", below) for _, below in objects_below(each["items"]))
+
+
 def rows(properties: Any, required: Any, place: str = "") -> Iterator[str]:
     """A row for each key, those of an object after its own."""
     for key, schema in properties.items():
-        below = (
-            schema["items"]
-            if schema["type"] == "array" and isinstance(schema["items"], dict)
-            else schema
-        )
         default = (
             "needed"
             if key in required
@@ -240,8 +274,7 @@ def rows(properties: Any, required: Any, place: str = "") -> Iterator[str]:
             else "-"
         )
         yield f"| `{place}{key}` | {schema.get('description', '')} | {values_told(schema)} | {default} |"
-        if below["type"] == "object":
-            sign = "[]." if schema["type"] == "array" else "."
+        for sign, below in objects_below(schema):
             yield from rows(below["properties"], below.get("required", ()), f"{place}{key}{sign}")
 
 

@@ -228,7 +228,7 @@ class Leftovers(Controlled):
         self.begin("sleep 61 & echo $$ $! >> pids; wait")
         run = self.run_controller()
         self.assertTrue(comes(lambda: len(self.pids()) == 2), run.log)
-        self.assertTrue(comes(lambda: StateFile(self.plan.path).read()[0].analysis is not None))
+        self.assertTrue(comes(lambda: StateFile(self.plan.path).read()[0].analyses))
         run.kill()
         self.assertEqual([alive(pid) for pid in self.pids()], [True, True])
         next_one = self.run_controller()
@@ -241,6 +241,25 @@ class Leftovers(Controlled):
         self.assertEqual([alive(pid) for pid in self.pids()], [False, False, True, True])
         next_one.end()
 
+    def test_each_of_several_that_were_left_behind_is_ended(self) -> None:
+        """Before any of them is begun again."""
+        several = [
+            {"name": name, "command": ["sh", "-c", f"echo $$ >> pids; exec sleep {seconds}"]}
+            for name, seconds in (("errors", 61), ("latency", 62), ("smoke", 63))
+        ]
+        self.write("web-v1", "web-v2", analyses={"pre": several, "seconds": 60})
+        run = self.run_controller()
+        self.assertTrue(comes(lambda: len(self.pids()) == 3), run.log)
+        self.assertTrue(comes(lambda: len(StateFile(self.plan.path).read()[0].analyses) == 3))
+        run.kill()
+        self.assertEqual([alive(pid) for pid in self.pids()], [True] * 3)
+        next_one = self.run_controller()
+        self.assertTrue(comes(lambda: len(self.pids()) == 6), next_one.log)
+        self.assertEqual([alive(pid) for pid in self.pids()], [False] * 3 + [True] * 3)
+        self.assertEqual(next_one.count("has left behind, process", "is stopped"), 3)
+        next_one.end()
+        self.assertTrue(comes(lambda: not any(map(alive, self.pids()))))
+
     def test_the_number_of_another_process_is_left_alone(self) -> None:
         """A number is given again: the start of the process tells."""
         self.begin("exec sleep 60")
@@ -248,17 +267,17 @@ class Leftovers(Controlled):
         self.assertTrue(
             comes(
                 lambda: os.path.exists(f"{self.plan.path}.state")
-                and StateFile(self.plan.path).read()[0].analysis
+                and StateFile(self.plan.path).read()[0].analyses
             )
         )
         run.kill()
         with subprocess.Popen(["sleep", "60"], start_new_session=True) as other:
             file = StateFile(self.plan.path)
-            left = file.read()[0].analysis
+            (left,) = file.read()[0].analyses
             for path in (file.path, file.copy):
                 text = pathlib.Path(path).read_text(encoding="ascii")
                 pathlib.Path(path).write_text(
-                    text.replace(f'"pid": {left.pid if left else 0}', f'"pid": {other.pid}'),
+                    text.replace(f'"pid": {left.pid}', f'"pid": {other.pid}'),
                     encoding="ascii",
                 )
             second = self.run_controller()
@@ -266,8 +285,7 @@ class Leftovers(Controlled):
             self.assertIsNone(other.poll())
             other.kill()
             second.end()
-        if left:
-            os.kill(left.pid, signal.SIGKILL)
+        os.kill(left.pid, signal.SIGKILL)
 
     def test_sigterm_comes_first_and_reaches_the_children(self) -> None:
         self.begin(

@@ -15,6 +15,11 @@ from collections.abc import Sequence
 
 from bg_switch_tools import VERSION
 from bg_switch_tools.controller.plan import PlannedRevision
+from bg_switch_tools.controller.analysis_results import (
+    AnalysisResult,
+    AttemptResults,
+    ResultsFile,
+)
 from bg_switch_tools.controller.state_file import HeldBack, State, StateFile, StateLock
 from bg_switch_tools.switch.access_log import LogEntry
 from support.pace import is_within
@@ -333,6 +338,45 @@ class Controllers(Dashboard):
         self.write_plan(3, 4)
         self.assertTrue(comes(lambda: not self.held_by_metric()))
         self.assertIn("the controller runs, and holds nothing back", self.get("/api/state").body)
+
+    def test_the_results_of_analyses(self) -> None:
+        """Each with its last lines, and with what a page could take for its own as text."""
+        none = {"revision": "", "number": 0, "how": "", "analyses": []}
+        self.assertEqual(self.state()["results"], none)
+        results = AttemptResults(
+            "web-v2",
+            2,
+            "aborted",
+            (
+                AnalysisResult("post", "errors", "failed", "", ("<b>9</b> errors",)),
+                AnalysisResult("post", "latency", "stopped", "errors has failed"),
+            ),
+        )
+        ResultsFile(self.plan).write(results)
+        expected = {
+            "revision": "web-v2",
+            "number": 2,
+            "how": "aborted",
+            "analyses": [
+                {
+                    "analysis": "post",
+                    "name": "errors",
+                    "result": "failed",
+                    "reason": "",
+                    "last": ["<b>9</b> errors"],
+                },
+                {
+                    "analysis": "post",
+                    "name": "latency",
+                    "result": "stopped",
+                    "reason": "errors has failed",
+                    "last": [],
+                },
+            ],
+        }
+        self.assertTrue(comes(lambda: self.state()["results"] == expected))
+        pathlib.Path(ResultsFile(self.plan).path).write_text("{", encoding="ascii")
+        self.assertTrue(comes(lambda: self.state()["results"] == none))
 
     def test_a_plan_is_that_of_a_switch(self) -> None:
         told = subprocess.run(

@@ -11,6 +11,11 @@ import time
 import unittest
 from collections.abc import Mapping
 
+from bg_switch_tools.controller.analysis_results import (
+    AnalysisResult,
+    AttemptResults,
+    ResultsFile,
+)
 from bg_switch_tools.fleet.agent_status import AgentStatus
 from bg_switch_tools.fleet.record import (
     ABORT,
@@ -391,6 +396,14 @@ class WithAgent(Fleet):
         )
         self.agent_file.write_text("{", encoding="ascii")
         self.assertEqual(samples_of(self.get("/metrics").body)[0]["bg_fleet_agent_up"], {"": 0})
+
+    def test_the_results_of_analyses_are_those_of_the_agent(self) -> None:
+        result = AnalysisResult("post", "errors", "failed", "", ("9 errors",))
+        told = AttemptResults("web-v2", 2, "aborted", (result,))
+        ResultsFile(str(self.agent_file.with_suffix(""))).write(told)
+        self.assertTrue(
+            comes(lambda: json.loads(self.get("/api/state").body)["results"] == told.as_json())
+        )
 
 
 class Words(unittest.TestCase):

@@ -47,6 +47,8 @@ class FleetLinesCase(unittest.TestCase):
     """A machine whose switch has a pause and an analysis after the switch, which passes while the
     file `good` is there."""
 
+    named: object = "errors"  # the analyses that the plan names
+
     def setUp(self) -> None:
         self.stack = self.enterContext(contextlib.ExitStack())
         self.folder = self.enterContext(tempfile.TemporaryDirectory())
@@ -77,7 +79,7 @@ class FleetLinesCase(unittest.TestCase):
                 "plan": json.dumps(
                     {
                         "revisions": revisions,
-                        "analyses": {"post": "errors"},
+                        "analyses": {"post": self.named},
                         "health": {"interval": 0.1, "timeout": 0.5},
                     }
                 )
@@ -102,7 +104,7 @@ class FleetLinesCase(unittest.TestCase):
             "-c",
             f"import os, sys; sys.exit(not os.path.exists({str(self.good)!r}))",
         )
-        settings = MachineSettings(self.switch.port, {"errors": judge}, commands)
+        settings = MachineSettings(self.switch.port, self.analyses(judge), commands)
         machine = Machine("a", "m1", settings, file.write, file.read())
         self.store = MemoryStore(self.keys, "a")
         self.agent = FleetAgent(machine, self.store, lambda *_: None)
@@ -121,6 +123,10 @@ class FleetLinesCase(unittest.TestCase):
             ),
         )
         self.stack.callback(self.controller.end)
+
+    def analyses(self, judge: tuple[str, ...]) -> dict[str, tuple[str, ...]]:
+        """The commands of the machine by the names that its plan has for them."""
+        return {"errors": judge}
 
     def do_round(self) -> None:
         self.agent.read()
@@ -276,6 +282,45 @@ class Attempts(FleetLinesCase):
             self.own_lines()[1:], [self.words(self.v2), "promote", "verdict post failed"]
         )
         self.assertEqual(self.told().reason, "catches up with web-v2: analysis post: failed")
+
+
+class SeveralAnalyses(FleetLinesCase):
+    """A second analysis, which passes once the file `fast` is there."""
+
+    named = ["errors", "latency"]
+
+    def analyses(self, judge: tuple[str, ...]) -> dict[str, tuple[str, ...]]:
+        waits = "echo measures; until test -e fast; do sleep 0.02; done"
+        return {"errors": judge, "latency": ("sh", "-c", waits)}
+
+    def test_a_machine_has_passed_once_all_have(self) -> None:
+        self.joins()
+        self.put(PROMOTING)
+        self.rounds_until(
+            lambda: "analysis post errors of web-v2: successful" in self.out.getvalue()
+        )
+        self.some_rounds()
+        self.assertNotEqual(self.told().state, PASSED)
+        pathlib.Path(self.folder, "fast").touch()
+        self.rounds_to(PASSED)
+        self.put(SUCCESSFUL)
+        self.rounds_to(FOLLOWS)
+        self.assertEqual(self.own_lines()[-1], "verdict post successful")
+
+    def test_the_record_and_the_history_name_which_has_failed(self) -> None:
+        self.joins()
+        self.good.unlink()
+        self.put(PROMOTING)
+        self.rounds_to(FAILED)
+        self.assertEqual(self.told().reason, "analysis post: failed, errors has failed")
+        self.assertEqual(self.own_lines()[-2:], ["promote", "verdict post failed"])
+        self.some_rounds()
+        newest = HistoryFile(str(pathlib.Path(self.folder, "fleet.json"))).read()[0].newest
+        assert newest is not None
+        self.assertEqual(
+            [(each.title(), each.result) for each in newest.analyses],
+            [("post errors", "failed"), ("post latency", "stopped")],
+        )
 
 
 class Endpoints(FleetLinesCase):

@@ -75,12 +75,9 @@ class Ends(FleetProcessCase):
         self.put(self.v1, self.v2)
         self.await_that(marker.exists, "the analysis begins")
         controller = process.rounds.controller
-        assert (
-            controller is not None
-            and controller.analyses.analysis is not None
-            and controller.analyses.analysis.process is not None
-        )
-        pid = controller.analyses.analysis.process.pid
+        assert controller is not None and controller.analyses.running is not None
+        (begun,) = controller.analyses.running.processes()
+        pid = begun.pid
         process.stop()
         self.await_that(lambda: identity(pid) is None, "the analysis is ended")
 
@@ -101,9 +98,11 @@ class Ends(FleetProcessCase):
             [sys.executable, "-c", "import time; time.sleep(1000)"], start_new_session=True
         )
         self.addCleanup(left.kill)
+        process = identity(left.pid)
+        assert process is not None
         (self.folder / "state").mkdir()
         StateFile(str(self.folder / "state" / "web.a")).write(
-            State(7, PlannedRevision("web-v0", (1, 2)), analysis=identity(left.pid))
+            State(7, PlannedRevision("web-v0", (1, 2)), analyses=(process,))
         )
         self.begun()
         self.assertTrue(comes(lambda: left.poll() is not None, LEASE * 5), self.out.getvalue())

@@ -12,6 +12,7 @@ from bg_switch_tools.controller.plan import (
     Commands,
     Health,
     Plan,
+    PlannedAnalysis,
     PlannedRevision,
     Progress,
 )
@@ -197,7 +198,8 @@ class Plans(unittest.TestCase):
                 self.problems(**{key: value}), [f"{key}: stands in the fleet file of each machine"]
             )
         self.assertRegex(
-            self.problems(analyses={"pre": ["./smoke.sh"]})[0], "^analyses.pre: .* is not a name"
+            self.problems(analyses={"pre": ["./smoke.sh"]})[0],
+            r'^analyses.pre\[0\]: "./smoke.sh" is not a name',
         )
 
     def test_what_is_wrong(self) -> None:
@@ -229,7 +231,7 @@ class Plans(unittest.TestCase):
             Plan(
                 8082,
                 plan.health,
-                Analyses({"pre": ("./smoke.sh",)}, 60),
+                Analyses({"pre": (PlannedAnalysis(("./smoke.sh",)),)}, 60),
                 Progress(120, False, 9),
                 (v0, V1, V2),
                 Commands(("up",)),
@@ -240,6 +242,38 @@ class Plans(unittest.TestCase):
         self.assertEqual(missing_analyses(plan, settings), ["errors"])
         with self.assertRaisesRegex(WrongPlan, "is a port of the switch itself"):
             machine_plan(plan, MachineSettings(9201))
+
+
+class SeveralAnalyses(unittest.TestCase):
+    """A list of names in the place of one."""
+
+    def plan(self, *names: object) -> FleetPlan:
+        return read_fleet_plan(changed(json.dumps(GOOD), analyses={"post": list(names)}))
+
+    def test_a_list_of_names(self) -> None:
+        settings = MachineSettings(8082, {"errors": ("a", "b"), "latency": ("c",), "more": ("d",)})
+        made = machine_plan(self.plan("latency", "errors"), settings)
+        expected = (PlannedAnalysis(("c",), "latency"), PlannedAnalysis(("a", "b"), "errors"))
+        self.assertEqual(made.analyses.commands, {"post": expected})
+        only = machine_plan(self.plan("errors"), settings).analyses.commands["post"]
+        self.assertEqual(only, (PlannedAnalysis(("a", "b"), "errors"),))
+
+    def test_a_machine_that_lacks_one_runs_none(self) -> None:
+        """What it could run would pass without the one that is missing."""
+        settings, plan = MachineSettings(8082, {"latency": ("c",)}), self.plan("latency", "errors")
+        self.assertEqual(machine_plan(plan, settings).analyses.commands, {})
+        self.assertEqual(missing_analyses(plan, settings), ["errors"])
+
+    def test_what_is_no_list_of_names(self) -> None:
+        for names, problem in (
+            ((), r"analyses\.post: it is not a list of 1 to 16 names"),
+            ([f"a{number}" for number in range(17)], r"analyses\.post: it is not a list of 1 to"),
+            (("a", "b", "a"), r'analyses\.post\[2\]: "a" is already at analyses\.post\[0\]'),
+            (("a", 7), r"analyses\.post\[1\]: 7 is not a name"),
+            (({"name": "a"},), r"analyses\.post\[0\]: .* is not a name"),
+        ):
+            with self.assertRaisesRegex(WrongPlan, f"^{problem}"):
+                self.plan(*names)
 
 
 class Files(unittest.TestCase):

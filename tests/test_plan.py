@@ -11,7 +11,13 @@ import unittest
 from unittest import mock
 
 from bg_switch_tools.controller import cli as controller_cli, plan_text
-from bg_switch_tools.controller.plan import Commands, Health, PlannedRevision, Progress
+from bg_switch_tools.controller.plan import (
+    Commands,
+    Health,
+    PlannedAnalysis,
+    PlannedRevision,
+    Progress,
+)
 from bg_switch_tools.controller.plan_edit import deploy_by_plan
 from bg_switch_tools.controller.plan_file import PlanFile
 from bg_switch_tools.controller.plan_check import problems_of
@@ -61,6 +67,10 @@ def with_revision(name: object = "web-v2", ports: object = (1, 2)) -> object:
     )
 
 
+def named(name: str, *words: str) -> dict[str, object]:
+    return {"name": name, "command": list(words)}
+
+
 class Good(unittest.TestCase):
     def test_every_value(self) -> None:
         plan = read_plan(json.dumps(GOOD).encode())
@@ -78,7 +88,7 @@ class Good(unittest.TestCase):
         )
         self.assertEqual(
             (plan.analyses.commands, plan.analyses.seconds),
-            ({"pre": ("./smoke_test.sh", "8081")}, 60),
+            ({"pre": (PlannedAnalysis(("./smoke_test.sh", "8081")),)}, 60),
         )
         self.assertEqual(
             (plan.first, plan.last),
@@ -97,6 +107,75 @@ class Good(unittest.TestCase):
         )
         self.assertEqual((plan.analyses.commands, plan.analyses.seconds), ({}, 600))
         self.assertIs(plan.first, plan.last)
+
+
+class SeveralAnalyses(unittest.TestCase):
+    """A list of analyses in the place of a command."""
+
+    def problems(self, *told: object, seconds: float = 60) -> list[str]:
+        return problems(with_keys(analyses={"post": list(told), "seconds": seconds}))
+
+    def test_a_list_with_names(self) -> None:
+        told = {"post": [named("errors", "a", "b"), named("latency", "c")], "pre": ["d", "e"]}
+        plan = read_plan(json.dumps(with_keys(analyses=told)).encode())
+        self.assertEqual(
+            plan.analyses.commands,
+            {
+                "pre": (PlannedAnalysis(("d", "e")),),
+                "post": (
+                    PlannedAnalysis(("a", "b"), "errors"),
+                    PlannedAnalysis(("c",), "latency"),
+                ),
+            },
+        )
+
+    def test_what_is_no_list_of_analyses(self) -> None:
+        place, word = "analyses.post", 'a list of words, such as ["./smoke_test.sh", "8081"]'
+        cases: tuple[tuple[list[object], str], ...] = (
+            ([], f"{place}: [] is not {word}"),
+            (
+                [named("a", "x"), named("a", "y")],
+                f'{place}[1].name: "a" is already at {place}[0].name',
+            ),
+            ([named("a", "x"), "y"], f'{place}[1]: "y" is not an object'),
+            ([{"name": "a"}], f"{place}[0].command: is missing"),
+            ([{"command": ["x"]}], f"{place}[0].name: is missing"),
+            ([dict(named("a", "x"), sconds=1)], f"{place}[0].sconds: there is no such key; "),
+            ([named("a")], f"{place}[0].command: [] is not {word}"),
+            ([named("A b", "x")], f'{place}[0].name: "A b" is not a name: '),
+        )
+        for told, expected in cases:
+            self.assertEqual(
+                [problem.startswith(expected) for problem in self.problems(*told)], [True], told
+            )
+
+    def test_how_many_there_may_be(self) -> None:
+        many = [named(f"a{number}", "x") for number in range(17)]
+        self.assertEqual(self.problems(*many[:16]), [])
+        self.assertEqual(
+            self.problems(*many), ["analyses.post: it is not a list of 1 to 16 analyses"]
+        )
+
+    def test_check_judges_each_of_them(self) -> None:
+        tool = ("bg-analysis", "--log", "x", "--errors-at-most", "1%")
+        self.assertEqual(
+            self.problems(
+                named("a", *tool, "--seconds", "9"), named("b", *tool, "--seconds", "60")
+            ),
+            [
+                "analyses.post[1].command: --seconds 60 is not below analyses.seconds, 60: the analysis would be stopped before its end"
+            ],
+        )
+        told = [named("a", "sh"), named("b", "bin/analysis", "--log", "x", "--seconds", "9")]
+        plan = read_plan(json.dumps(with_keys(analyses={"post": told})).encode())
+        place = "analyses.post[1].command"
+        self.assertEqual(
+            [each for each in problems_of("/none/plan.json", plan, None) if "analyses" in each],
+            [
+                f"{place}[0]: there is no program bin/analysis that can be run",
+                f"{place}: a limit is needed: --errors-at-most, --p99-at-most or both",
+            ],
+        )
 
 
 class Complaints(unittest.TestCase):

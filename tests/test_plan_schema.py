@@ -72,6 +72,11 @@ def other_values(schema: Value) -> Iterator[Value]:
         {},
         {"x": 1},
     )
+    if "anyOf" in schema:
+        named: Value = {"name": "errors", "command": ["a"]}
+        yield from ([named], [named, ["a"]], [named, "a"], ["a", named], [named, {}], [[named]])
+        many = [{**named, "name": f"a{number}"} for number in range(17)]
+        yield from (many, many[:16])
     if "minimum" in schema:
         yield from numbers_at_the_limits(schema)
     if schema.get("uniqueItems"):
@@ -88,6 +93,11 @@ def other_values(schema: Value) -> Iterator[Value]:
 
 def changed(plan: Value, schema: Value) -> Iterator[Value]:
     """A plan with one value changed, left out or added, at each place that the schema knows."""
+    for each in schema.get("anyOf", ()):
+        if isinstance(plan[0], dict) is isinstance(each["items"], dict):
+            yield from changed(plan, each)
+    if "anyOf" in schema:
+        return
     if schema["type"] == "object":
         for key, below in schema["properties"].items():
             for value in other_values(below):
@@ -104,11 +114,15 @@ def changed(plan: Value, schema: Value) -> Iterator[Value]:
 
 def one_revision() -> Value:
     """A plan with each key and one revision, so that nothing has to fit another revision."""
-    plan = copy.deepcopy(dict(GOOD))
+    plan: dict[str, Value] = copy.deepcopy(dict(GOOD))
     plan.update(
         {
             "$schema": "plan.schema.json",
-            "analyses": {"pre": ["a"], "post": ["b"], "seconds": 9},
+            "analyses": {
+                "pre": ["a"],
+                "post": [{"name": "errors", "command": ["b"]}],
+                "seconds": 9,
+            },
             "revisions": [{"name": "web-v1", "ports": [9101]}],
         }
     )

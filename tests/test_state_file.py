@@ -1,6 +1,7 @@
 """The state file: what it keeps, and what becomes of one that is cut, foreign or not there."""
 import dataclasses
 import io
+import json
 import os
 import pathlib
 import tempfile
@@ -34,7 +35,7 @@ STATE = State(
     V3,
     V3,
     BEGUN,
-    ProcessId(700, 12345),
+    (ProcessId(700, 12345),),
     (V2, V3),
     (ProcessId(701, 7),),
     (8082, 8182),
@@ -45,8 +46,25 @@ STATE = State(
 
 class Texts(unittest.TestCase):
     def test_what_is_written_is_read(self) -> None:
-        for state in (STATE, State(), State(1, V1, None, None), State(1, unknown="web-v1")):
+        several = State(1, analyses=(ProcessId(700, 5), ProcessId(701, 6)))
+        for state in (
+            STATE,
+            State(),
+            State(1, V1, None, None),
+            State(1, unknown="web-v1"),
+            several,
+        ):
             self.assertEqual(read_state(written(state)), state)
+
+    def test_one_analysis_is_written_as_before(self) -> None:
+        """An earlier controller knows no list of them."""
+        one, other = ProcessId(700, 5), ProcessId(701, 6)
+        told = [json.loads(written(State(analyses=each))) for each in ((), (one,), (one, other))]
+        self.assertEqual(
+            [(each["analysis"], each.get("analyses")) for each in told],
+            [(None, None), (vars(one), None), (None, [vars(one), vars(other)])],
+        )
+        self.assertEqual(list(told[0]), list(told[1]))
 
     def test_every_cut_is_noticed(self) -> None:
         whole = written(STATE)

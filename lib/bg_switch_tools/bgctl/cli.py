@@ -10,7 +10,13 @@ from bg_switch_tools import VERSION
 from bg_switch_tools.analysis import cli as analysis_cli
 from bg_switch_tools.bgctl.argument_parser import in_order, parser, wrong_command
 from bg_switch_tools.bgctl.commands import NAMES, NEWCOMER
-from bg_switch_tools.bgctl.deploy import deploy, tell_absence, tell_pause, undo
+from bg_switch_tools.bgctl.deploy import (
+    deploy,
+    tell_absence,
+    tell_analyses,
+    tell_pause,
+    undo,
+)
 from bg_switch_tools.bgctl.exit_statuses import DONE, NO_ANSWER, REFUSED
 from bg_switch_tools.bgctl.history_table import show
 from bg_switch_tools.bgctl.session import Session, tell
@@ -42,6 +48,7 @@ class CommandRun:
     def status(self) -> int:
         if self.target.path:
             tell_pause(self.target.path)
+            tell_analyses(self.target.path)
         return self.session().status()
 
     def watch(self) -> int:

@@ -8,8 +8,9 @@ from bg_switch_tools.bgctl.exit_statuses import DONE, REFUSED
 from bg_switch_tools.bgctl.session import Session, tell
 from bg_switch_tools.bgctl.target import Target, Unusable
 from bg_switch_tools.bgctl.undo_target import KnownRevisions, revision_to_undo_to
+from bg_switch_tools.controller.analysis_results import ResultsFile
 from bg_switch_tools.controller.announced_deploy import AnnouncedDeploy
-from bg_switch_tools.controller.attempts import Attempt
+from bg_switch_tools.controller.attempts import ABORTED, Attempt
 from bg_switch_tools.controller.controller_life import life_of
 from bg_switch_tools.controller.history_file import HistoryFile
 from bg_switch_tools.controller.kept_ports import kept_revisions
@@ -39,6 +40,15 @@ def tell_pause(path: str) -> None:
         tell(
             f"the controller is {paused.text()}: it sends no deploy and no verdict until bgctl resume"
         )
+
+
+def tell_analyses(path: str) -> None:
+    """Tells how the analyses of the newest attempt stand, with the last lines that they have
+    printed: of one that runs, or was aborted."""
+    attempt = ResultsFile(path).read()
+    if attempt.how in ("", ABORTED):
+        for line in attempt.lines():
+            tell(line)
 
 
 def _edit(path: str, revision: PlannedRevision) -> int:

@@ -49,7 +49,9 @@ def _cells(attempt: Attempt, now: str) -> tuple[str, ...]:
 
 
 def as_json(attempt: Attempt, now: str) -> dict[str, object]:
-    """An attempt as an object of JSON; what is not known, or has not come yet, is null."""
+    """An attempt as an object of JSON; what is not known, or has not come yet, is null. `analyses` is
+    only there where some have names."""
+    analyses = [result.as_json() for result in attempt.analyses]
     return {
         "begun": attempt.begun or None,
         "began": attempt.began if attempt.began in (*BEGINNINGS, UNDEPLOYED) else None,
@@ -61,16 +63,23 @@ def as_json(attempt: Attempt, now: str) -> dict[str, object]:
         "ended": attempt.ended or None,
         "live_seconds": attempt.live_seconds(now),
         "is_live": bool(attempt.live_since),
+        **({"analyses": analyses} if analyses else {}),
     }
 
 
 def table(attempts: list[Attempt], now: str) -> list[str]:
-    """The lines of a table with a row for each attempt."""
-    lines_of_cells = [TITLES, *(_cells(attempt, now) for attempt in attempts)]
-    widths = [max(len(cells[column]) for cells in lines_of_cells) for column in range(len(TITLES))]
+    """The lines of a table with a row for each attempt, and a line below it for each of its
+    analyses."""
+    rows = [(_cells(attempt, now), attempt.analyses) for attempt in attempts]
+    all_cells = [TITLES, *(cells for cells, _ in rows)]
+    widths = [max(len(cells[column]) for cells in all_cells) for column in range(len(TITLES))]
     return [
-        "  ".join(cell.ljust(width) for cell, width in zip(cells, widths)).rstrip()
-        for cells in lines_of_cells
+        line
+        for cells, analyses in [(TITLES, ()), *rows]
+        for line in (
+            "  ".join(cell.ljust(width) for cell, width in zip(cells, widths)).rstrip(),
+            *(f"  {result.title()}: {result.outcome()}" for result in analyses),
+        )
     ]
 
 

@@ -1,7 +1,15 @@
-"""Runs the analysis that a phase asks for, and hands its verdict in."""
+"""Runs the analyses that a phase asks for, and hands its verdict in."""
 import threading
+import time
 
-from bg_switch_tools.controller.analysis_process import ANALYSIS_OF_PHASE, Analysis, AnalysisCommand
+from bg_switch_tools.controller.analysis_process import (
+    ANALYSIS_OF_PHASE,
+    AnalysesOfPhase,
+    Analysis,
+    AnalysisCommand,
+    Judged,
+)
+from bg_switch_tools.controller.analysis_results import KINDS, RUNNING, SUCCESSFUL
 from bg_switch_tools.controller.book import Book
 from bg_switch_tools.controller.line_source import LineSource
 from bg_switch_tools.controller.log import Log, OncePerRevision
@@ -18,8 +26,8 @@ LAST_GRACE = 0.5  # the same where the controller ends
 
 
 class AnalysisRunner:
-    """The analysis that runs. At most one does, also where a controller before this one was killed
-    and has left one behind."""
+    """The analyses that run, which are those of one phase: none runs beside them, also where a
+    controller before this one was killed and has left some behind."""
 
     def __init__(
         self, folder: str, log: Log, once: OncePerRevision, memory: Memory, probes: Probes
@@ -29,103 +37,139 @@ class AnalysisRunner:
         self.once = once
         self.memory = memory
         self.probes = probes
-        self.analysis: Analysis | None = None
-        self.ending: threading.Thread | None = None  # of the analysis before
-        if left := memory.state.analysis:
+        self.running: AnalysesOfPhase | None = None
+        self.ending: list[threading.Thread] = []  # of those that are stopped
+        for left in memory.state.analyses:
             self.log.say(
                 "analysis",
                 f"the analysis that the controller before has left behind, process {left.pid}, is stopped",
             )
-            self.ending = begin_end(left, GRACE)
+            self.ending.append(begin_end(left, GRACE))
 
     def judge(
         self, book: Book, connection: Connection, plan: Plan, report: Report, source: LineSource
     ) -> None:
-        """Runs the analysis that the phase asks for. A verdict is handed in on the connection whose
-        report shows that the phase and the revision are those of the analysis, once the source of
+        """Runs the analyses that the phase asks for. A verdict is handed in on the connection whose
+        report shows that the phase and the revision are those of the analyses, once the source of
         lines allows it."""
         self._note_end()
-        name, newest = ANALYSIS_OF_PHASE.get(report.phase), report.newest
-        if self.analysis and not self.analysis.is_for(name, newest):
+        kind, newest = ANALYSIS_OF_PHASE.get(report.phase), report.newest
+        if self.running and not self.running.judged.is_of(kind, newest):
             self.end("its phase has ended")
-        if name is None:
-            for kind in ("pre", "post", "held"):
-                self.once.forget(kind, newest)
-        elif self.analysis is None:
-            self._begin(plan, name, newest)
-        elif not source.is_paused() and (verdict := self.analysis.verdict()) is not None:
-            if source.may_hand_in(report, name, verdict, self.analysis.fault):
+        if kind is None:
+            for each in (*KINDS, "held"):
+                self.once.forget(each, newest)
+        elif self.running is None:
+            self._begin(plan, kind, newest)
+        elif not source.is_paused() and (verdict := self._verdict(self.running)) is not None:
+            if source.may_hand_in(report, kind, verdict, self.running.reason()):
                 self._hand_in(book, connection, plan, verdict, newest)
+        self._keep_results()
+
+    def _verdict(self, running: AnalysesOfPhase) -> str | None:
+        """The verdict of the phase; None while none is known. What still runs once one is known is
+        stopped."""
+        for run in running.look():
+            if run.name:
+                run.is_told = True
+                told = run.told()
+                self.log.say_result(f"{run.title()}: {told.outcome()}", told.as_json())
+        if why := running.why_stopped():
+            for run in running.runs:
+                self._stop(run, why, run.result == RUNNING, GRACE)
+        return running.verdict()
 
     def _hand_in(
         self, book: Book, connection: Connection, plan: Plan, verdict: str, newest: Revision
     ) -> None:
         """Hands a verdict in. `successful` waits until an endpoint of the revision is up: what is
         down was not judged."""
-        if self.analysis is None:
+        if self.running is None:
             return
-        if self.analysis.fault and not self.analysis.is_fault_told:
-            self.analysis.is_fault_told = True
-            self.log.say("analysis", f"{self.analysis.title()}: {self.analysis.fault}")
+        for run in self.running.runs:
+            if run.reason and not run.name and not run.is_told:
+                run.is_told = True
+                self.log.say("analysis", f"{run.title()}: {run.reason}")
+        kind = self.running.judged.kind
         planned = self.memory.known(plan, newest.name)
-        if verdict == "successful" and not (
+        if verdict == SUCCESSFUL and not (
             planned and newest.available and self.probes.count_up(planned.ports)
         ):
             self.once.say(
                 "held",
                 newest,
-                f"gets no verdict {self.analysis.name} successful while none of its endpoints is up",
+                f"gets no verdict {kind} successful while none of its endpoints is up",
                 "analysis",
             )
             return
-        if was_carried_out(book.send(connection, f"verdict {self.analysis.name} {verdict}")):
+        if was_carried_out(book.send(connection, f"verdict {kind} {verdict}")):
             self.end("")
 
     def _note_end(self) -> None:
-        """Forgets the session of an analysis once it is over."""
-        if self.ending and not self.ending.is_alive():
-            self.ending = None
-            if self.analysis is None:
-                self.memory.set_analysis(None)
+        """Forgets the sessions of analyses that were stopped once they are over."""
+        was_ending, self.ending = self.ending, [each for each in self.ending if each.is_alive()]
+        if was_ending and not self.ending and self.running is None:
+            self.memory.set_analyses(())
 
-    def _begin(self, plan: Plan, name: str, newest: Revision) -> None:
+    def _begin(self, plan: Plan, kind: str, newest: Revision) -> None:
+        """Begins the analyses of a phase, and remembers each one at once: this controller may be
+        killed before the next one."""
         if self.ending:
             return
-        planned, command = self.memory.known(plan, newest.name), plan.analyses.commands.get(name)
-        if planned is None or command is None:
+        planned, several = self.memory.known(plan, newest.name), plan.analyses.commands.get(kind)
+        if planned is None or not several:
             self.once.say(
-                name, newest, f"waits for verdict {name} by hand: the plan has no command for it"
+                kind, newest, f"waits for verdict {kind} by hand: the plan has no command for it"
             )
             return
-        told = AnalysisCommand(command, self.folder, plan.analyses.seconds)
-        self.analysis = Analysis(name, newest.number, planned, told, plan.control)
-        self.memory.set_analysis(self.analysis.process)
-        self.log.say("analysis", f"{self.analysis.title()} begins")
+        self.memory.results.begin_analyses(newest.name, newest.number)
+        judged = Judged(kind, newest.number, planned, plan.control)
+        self.running = AnalysesOfPhase(judged, several)
+        for each in several:
+            run = self.running.begin(AnalysisCommand(each, self.folder, plan.analyses.seconds))
+            self.memory.set_analyses(self.running.processes())
+            self.log.say("analysis", f"{run.title()} begins")
 
     def take_plan(self, plan: Plan) -> None:
-        """Goes on by another plan: another command begins anew, and another limit holds from the
-        begin of the analysis."""
-        if self.analysis is None:
+        """Goes on by another plan: other commands begin anew, and another limit holds from the
+        begin of each analysis."""
+        if self.running is None:
             return
-        if plan.analyses.commands.get(self.analysis.name) != self.analysis.command:
+        if plan.analyses.commands.get(self.running.judged.kind) != self.running.planned:
             self.end("the plan has another command for it")
         else:
-            self.analysis.seconds = plan.analyses.seconds
+            for run in self.running.runs:
+                run.seconds = plan.analyses.seconds
 
-    def end(self, why: str, grace: float | None = None) -> None:
-        """Stops the analysis, where one runs. `why` is told, where it is not empty."""
-        if self.analysis is None:
+    def _stop(self, run: Analysis, why: str, is_told: bool, grace: float) -> None:
+        """Stops an analysis, where it still runs. `is_told` says whether the log tells why."""
+        if is_told:
+            self.log.say("analysis", f"{run.title()} is stopped: {why}")
+        if ending := run.stop(grace, why):
+            self.ending.append(ending)
+
+    def end(self, why: str, grace: float = GRACE) -> None:
+        """Stops the analyses, where some run. `why` is told, where it is not empty; one with a name
+        that has ended has told its result."""
+        if self.running is None:
             return
-        if why:
-            self.log.say("analysis", f"{self.analysis.title()} is stopped: {why}")
-        self.ending = self.analysis.stop(GRACE if grace is None else grace)
-        self.analysis = None
-        if self.ending is None:
-            self.memory.set_analysis(None)
+        for run in self.running.runs:
+            self._stop(run, why, bool(why) and (run.result == RUNNING or not run.name), grace)
+        self._keep_results()
+        self.running = None
+        if not self.ending:
+            self.memory.set_analyses(())
+
+    def _keep_results(self) -> None:
+        """Keeps how the analyses stand, for who shows it."""
+        if self.running:
+            judged = self.running.judged
+            self.memory.results.take(judged.number, judged.kind, self.running.told())
 
     def end_at_last(self) -> None:
-        """Stops the analysis where the controller ends, and waits for its end for a moment."""
+        """Stops the analyses where the controller ends, and waits for their end for a moment."""
         self.end("the controller ends", LAST_GRACE)
-        if self.ending:
-            self.ending.join(2 * LAST_GRACE)
-            self._note_end()
+        deadline = time.monotonic() + 2 * LAST_GRACE
+        for ending in self.ending:
+            ending.join(max(deadline - time.monotonic(), 0.0))
+        self._note_end()

@@ -4,6 +4,7 @@ import dataclasses
 import datetime
 import json
 
+from bg_switch_tools.controller.analysis_results import AnalysisResult, read_results
 from bg_switch_tools.switch.json_values import NAME, decoded
 
 OPENED, DEPLOYED, RETRIED = "opened", "deployed", "retried"  # by which an attempt begins
@@ -11,21 +12,18 @@ ENDED, LIVE, LOST = "ended", "live", "lost"
 UNDEPLOYED = "undeployed"  # the plan named a revision last, and it was not deployed
 BEGINNINGS = (OPENED, DEPLOYED, RETRIED)
 KINDS = (*BEGINNINGS, ENDED, LIVE, LOST, UNDEPLOYED)
-STABLE, ABORTED, UNDONE, REPLACED = (
-    "stable",
-    "aborted",
-    "undone",
-    "replaced",
-)  # how one ends, and `lost`
+# how one ends, and `lost`
+STABLE, ABORTED, UNDONE, REPLACED = ("stable", "aborted", "undone", "replaced")
 MOST_ATTEMPTS = 10_000  # that are kept, the latest ones
 
 
 @dataclasses.dataclass(frozen=True)
 class Event:
     """An event of the revision of this name and number. `opened`, `deployed` and `retried` begin an
-    attempt, `by` whom; `ended` tells `how` it ended; from `live` on the active service selects the
-    revision; `lost` says that the switch was started again, and is of no revision; `undeployed`
-    tells `how` a revision, which has no number then, was not deployed.
+    attempt, `by` whom; `ended` tells `how` it ended, and what those of its `analyses` came to that
+    have names; from `live` on the active service selects the revision; `lost` says that the switch
+    was started again, and is of no revision; `undeployed` tells `how` a revision, which has no
+    number then, was not deployed.
     """
 
     time: str  # ISO 8601
@@ -35,6 +33,7 @@ class Event:
     by: str = ""
     how: str = ""
     ports: tuple[int, ...] = ()
+    analyses: tuple[AnalysisResult, ...] = ()
 
     def line(self) -> bytes:
         """The event as a line of JSON, without the members that it has not."""
@@ -76,7 +75,8 @@ def read_event(line: bytes) -> Event | None:
         text if isinstance(text, str) and text.isprintable() else ""
         for text in (told.get("by"), told.get("how"))
     )
-    return Event(told["time"], told["event"], name, number, by, how, _ports(told.get("ports")))
+    ports, analyses = _ports(told.get("ports")), read_results(told.get("analyses"))
+    return Event(told["time"], told["event"], name, number, by, how, ports, analyses)
 
 
 def seconds_between(begin: str, end: str) -> float:
@@ -98,6 +98,7 @@ class Attempt:
     ports: tuple[int, ...] = ()
     how: str = ""
     ended: str = ""
+    analyses: tuple[AnalysisResult, ...] = ()
     seconds: float = 0.0
     live_since: str = ""
 
@@ -150,7 +151,7 @@ class Attempts:
             )
         elif event.event == ENDED:
             attempt = self._latest(event)
-            attempt.how, attempt.ended = event.how, event.time
+            attempt.how, attempt.ended, attempt.analyses = event.how, event.time, event.analyses
         else:
             self._leave(event.time)
             self.live = self._latest(event)

@@ -27,8 +27,8 @@ USAGE = """bin/controller [--json] PLAN              runs the plan, until SIGTER
        bin/controller deploy PLAN NAME PORT..   makes a revision the last one of the plan, which a running controller then deploys"""
 ABOUT = """
 The controller looks at the switch five times a second. It ticks each second (the moment is the number of seconds since the book
-was opened first), tells the switch which ports are down and how many endpoints of each revision are up, runs the analysis that
-the phase needs and sends its verdict, starts and stops endpoints if the plan has commands for it, and deploys the
+was opened first), tells the switch which ports are down and how many endpoints of each revision are up, runs the analyses that
+the phase needs and sends their verdict, starts and stops endpoints if the plan has commands for it, and deploys the
 plan's last revision once the plan names it. If no book is open, it opens one with the revision that was stable, by the state file
 beside the plan and with the ports that were live, or else with the plan's first revision; a plan that names no revision that was
 live opens none. The plan is read again when its file changes: a deploy is an edit of it. A name keeps its ports: a revision with
@@ -60,10 +60,11 @@ A plan:
    "revisions": [{"name": "web-v1", "ports": [9101, 9102]}, from the first one to the one that is to be live
                  {"name": "web-v2", "ports": [9201, 9202]}]}
 What "health" and "progress" leave out is as above; an analysis that is left out waits for a verdict by hand; other keys that
-are left out do nothing. A command finds the name, the number and the ports of the revision that it judges in BG_REVISION,
-BG_REVISION_NUMBER and BG_PORTS; bin/analysis is one that judges by the access log. A plan may be in YAML if python3-yaml is
-installed. The key "$schema" can name the JSON schema of plans for editors: share/plan.schema.json. docs/OPERATING.md says what each
-line of the log means.
+are left out do nothing. In the place of a command, "pre" and "post" can be a list of 1 to 16 analyses, which all have to succeed:
+[{"name": "errors", "command": ["./errors.sh"]}, {"name": "latency", "command": ["./latency.sh"]}]. A command finds the name, the
+number and the ports of the revision that it judges in BG_REVISION, BG_REVISION_NUMBER and BG_PORTS; bin/analysis is one that judges
+by the access log. A plan may be in YAML if python3-yaml is installed. The key "$schema" can name the JSON schema of plans for
+editors: share/plan.schema.json. docs/OPERATING.md says what each line of the log means.
 
 Exit status: 0 after SIGTERM or ctrl-C, and for a plan in which `check` finds nothing wrong; 1 if the plan is wrong when it starts,
 by `check` or after `deploy`, if the switch can't be opened with it, or if another controller runs it; 2 if the words are wrong.

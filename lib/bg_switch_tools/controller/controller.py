@@ -71,7 +71,8 @@ class Controller:
         log.tell = self.notifier.take
         self.memory = makers.memory(path, plan, log)
         self.pause = Pause(path, log)
-        self.history = HistoryRecorder(path, log, self.memory.state.deployed)
+        state, results = self.memory.state, self.memory.results
+        self.history = HistoryRecorder(path, log, state.deployed, results)
         self.book = Book(log)
         self.clock = Clock()
         self.availability = Availability(log, self.once, probes)

@@ -1,4 +1,5 @@
 """Writes the history of a plan's rollout, from the reports that its controller reads."""
+from bg_switch_tools.controller.analysis_results import AnalysisResults
 from bg_switch_tools.controller.attempts import (
     ABORTED,
     DEPLOYED,
@@ -28,10 +29,18 @@ LINE = "line"  # by whom: a line that somebody sent to the switch
 class HistoryRecorder:
     """Notes what a report shows that the ones before have not shown."""
 
-    def __init__(self, plan_path: str, log: Log, deployed: PlannedRevision | None) -> None:
+    def __init__(
+        self,
+        plan_path: str,
+        log: Log,
+        deployed: PlannedRevision | None,
+        results: AnalysisResults | None = None,
+    ) -> None:
         """`deployed` is what a controller before this one has deployed by the plan: it may have
-        ended before it noted that."""
+        ended before it noted that. `results` are those of the analyses; None: those that are kept
+        beside the plan."""
         self.file = HistoryFile(plan_path)
+        self.results = results or AnalysisResults(plan_path)
         self.author = Author(plan_path)
         self.log = log
         self.is_failing = False
@@ -42,9 +51,8 @@ class HistoryRecorder:
             self._fail(error)
         newest = self.attempts.newest
         is_noted = deployed is None or newest is not None and newest.name == deployed.name
-        self.announced = (
-            deployed.name if deployed and not is_noted else ""
-        )  # what the controller deploys by its plan
+        # what the controller deploys by its plan
+        self.announced = deployed.name if deployed and not is_noted else ""
         self.planned: PlannedRevision | None = None  # the last revision of the plan
         self.planned_by = PLAN  # who has made it the last one
         self.failed: PlannedRevision | None = (
@@ -90,7 +98,7 @@ class HistoryRecorder:
         """The book is gone: nothing of it is live, and its attempt does not go on."""
         running = self._running()
         if running:
-            self._note(Event(local_time(), ENDED, running.name, running.number, how=LOST))
+            self._note_end(running.name, running.number, LOST)
         if self.attempts.newest and not self.attempts.is_lost:
             self._note(Event(local_time(), LOST))
 
@@ -100,6 +108,7 @@ class HistoryRecorder:
         beginning = self._beginning(report)
         if beginning:
             self._end_the_one_before(report)
+            self.results.begin(newest.name, newest.number)
             ports = known[newest.name].ports if newest.name in known else ()
             self._note(
                 Event(
@@ -112,15 +121,8 @@ class HistoryRecorder:
                 )
             )
         if not report.is_running and self._running():
-            self._note(
-                Event(
-                    local_time(),
-                    ENDED,
-                    newest.name,
-                    newest.number,
-                    how=ABORTED if report.phase == "aborted" else STABLE,
-                )
-            )
+            how = ABORTED if report.phase == "aborted" else STABLE
+            self._note_end(newest.name, newest.number, how)
         active, live = report.service("active"), self.attempts.live
         if live is None or not live.is_of(active.name, active.number):
             self._note(Event(local_time(), LIVE, active.name, active.number))
@@ -143,7 +145,12 @@ class HistoryRecorder:
         before = self._running()
         if before:
             how = UNDONE if report.newest == report.stable else REPLACED
-            self._note(Event(local_time(), ENDED, before.name, before.number, how=how))
+            self._note_end(before.name, before.number, how)
+
+    def _note_end(self, name: str, number: int, how: str) -> None:
+        """The attempt of this revision has ended, with what its analyses came to."""
+        analyses = self.results.end(name, number, how)
+        self._note(Event(local_time(), ENDED, name, number, how=how, analyses=analyses))
 
     def _by(self, beginning: str, newest: Revision, known: Revisions) -> str:
         """By whom it was deployed: the author of the plan's edit, or `plan`, or `line`."""

@@ -3,7 +3,7 @@ import contextlib
 import json
 import threading
 import time
-from collections.abc import Callable
+from collections.abc import Callable, Mapping
 from typing import TextIO
 
 from bg_switch_tools.switch.lines import meaning_of, was_carried_out, with_meaning
@@ -36,6 +36,10 @@ class Log:
         analysis, outage, command, fleet, leader, end."""
         self._write(event, text, {})
 
+    def say_result(self, text: str, told: Mapping[str, object]) -> None:
+        """Writes the result of an analysis; `told` is what only JSON shows of it."""
+        self._write("analysis", text, told)
+
     def say_reply(self, line: str, reply: str) -> None:
         """Writes an operator's line and its reply."""
         told = {
@@ -50,10 +54,10 @@ class Log:
         """Writes a line that `tell` is not given. Any thread may call this."""
         self._print(self._object(event, text, {}))
 
-    def _object(self, event: str, text: str, told: dict[str, object]) -> dict[str, object]:
+    def _object(self, event: str, text: str, told: Mapping[str, object]) -> dict[str, object]:
         return {"time": local_time(), "moment": self.moment, "event": event, "text": text, **told}
 
-    def _write(self, event: str, text: str, told: dict[str, object]) -> None:
+    def _write(self, event: str, text: str, told: Mapping[str, object]) -> None:
         whole = self._object(event, text, told)
         self._print(whole)
         if self.tell:

@@ -3,6 +3,7 @@ import dataclasses
 import time
 from collections.abc import Mapping
 
+from bg_switch_tools.controller.analysis_results import AnalysisResults
 from bg_switch_tools.controller.kept_ports import by_name, kept_in_history
 from bg_switch_tools.controller.log import Log
 from bg_switch_tools.controller.plan import Plan, PlannedRevision
@@ -38,6 +39,7 @@ class Memory:
     def __init__(self, plan_path: str, plan: Plan, log: Log) -> None:
         """Reads the state file. Where it can't be used, the log says what is done, and why."""
         self.file = StateFile(plan_path)
+        self.results = AnalysisResults(plan_path)
         self.log = log
         self.state = State(since=int(time.time()))
         self.is_fresh = True
@@ -270,10 +272,10 @@ class Memory:
             return self.kept[name]
         return plan.named(name) if stable is None else stable if stable.name == name else None
 
-    def set_analysis(self, process: ProcessId | None) -> None:
-        """Remembers the process of the analysis that runs; None where none does."""
-        if process != self.state.analysis:
-            self._keep(dataclasses.replace(self.state, analysis=process))
+    def set_analyses(self, processes: tuple[ProcessId, ...]) -> None:
+        """Remembers the processes of the analyses that run."""
+        if processes != self.state.analyses:
+            self._keep(dataclasses.replace(self.state, analyses=processes))
 
     def set_started(self, revisions: tuple[PlannedRevision, ...]) -> None:
         """Remembers which revisions were started and are to be stopped one day."""

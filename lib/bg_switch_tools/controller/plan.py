@@ -46,12 +46,29 @@ class Health:
 
 
 @dataclasses.dataclass(frozen=True)
-class Analyses:
-    """The commands of the analyses, by `pre` and `post`, and the seconds within which each has to
-    end."""
+class PlannedAnalysis:
+    """A command that judges a revision. `name` is empty where the command is the only one of its
+    analysis, and stands in the plan without a list."""
 
-    commands: Mapping[str, tuple[str, ...]]
+    command: tuple[str, ...]
+    name: str = ""
+
+
+@dataclasses.dataclass(frozen=True)
+class Analyses:
+    """The commands of the analyses, by `pre` and `post`, which all run at the same time, and the
+    seconds within which each has to end."""
+
+    commands: Mapping[str, tuple[PlannedAnalysis, ...]]
     seconds: float = 600
+
+    def by_place(self) -> dict[str, tuple[str, ...]]:
+        """The commands by their places in the plan."""
+        return {
+            f"analyses.{key}[{number}].command" if each.name else f"analyses.{key}": each.command
+            for key, several in self.commands.items()
+            for number, each in enumerate(several)
+        }
 
 
 @dataclasses.dataclass(frozen=True)

@@ -14,10 +14,10 @@ from bg_switch_tools.controller.unopened import why_plan_opens_none
 def _wrong_analyses(plan: Plan) -> list[str]:
     """A problem for each analysis of these tools that would end at once by its words, which takes a
     good revision back."""
-    told = {name: words_of_tool(command) for name, command in plan.analyses.commands.items()}
+    told = {place: words_of_tool(command) for place, command in plan.analyses.by_place().items()}
     return [
-        f"analyses.{name}: {fault}"
-        for name, words in told.items()
+        f"{place}: {fault}"
+        for place, words in told.items()
         if words is not None and (fault := fault_of_words(words))
     ]
 

@@ -9,10 +9,8 @@ from bg_switch_tools.controller.plan import Plan
 from bg_switch_tools.switch.durations import duration_of
 from bg_switch_tools.switch.json_values import Judge
 
-TOOLS = (
-    "analysis",
-    "bg-analysis",
-)  # bin/analysis, `bgctl analysis`, the word of the tools as one file; and that of the package
+# bin/analysis, `bgctl analysis`, the word of the tools as one file; and that of the package
+TOOLS = ("analysis", "bg-analysis")
 EVERY, EVERY_SECONDS = (
     "--every",
     "--interval",
@@ -67,16 +65,12 @@ def _length(words: Sequence[str]) -> tuple[float, str] | None:
 
 def judge_limits(judge: Judge, plan: Plan) -> None:
     """Notes the limits of an analysis that no run of it can keep."""
-    for name, command in plan.analyses.commands.items():
+    for place, command in plan.analyses.by_place().items():
         words = words_of_tool(command)
         length = None if words is None else _length(words)
         if words is None or length is None:
             continue
-        place, every, seconds = (
-            f"analyses.{name}",
-            option(words, *EVERY),
-            option(words, "--seconds"),
-        )
+        every, seconds = option(words, *EVERY), option(words, "--seconds")
         if length[0] >= plan.analyses.seconds:
             judge.note(
                 place,
@@ -92,9 +86,8 @@ def judge_limits(judge: Judge, plan: Plan) -> None:
 
 def commands(plan: Plan) -> dict[str, tuple[str, ...]]:
     """The commands of a plan by their places."""
-    told = {f"analyses.{name}": command for name, command in plan.analyses.commands.items()}
     return {
-        **told,
+        **plan.analyses.by_place(),
         "start": plan.commands.start,
         "stop": plan.commands.stop,
         "notify": plan.commands.notify,

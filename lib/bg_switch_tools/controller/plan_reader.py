@@ -1,9 +1,12 @@
 """Reads a plan, and judges it as a whole before any of it is used."""
+from collections.abc import Sequence
+
 from bg_switch_tools.controller.plan import (
     Analyses,
     Commands,
     Health,
     Plan,
+    PlannedAnalysis,
     PlannedRevision,
     Progress,
 )
@@ -15,6 +18,7 @@ LARGEST = 1 << 20  # bytes of a plan
 MOST_REVISIONS = 64
 LEAST_SECONDS, LONGEST = 0.1, 86400  # of each interval and limit of a plan
 MOST_FAILURES = 1000
+MOST_AT_ONCE = 16  # analyses that `pre` and `post` each may have
 COMMAND_KEYS = ("start", "stop", "notify")
 SERVICE_KEYS = ("active", "preview")
 SCHEMA = (
@@ -68,10 +72,45 @@ def read_health(judge: Judge, told: object, place: str) -> Health:
     )
 
 
+def read_named_analysis(judge: Judge, told: object, place: str) -> PlannedAnalysis:
+    members = judge.members(told, place, ("name", "command"), ("name", "command"))
+    return PlannedAnalysis(
+        judge.member(members, "command", place, judge.command, ()),
+        judge.member(members, "name", place, judge.name, ""),
+    )
+
+
+def note_repeated(judge: Judge, names: Sequence[str], number: int, place: str) -> None:
+    """Notes the name of the item of this number where an item before it in the list has it too."""
+    name = names[number]
+    if name and name in names[:number]:
+        judge.note(
+            f"{place}[{number}].name",
+            f'"{name}" is already at {place}[{names.index(name)}].name',
+        )
+
+
+def read_commands_of_analysis(
+    judge: Judge, told: object, place: str
+) -> tuple[PlannedAnalysis, ...]:
+    """A command alone, or a list of analyses that each have a name."""
+    if not isinstance(told, list) or not any(isinstance(one, dict) for one in told):
+        return (PlannedAnalysis(judge.command(told, place)),)
+    if len(told) > MOST_AT_ONCE:
+        judge.note(place, f"it is not a list of 1 to {MOST_AT_ONCE} analyses")
+        return ()
+    several = tuple(
+        read_named_analysis(judge, one, f"{place}[{number}]") for number, one in enumerate(told)
+    )
+    for number in range(len(several)):
+        note_repeated(judge, [each.name for each in several], number, place)
+    return several
+
+
 def read_analyses(judge: Judge, told: object, place: str) -> Analyses:
     members = judge.members(told, place, ("pre", "post", "seconds"))
     commands = {
-        name: judge.command(members[name], f"{place}.{name}")
+        name: read_commands_of_analysis(judge, members[name], f"{place}.{name}")
         for name in ("pre", "post")
         if name in members
     }
@@ -110,11 +149,7 @@ def compare(judge: Judge, revisions: tuple[PlannedRevision, ...], place: str) ->
     names = [revision.name for revision in revisions]
     first: dict[int, str] = {}  # by the port: its place in the revision that has it first
     for number, revision in enumerate(revisions):
-        if revision.name and revision.name in names[:number]:
-            judge.note(
-                f"{place}[{number}].name",
-                f'"{revision.name}" is already at {place}[{names.index(revision.name)}].name',
-            )
+        note_repeated(judge, names, number, place)
         if revision.ports and revisions[0].ports and len(revision.ports) != len(revisions[0].ports):
             judge.note(
                 f"{place}[{number}].ports",

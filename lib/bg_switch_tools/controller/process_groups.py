@@ -13,10 +13,8 @@ TO_STDERR = (
     2  # the descriptor that a command prints to, since the log alone stands on standard output
 )
 LOOK = 0.02  # seconds between two looks at whether a group has ended
-SESSION, START_TIME = (
-    3,
-    19,
-)  # places in /proc/PID/stat behind the name of the program (proc(5): fields 6 and 22)
+# places in /proc/PID/stat behind the name of the program (proc(5): fields 6 and 22)
+SESSION, START_TIME = (3, 19)
 
 
 @dataclasses.dataclass(frozen=True)
@@ -94,14 +92,22 @@ class Group:
     """A command that runs as the leader of a session. Its number stays its own up to `reap` or the
     end of `stop`."""
 
-    def __init__(self, command: Sequence[str], folder: str, variables: Mapping[str, str]) -> None:
-        """Starts it in a folder. `OSError` or `ValueError` where it can't be run."""
+    def __init__(
+        self,
+        command: Sequence[str],
+        folder: str,
+        variables: Mapping[str, str],
+        output: int = TO_STDERR,
+    ) -> None:
+        """Starts it in a folder; it prints to this descriptor. `OSError` or `ValueError` where it
+        can't be run."""
         self.process = subprocess.Popen(
             command,
             cwd=folder,
             env={**os.environ, **variables},
             stdin=subprocess.DEVNULL,
-            stdout=TO_STDERR,
+            stdout=output,
+            stderr=output,
             start_new_session=True,
         )
         fields = _stat(self.process.pid)

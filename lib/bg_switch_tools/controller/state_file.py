@@ -29,6 +29,7 @@ NEEDED = ("moment", "stable", "deployed", "attempt")
 LATER = (
     "since",
     "analysis",
+    "analyses",
     "started",
     "commands",
     "former",
@@ -63,8 +64,8 @@ class State:
     """`stable` is the revision that was stable last, of those whose ports are known. `deployed` is
     the plan's last revision that was deployed because the plan names it. `attempt` is the newest
     revision while its attempt runs. `since` is the time at which the moment was 0, in seconds of
-    the system's clock (0 where that is not known). `analysis` is the process of the analysis that
-    runs. `started` are the revisions that were started and not stopped yet, `commands` the
+    the system's clock (0 where that is not known). `analyses` are the processes of the analyses that
+    run. `started` are the revisions that were started and not stopped yet, `commands` the
     processes of the commands that start and stop them and run. `former` are the control ports that
     the plan named before. `ports` are the revisions of the book whose ports are known for sure,
     `held` those of the plan that are held back. `unknown` is the name of the stable revision where
@@ -76,7 +77,7 @@ class State:
     deployed: PlannedRevision | None = None
     attempt: PlannedRevision | None = None
     since: int = 0
-    analysis: ProcessId | None = None
+    analyses: tuple[ProcessId, ...] = ()
     started: tuple[PlannedRevision, ...] = ()
     commands: tuple[ProcessId, ...] = ()
     former: tuple[int, ...] = ()
@@ -114,6 +115,14 @@ def _told_held(held: tuple[HeldBack, ...]) -> object:
     return [{"revision": _told(each.revision), "reason": each.reason} for each in held]
 
 
+def _told_analyses(analyses: tuple[ProcessId, ...]) -> dict[str, object]:
+    """The processes of the analyses: one as a file has it that has no list of them."""
+    told = [dataclasses.asdict(process) for process in analyses]
+    return {"analysis": told[0] if len(told) == 1 else None} | (
+        {"analyses": told} if len(told) > 1 else {}
+    )
+
+
 def written(state: State) -> bytes:
     """The bytes of a state file."""
     return (
@@ -124,7 +133,7 @@ def written(state: State) -> bytes:
                 "deployed": _told(state.deployed),
                 "attempt": _told(state.attempt),
                 "since": state.since,
-                "analysis": state.analysis and dataclasses.asdict(state.analysis),
+                **_told_analyses(state.analyses),
                 "started": [_told(revision) for revision in state.started],
                 "commands": [dataclasses.asdict(command) for command in state.commands],
                 "former": list(state.former),
@@ -198,14 +207,23 @@ def _read_values(judge: Judge, members: JsonObject) -> State:
         if "ports" in members
         else tuple(dict.fromkeys(filter(None, (deployed, attempt, stable))))
     )
-    analysis = members.get("analysis")
+    one = members.get("analysis")
+    analyses = [
+        *([] if one is None else [_read_process(judge, one, "analysis")]),
+        *(
+            _read_process(judge, each, f"analyses[{number}]")
+            for number, each in enumerate(
+                _read_list(judge, members.get("analyses", []), "analyses")
+            )
+        ),
+    ]
     return State(
         judge.whole_number(members["moment"], "moment", 0, GREATEST_MOMENT),
         stable,
         deployed,
         attempt,
         judge.whole_number(members.get("since", 0), "since", 0, GREATEST_TIME),
-        None if analysis is None else _read_process(judge, analysis, "analysis"),
+        tuple(analyses),
         tuple(
             _read_revision(judge, one, f"started[{number}]") for number, one in enumerate(started)
         ),

@@ -4,6 +4,7 @@ import time
 from collections.abc import Mapping, Sequence
 from typing import TypedDict
 
+from bg_switch_tools.controller.analysis_results import AttemptResults
 from bg_switch_tools.dashboard.alarms import alarms
 from bg_switch_tools.dashboard.local_controller import ControllerView
 from bg_switch_tools.dashboard.steps import SeenPhases, possible_commands, steps
@@ -42,6 +43,8 @@ class Board:
         self.log_path = log_path
         self.is_read_only = is_read_only
         self.plan = plan
+        self.results_of = plan  # beside this path are the results of analyses; empty: not looked at
+        self.results = AttemptResults()
         self.controller: ControllerView | None = (
             None  # from the first look on, where there is a plan
         )
@@ -241,6 +244,7 @@ class Board:
             "alarms": alarms(report) if not self.fault else [],
             "fault": self.own_fault,
             "controller": self._told_controller(),
+            "results": self.results.as_json() if self.results_of else None,
             "log": {
                 "path": self.log_path,
                 "fault": self.log_fault,

@@ -119,6 +119,8 @@ def main(words: Sequence[str]) -> int:
         )
         file = fleet_file(given.fleet)
         agent = local_agent(file, given.agent_state) if file and board else None
+        if board and agent and not given.plan:
+            board.results_of = agent.files
         server.run(board, file, agent, given.listen)
     except WrongFleetFile as wrong:
         for problem in wrong.problems:

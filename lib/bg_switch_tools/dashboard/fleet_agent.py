@@ -15,7 +15,8 @@ class LocalAgent:
     def __init__(self, file: FleetFile, state: str) -> None:
         """`state` is where the agent keeps its files, as its own option has it; empty: beside the
         fleet file."""
-        self.path = path_of(file, pathlib.Path(state or file.folder)) + SUFFIX
+        self.files = path_of(file, pathlib.Path(state or file.folder))  # without their endings
+        self.path = self.files + SUFFIX
 
     def status(self, now: float) -> AgentStatus | None:
         """What the agent tells; None where there is no file, where it can't be read, and where

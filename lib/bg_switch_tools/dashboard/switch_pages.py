@@ -6,6 +6,7 @@ import secrets
 
 from aiohttp import web
 
+from bg_switch_tools.controller.analysis_results import ResultsFile
 from bg_switch_tools.dashboard import guard
 from bg_switch_tools.dashboard.board import Board
 from bg_switch_tools.dashboard.local_controller import LocalController
@@ -36,6 +37,7 @@ class SwitchPages:
         self.board = board
         self.follower = Follower(board.log_path, BACKLOG) if board.log_path else None
         self.controller = LocalController(board.plan) if board.plan else None
+        self.results = ResultsFile(board.results_of) if board.results_of else None
         self.token = secrets.token_urlsafe(32)
         self.page = page(
             "index.html", "" if board.is_read_only else self.token, FLEET if has_fleet else None
@@ -59,6 +61,8 @@ class SwitchPages:
                 seen = await asyncio.to_thread(self.look)
                 if self.controller:
                     self.board.take_controller(await asyncio.to_thread(self.controller.look))
+                if self.results:
+                    self.board.results = await asyncio.to_thread(self.results.read)
                 self.take(*seen, is_counted)
             except (
                 Exception

@@ -4,7 +4,7 @@ import os
 import re
 from typing import NamedTuple
 
-from bg_switch_tools.controller.plan import Analyses, Health, Plan, Progress
+from bg_switch_tools.controller.plan import Analyses, Health, Plan, PlannedAnalysis, Progress
 from bg_switch_tools.controller.plan_limits import missing_commands
 from bg_switch_tools.controller.plan_reader import (
     COMMAND_KEYS,
@@ -156,7 +156,7 @@ def _plan(machine: MachineSettings) -> Plan:
     return Plan(
         machine.control,
         Health(),
-        Analyses(machine.analyses),
+        Analyses({name: (PlannedAnalysis(words),) for name, words in machine.analyses.items()}),
         Progress(),
         (),
         machine.commands,

@@ -9,6 +9,7 @@ from bg_switch_tools.controller.plan import (
     Commands,
     Health,
     Plan,
+    PlannedAnalysis,
     PlannedRevision,
     Progress,
     Revisions,
@@ -16,6 +17,7 @@ from bg_switch_tools.controller.plan import (
 from bg_switch_tools.controller.plan_reader import (
     LARGEST,
     LONGEST,
+    MOST_AT_ONCE,
     SCHEMA,
     WrongPlan,
     compare_ports,
@@ -25,7 +27,7 @@ from bg_switch_tools.controller.plan_reader import (
     seconds,
 )
 from bg_switch_tools.controller.plan_text import value_of
-from bg_switch_tools.switch.json_values import JsonObject, Judge
+from bg_switch_tools.switch.json_values import JsonObject, Judge, shown
 
 KEYS = ("health", "analyses", "progress", "redispatch", "revisions", "fleet", SCHEMA)
 OF_MACHINES = (
@@ -39,6 +41,7 @@ OF_MACHINES = (
 )  # keys of a plan for one machine alone
 MOST_MISSING = 1000
 ANALYSES = ("pre", "post")
+Names = str | tuple[str, ...]  # of one analysis, or of several that run at the same time
 
 
 @dataclasses.dataclass(frozen=True)
@@ -52,7 +55,7 @@ class FleetPlan(Revisions):
 
     revisions: tuple[PlannedRevision, ...]
     health: Health = Health()
-    analyses: Mapping[str, str] = dataclasses.field(default_factory=dict)
+    analyses: Mapping[str, Names] = dataclasses.field(default_factory=dict)
     analysis_seconds: float = Analyses.seconds
     progress: Progress = Progress()
     redispatch: bool = True
@@ -76,9 +79,28 @@ class MachineSettings:
     rollout: str = ""
 
 
-def _read_analyses(judge: Judge, told: object, place: str) -> tuple[dict[str, str], float]:
+def _read_names(judge: Judge, told: object, place: str) -> Names:
+    """The name of an analysis, or a list of distinct names."""
+    if not isinstance(told, list):
+        return judge.name(told, place)
+    if not 1 <= len(told) <= MOST_AT_ONCE:
+        judge.note(place, f"it is not a list of 1 to {MOST_AT_ONCE} names")
+        return ()
+    for number, one in enumerate(told):
+        if one in told[:number]:
+            judge.note(
+                f"{place}[{number}]", f"{shown(one)} is already at {place}[{told.index(one)}]"
+            )
+    return tuple(judge.name(one, f"{place}[{number}]") for number, one in enumerate(told))
+
+
+def _read_analyses(judge: Judge, told: object, place: str) -> tuple[dict[str, Names], float]:
     members = judge.members(told, place, (*ANALYSES, "seconds"))
-    names = {key: judge.name(members[key], f"{place}.{key}") for key in ANALYSES if key in members}
+    names = {
+        key: _read_names(judge, members[key], f"{place}.{key}")
+        for key in ANALYSES
+        if key in members
+    }
     return names, seconds(judge, members, "seconds", place, Analyses.seconds)
 
 
@@ -89,7 +111,7 @@ def _read(judge: Judge, told: object) -> FleetPlan:
             judge.note(key, "stands in the fleet file of each machine")
     members = judge.members(told, "", (*KEYS, *OF_MACHINES), ("revisions",))
     judge.member(members, SCHEMA, "", judge.text, "")
-    none: tuple[dict[str, str], float] = ({}, Analyses.seconds)
+    none: tuple[dict[str, Names], float] = ({}, Analyses.seconds)
     names, limit = judge.member(
         members, "analyses", "", lambda value, at: _read_analyses(judge, value, at), none
     )
@@ -143,6 +165,20 @@ def read_fleet_plan(text: str) -> FleetPlan:
     return plan
 
 
+def _each(names: Names) -> tuple[str, ...]:
+    return (names,) if isinstance(names, str) else names
+
+
+def _planned(names: Names, settings: MachineSettings) -> tuple[PlannedAnalysis, ...] | None:
+    """The analyses of these names; None where the machine has no command for one of them."""
+    if any(name not in settings.analyses for name in _each(names)):
+        return None
+    return tuple(
+        PlannedAnalysis(settings.analyses[name], "" if isinstance(names, str) else name)
+        for name in _each(names)
+    )
+
+
 def machine_plan(
     plan: FleetPlan, settings: MachineSettings, others: tuple[PlannedRevision, ...] = ()
 ) -> Plan:
@@ -153,9 +189,9 @@ def machine_plan(
     names = {revision.name for revision in plan.revisions}
     known = {revision.name: revision for revision in others if revision.name not in names}
     commands = {
-        key: settings.analyses[name]
-        for key, name in plan.analyses.items()
-        if name in settings.analyses
+        key: planned
+        for key, names in plan.analyses.items()
+        if (planned := _planned(names, settings)) is not None
     }
     made = Plan(
         settings.control,
@@ -176,4 +212,5 @@ def machine_plan(
 
 def missing_analyses(plan: FleetPlan, settings: MachineSettings) -> list[str]:
     """The names of the plan's analyses that the machine has no command for."""
-    return sorted({name for name in plan.analyses.values() if name not in settings.analyses})
+    told = {name for names in plan.analyses.values() for name in _each(names)}
+    return sorted(told - set(settings.analyses))

@@ -154,7 +154,7 @@ class Machine:
         elif (
             report.phase == "postAnalysis"
             and is_of_fleet(report, known)
-            and not self._analysis("post")
+            and not self._has_analysis("post")
         ):
             self.take_passed()
         is_failed = (
@@ -166,9 +166,9 @@ class Machine:
             (self.failed_at if self.failed_at is not None else now) if is_failed else None
         )
 
-    def _analysis(self, name: str) -> str:
+    def _has_analysis(self, name: str) -> bool:
         plan = self.fleet_plan
-        return plan.analyses.get(name, "") if plan else ""
+        return plan is not None and name in plan.analyses
 
     def _set_joined(self, joined: Joined) -> None:
         self._set(dataclasses.replace(self.state, joined=joined))

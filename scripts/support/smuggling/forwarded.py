@@ -12,6 +12,7 @@ from collections.abc import Iterable, Iterator, Sequence
 from typing import NamedTuple
 
 from support import TOP, clients, processes
+from support import PROGRAM
 from support.endpoints import BACKLOG, END_OF_HEAD, LONGEST
 from support.messages import ROLLOUT, response
 from support.operators import Operator
@@ -21,7 +22,7 @@ from support.smuggling.differences import Request, may_differ
 from support.smuggling.messages import Message
 from support.smuggling.readings import Case, Read, Reader, Reading, case_of, items_in, shortened
 from support.smuggling.servers import PORTS
-from support.switch import LISTENING, PROGRAM, words_of_serve
+from support.switch import LISTENING, words_of_serve
 
 # How long an endpoint is given to tell what was written to it, in seconds.
 LONGEST_RECORD = 20

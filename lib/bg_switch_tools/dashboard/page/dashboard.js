@@ -125,7 +125,22 @@ function showAttempt() {
       {class: step.state, "data-step": step.name, "aria-current": step.state === "current" ? "step" : false},
       span("dot", ""), span("step-title", step.title), span("unseen", `, ${step.state}`))));
   }
+  showAnalyses();
   showCommands(state.switch.answers);
+}
+
+// The analyses of the newest revision, each with its result and the last lines that it has printed.
+function showAnalyses() {
+  const results = state.results, list = byId("analyses");
+  const isOfNewest = results && newest() && results.revision === newest().name && results.number === newest().number;
+  const analyses = isOfNewest ? results.analyses : [], told = JSON.stringify(analyses);
+  list.hidden = analyses.length === 0;
+  if (list.dataset.told === told) return;
+  list.dataset.told = told;
+  list.replaceChildren(...analyses.map((each) => element("li", {class: each.result, "data-analysis": each.analysis, "data-name": each.name},
+    element("p", {}, span("name", `analysis ${each.analysis}${each.name ? ` ${each.name}` : ""}`),
+      span("badge result", each.result), span("faint", each.reason)),
+    ...each.last.map((line) => element("p", {class: "faint printed", text: line})))));
 }
 
 function showCommands(maySend) {
