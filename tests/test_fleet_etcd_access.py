@@ -1,8 +1,11 @@
 """Who may use a real etcd: users with passwords and roles, and clients with certificates."""
+import contextlib
 import pathlib
 import shutil
+import socket
 import ssl
 import tempfile
+import threading
 import time
 import unittest
 
@@ -10,6 +13,7 @@ from bg_switch_tools.fleet.etcd import EtcdStore
 from bg_switch_tools.fleet.store import Compare
 from bg_switch_tools.fleet.store_endpoints import StoreEndpoint
 from bg_switch_tools.fleet.tls_files import TlsFiles
+from support.clients import reset
 from support.pace import is_within
 from tests.real_etcd import (
     MISSING,
@@ -23,7 +27,7 @@ from tests.real_etcd import (
     in_base64,
 )
 from tests.store_checks import PREFIX, fault_of, seconds_of, store_at
-from tests.tool_runs import comes
+from tests.tool_runs import WAIT, comes
 
 SOON = 3.0  # seconds within which a wait that is woken ends
 LONG = 30.0  # seconds of a wait that is woken
@@ -50,6 +54,15 @@ def ask_for_users(endpoint: StoreEndpoint, context: ssl.SSLContext | None = None
         answer = asked(endpoint, f"/v3/auth/{path}", message, context)
         if "error" in answer:
             raise AssertionError(f"{path}: {answer}")
+
+
+def reset_each(server: socket.socket) -> None:
+    """Resets each connection that a server gets, after its first bytes."""
+    with contextlib.suppress(OSError):
+        while True:
+            connection, _ = server.accept()
+            connection.recv(1)
+            reset(connection)
 
 
 class WithUsers(WithCluster):
@@ -220,6 +233,16 @@ class WithTls(unittest.TestCase):
             "TLS fails: ",
             fault_of(store_at(plain.endpoints[0], tls=self.files(self.good, self.good)).read),
         )
+
+    def test_a_server_that_resets_the_handshake(self) -> None:
+        with socket.create_server(("127.0.0.1", 0)) as server:
+            thread = threading.Thread(target=reset_each, args=(server,), daemon=True)
+            thread.start()
+            endpoint = StoreEndpoint("127.0.0.1", server.getsockname()[1])
+            told = fault_of(store_at(endpoint, tls=self.files(self.good, self.good)).read)
+            server.shutdown(socket.SHUT_RDWR)
+        thread.join(WAIT)
+        self.assertIn("TLS fails: it closes the connection in the handshake", told)
 
     def test_files_that_are_replaced_are_read_again(self) -> None:
         files = TlsFiles(*(str(self.folder / name) for name in ("now.ca", "now.pem", "now.key")))

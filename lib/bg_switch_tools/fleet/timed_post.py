@@ -91,6 +91,18 @@ def reason_of(error: Exception) -> str:
     return getattr(error, "strerror", None) or str(error) or type(error).__name__
 
 
+def with_tls(
+    connection: socket.socket, context: ssl.SSLContext, host: str, limit: TimeLimit
+) -> ssl.SSLSocket:
+    """The connection with TLS. `OSError` where the handshake fails; `NoConnection` where the peer
+    closes the connection in it, as a server without TLS may."""
+    connection.settimeout(limit.left())
+    try:
+        return context.wrap_socket(connection, server_hostname=host)
+    except (ConnectionResetError, BrokenPipeError):
+        raise NoConnection("TLS fails: it closes the connection in the handshake") from None
+
+
 @contextlib.contextmanager
 def responding(
     post: Post, connecting: TimeLimit, limit: TimeLimit
@@ -103,10 +115,8 @@ def responding(
         try:
             connection = opened.enter_context(connected(post.endpoint, connecting))
             if post.context:
-                connection.settimeout(connecting.left())
-                connection = opened.enter_context(
-                    post.context.wrap_socket(connection, server_hostname=post.endpoint.host)
-                )
+                secured = with_tls(connection, post.context, post.endpoint.host, connecting)
+                connection = opened.enter_context(secured)
         except OSError as error:
             raise NoConnection(reason_of(error)) from None
         try:
