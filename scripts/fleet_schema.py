@@ -17,6 +17,7 @@ from plan_schema import (
     Schema,
     an_object,
     command,
+    control,
     port,
     print_or_write,
     schema_text,
@@ -112,7 +113,10 @@ def schema() -> Schema:
             "The name of this machine as a member of the fleet. A file for people alone has no key of a machine.",
             name(),
         ),
-        "control": told("The control port of the switch of this machine.", port()),
+        "control": told(
+            "The control port of the switch of this machine, or the absolute path of its control socket.",
+            control(),
+        ),
         "rollout": told(
             "The file of the Rollout with which the switch of this machine is started. The agent needs it: it refuses a "
             "Rollout that lets the switch promote by itself.",

@@ -1,4 +1,4 @@
-"""The control port of a running `serve`: the order of connections, those that are idle, silent,
+"""The control port and the control socket of a running `serve`: the order of connections, those that are idle, silent,
 endless or don't read, requests of browsers, and accepts that fail."""
 import contextlib
 import os
@@ -6,14 +6,17 @@ import pathlib
 import signal
 import socket
 import statistics
+import tempfile
 import threading
 import time
-from collections.abc import Iterator
+from collections.abc import Callable, Iterator
 
 from support import checks, processes
 from support.checks import check, check_beside, check_soon, check_within, comes
 from support.clients import SMALL_BUFFER, connect, received, send_in_pieces, timed_for
+from support.many_sockets import many_sockets
 from support.messages import BY_HAND
+from support.operators import Operator
 from support.ports import HOST
 from support.stderr_lines import accepts_fail, check_told_once, told
 from support.switch import Switch, book
@@ -37,6 +40,9 @@ BETWEEN_LINES = 0.1
 # How many connections wait at a port while the switch is stopped: more than the 128 that a listener
 # of Rattle's library has room for, and no more than the system allows.
 WAITING = min(400, int(pathlib.Path("/proc/sys/net/core/somaxconn").read_text(encoding="ascii")))
+# How many sockets there are beside an order and a report; on how many connections both are asked
+# for; how many times as long they may take there, and by how many milliseconds more.
+SOCKETS, CONNECTIONS, MANY, JITTER = 8_000, 41, 1.5, 2
 # What comes before the lines that a web page would have carried out.
 BROWSERS = {
     "a form": b"POST / HTTP/1.1\r\nHost: 127.0.0.1\r\nContent-Type: text/plain\r\nContent-Length: 60\r\n\r\n",
@@ -67,28 +73,29 @@ def check_line(name: str, switch: Switch, line: str, most: float = SOON) -> None
     check_soon(f"the wait of an order beside {name}", time.monotonic() - start, most)
 
 
-def idle_connections() -> None:
+def idle_connections(path: str = "") -> None:
     """Connections that say nothing, or no whole line, keep nobody out, before a book is open and
     after."""
-    with book(is_open=False) as switch, contextlib.ExitStack() as stack:
+    # the switch ends first: at the end of its input, a part of a line is a line, such as `quit`
+    with contextlib.ExitStack() as stack, book(is_open=False, path=path) as switch:
         for number in range(40):
-            idle = stack.enter_context(connect(switch.control))
+            idle = stack.enter_context(connect(switch.place))
             idle.sendall(b"quit"[: number % 5])
         start = time.monotonic()
         check("open beside idle connections", switch.answer_to("open one 9"), "ok 0")
         check_soon("the wait of open beside idle connections", time.monotonic() - start, SOON)
         check_line("idle connections", switch, "tick 1")
         check_line("idle connections", switch, "tick 2")
-    with book() as switch, connect(switch.control) as idle:
+    with book(path=path) as switch, connect(switch.place) as idle:
         idle.sendall(b"tick 3")
         check_line("a connection with a part of a line", switch, "tick 2")
         idle.sendall(b"\n")
         check("the line of a connection that was idle", idle.recv(100), b"ok 0\n")
 
 
-def lasting_connections() -> None:
+def lasting_connections(path: str = "") -> None:
     """A connection that is silent between its lines stays, beside others with whole lines."""
-    with book() as switch, contextlib.closing(switch.operator()) as silent:
+    with book(path=path) as switch, contextlib.closing(switch.operator()) as silent:
         silent.check("tick 1", "ok 0")
         silent.socket.sendall(b"tick 2\ntick 30")
         check("a line before a part of a line", silent.next_line(), "ok 0")
@@ -229,10 +236,10 @@ def stopped(switch: Switch) -> Iterator[None]:
         switch.process.send_signal(signal.SIGCONT)
 
 
-def lines_take_turns() -> None:
+def lines_take_turns(path: str = "") -> None:
     """Of all lines that wait, the first is answered first, but an urgent one before; a connection
     with many lines has one answered, and then the next connection."""
-    with book() as switch, contextlib.ExitStack() as stack:
+    with book(path=path) as switch, contextlib.ExitStack() as stack:
         operators = [stack.enter_context(contextlib.closing(switch.operator())) for _ in range(4)]
         for operator in operators:
             operator.check("tick 0", "ok 0")
@@ -272,12 +279,12 @@ def lines_take_turns() -> None:
         check("each report of a connection with 5,000 lines", lines.count(b"end"), 5000)
 
 
-def sequence_within_a_connection() -> None:
+def sequence_within_a_connection(path: str = "") -> None:
     """The lines of a connection are answered in their order, an abort too, one between those of
     other connections."""
-    with book() as switch, contextlib.closing(switch.operator()) as one, contextlib.closing(
+    with book(path=path) as switch, contextlib.closing(
         switch.operator()
-    ) as other:
+    ) as one, contextlib.closing(switch.operator()) as other:
         one.check("tick 0", "ok 0")
         other.check("tick 0", "ok 0")
         with stopped(switch):
@@ -335,11 +342,11 @@ def replies_not_taken_hold_nobody() -> None:
         check_line("connections that were ended", switch, "tick 1", PROMPT)
 
 
-def urgent_lines() -> None:
+def urgent_lines(path: str = "") -> None:
     """Connections that send aborts without end hold up no other line."""
-    with book() as switch, contextlib.ExitStack() as stack:
+    with book(path=path) as switch, contextlib.ExitStack() as stack:
         for _ in range(8):
-            client = stack.enter_context(connect(switch.control))
+            client = stack.enter_context(connect(switch.place))
             threading.Thread(
                 target=send_in_pieces, args=(client, [b"abort\n" * 100_000], 0), daemon=True
             ).start()
@@ -348,15 +355,15 @@ def urgent_lines() -> None:
             check_line("aborts without end", switch, f"tick {moment}", PROMPT)
 
 
-def full_port() -> None:
+def full_port(path: str = "") -> None:
     """Where the port is full, the connection goes that is silent for the longest, so a new operator
     always gets in."""
-    switch = Switch(BY_HAND, descriptors=4 * 16)
+    switch = Switch(BY_HAND, descriptors=4 * 16, path=path)
     check("open", switch.answer_to("open one 1"), "ok 0")
     with contextlib.closing(switch.operator()) as busy, contextlib.ExitStack() as stack:
         silent = []
         for moment in range(1, 101):
-            silent.append(stack.enter_context(connect(switch.control)))
+            silent.append(stack.enter_context(connect(switch.place)))
             busy.check(f"tick {moment}", "ok 0")
         check_line("silent connections at a full port", switch, "tick 101", PROMPT)
         busy.check("tick 102", "ok 0")
@@ -405,9 +412,9 @@ def backlog() -> None:
         check_line("connections that have gone", switch, "tick 1")
 
 
-def lines_that_are_too_long() -> None:
+def lines_that_are_too_long(path: str = "") -> None:
     """A line that is too long has its fault once it ends, and holds nobody up before."""
-    with book() as switch:
+    with book(path=path) as switch:
         for length, expected in (
             (4096, "NotAscii"),
             (4097, "TooLong"),
@@ -421,9 +428,9 @@ def lines_that_are_too_long() -> None:
                         "tick 0"
                     )
                     check(f"a line of {length} bytes", got, ([f"fault {expected}"], "ok 0"))
-            got_at_end = timed_for(switch.control, SEEN, [b"tick 0\n" + b"\t" * length])
+            got_at_end = timed_for(switch.place, SEEN, [b"tick 0\n" + b"\t" * length])
             check("a line that has not ended has no reply", got_at_end.answer, b"")
-            with connect(switch.control) as client:
+            with connect(switch.place) as client:
                 client.sendall(b"\t" * length)
                 check_line("a line that has not ended", switch, "tick 0", PROMPT)
                 client.shutdown(socket.SHUT_WR)
@@ -434,18 +441,18 @@ def lines_that_are_too_long() -> None:
                 )
 
 
-def lines_of_the_gone() -> None:
+def lines_of_the_gone(path: str = "") -> None:
     """A line whose sender has closed its connection, or its writing side, is carried out."""
-    with book() as switch:
+    with book(path=path) as switch:
         for moment, ending in ((1, b"\n"), (2, b"")):
-            with connect(switch.control) as client:
+            with connect(switch.place) as client:
                 client.sendall(b"tick %d" % moment + ending)
             check(
                 "the line of a connection that was closed",
                 comes(lambda: switch_moment(switch) == moment),
                 True,
             )
-        with connect(switch.control) as client:
+        with connect(switch.place) as client:
             client.sendall(b"tick 3\ntick 4")
             client.shutdown(socket.SHUT_WR)
             check(
@@ -585,6 +592,146 @@ def notices_without_room() -> None:
     switch.kill()
 
 
+AT_SOCKET = (
+    idle_connections,
+    lasting_connections,
+    lines_take_turns,
+    sequence_within_a_connection,
+    urgent_lines,
+    full_port,
+    lines_that_are_too_long,
+    lines_of_the_gone,
+)
+
+
+def at_socket(part: Callable[[str], None]) -> Callable[[], None]:
+    """The part once more, at a control socket."""
+
+    def part_at_socket() -> None:
+        with tempfile.TemporaryDirectory() as folder:
+            part(f"{folder}/control")
+
+    part_at_socket.__name__ = f"{part.__name__}_at_socket"
+    return part_at_socket
+
+
+def port_and_socket() -> None:
+    """The lines of a port and of a socket have the same replies, and take turns with one another.
+    Silent connections of the one hold up no line of the other."""
+    with tempfile.TemporaryDirectory() as folder, contextlib.ExitStack() as stack:
+        path = f"{folder}/control"
+        switch = Switch(BY_HAND, workers=2, flags=("--control-socket", path))
+        check("open", switch.answer_to("open one 1"), "ok 0")
+        at_port = stack.enter_context(contextlib.closing(Operator(switch.control)))
+        at_path = stack.enter_context(contextlib.closing(Operator(path)))
+        for line in (
+            *FAULTS,
+            b"tick 1",
+            b"report",
+            b"verdict pre failed",
+            b"open one 1",
+            b"down 1",
+        ):
+            replies = [operator.answer(line) for operator in (at_port, at_path)]
+            check(f"the replies to {line!r} at the port and at the socket", *replies)
+        for operator in (at_port, at_path):
+            for _ in range(40):
+                silent = stack.enter_context(connect(operator.control))
+                silent.sendall(b"tick")
+        for operator in (at_port, at_path):
+            start = time.monotonic()
+            operator.check("tick 1", "ok 0")
+            check_soon("a line beside silent ones", time.monotonic() - start, PROMPT)
+        at_path.check("deploy two 2", "ok 0")
+        with stopped(switch):
+            for operator, line in ((at_port, b"tick 5\n"), (at_path, b"tick 6\n")):
+                operator.socket.sendall(line)
+                time.sleep(BETWEEN_LINES)
+        check(
+            "lines of the port and of the socket, in the order in which they came",
+            [operator.next_line() for operator in (at_port, at_path)],
+            ["ok 0"] * 2,
+        )
+        with stopped(switch):
+            for operator, line in ((at_port, b"promote full\n"), (at_path, b"abort\n")):
+                operator.socket.sendall(line)
+        check(
+            "an abort of the socket before a line of the port",
+            [operator.next_line() for operator in (at_path, at_port)],
+            ["ok 0", "refused Aborted"],
+        )
+        at_path.send_quit()
+        check(
+            "both are ended by quit",
+            (received(at_port.socket), received(at_path.socket)),
+            (b"", b""),
+        )
+        check("the port is closed", comes(lambda: not is_listened_at(switch.control)), True)
+        switch.kill()
+
+
+def is_listened_at(port: int) -> bool:
+    with contextlib.suppress(ConnectionRefusedError), connect(port):
+        return True
+    return False
+
+
+def accepts_that_fail_at_the_socket() -> None:
+    """The same as at the port: it is told once, and tried again."""
+    with tempfile.TemporaryDirectory() as folder, book(path=f"{folder}/control") as switch:
+        with contextlib.closing(switch.operator()) as operator, contextlib.ExitStack() as stack:
+            operator.check("tick 1", "ok 0")
+            limit = processes.DescriptorLimit(switch.process.pid)
+            limit.leave(0)
+            pending = [stack.enter_context(connect(switch.place)) for _ in range(3)]
+            for client in pending:
+                client.sendall(b"report\n")
+            check_told_once(
+                "accepts that fail at the control socket are told",
+                switch,
+                accepts_fail("control", "socket"),
+            )
+            operator.check("tick 4", "ok 0")
+            limit.lift()
+            for client in pending:
+                check("a connection once there are descriptors", client.recv(9), b"moment 4\n")
+
+
+def beside_many_sockets(count: int = SOCKETS) -> None:
+    """An order and a report on a new connection of the control socket take no longer beside many
+    sockets of the machine."""
+    with tempfile.TemporaryDirectory() as folder, book(path=f"{folder}/control") as switch:
+        before = waits_on_connections(switch)
+        with many_sockets(count):
+            many = statistics.median(waits_on_connections(switch))
+        few = statistics.median(before + waits_on_connections(switch))
+    print(
+        f"an order and a report beside {count:,} further sockets: {many / few:.2f} times as long",
+        flush=True,
+    )
+    check_within(
+        "an order and a report beside many sockets, in milliseconds",
+        1e3 * many,
+        1e3 * MANY * few + JITTER,
+    )
+
+
+def beside_120_000_sockets() -> None:
+    beside_many_sockets(120_000)
+
+
+def waits_on_connections(switch: Switch) -> list[float]:
+    """How many seconds an order and a report take, from their connection on, again and again."""
+    waits = []
+    for _ in range(CONNECTIONS):
+        start = time.monotonic()
+        with contextlib.closing(switch.operator()) as operator:
+            operator.check("tick 1", "ok 0")
+            operator.report()
+        waits.append(time.monotonic() - start)
+    return waits
+
+
 if __name__ == "__main__":
     checks.run(
         "live_control",
@@ -606,6 +753,11 @@ if __name__ == "__main__":
             other_faults,
             accepts_that_fail,
             notices_without_room,
+            port_and_socket,
+            accepts_that_fail_at_the_socket,
+            beside_many_sockets,
+            *map(at_socket, AT_SOCKET),
         ),
         5,
+        by_hand=(beside_120_000_sockets,),
     )

@@ -1,12 +1,16 @@
-"""BG_SWITCH_OPERATORS: the users whose orders a running `serve` takes, what others are told, and
-whose orders were carried out. Skipped where the script isn't run by root, which alone can make
-connections of several users."""
+"""The users whose orders a running `serve` takes, by BG_SWITCH_OPERATORS at its port and by the file
+of its control socket, what others are told, and whose orders were carried out. Skipped where the
+script isn't run by root, which alone can make connections of several users."""
 import contextlib
+import errno
+import grp
 import os
 import pwd
 import signal
 import socket
+import stat
 import sys
+import tempfile
 import threading
 import time
 from collections.abc import Iterator
@@ -20,9 +24,9 @@ from support.messages import BY_HAND
 from support.ports import INODE, LOCAL, STATE, TABLE, free_ports
 from support.processes import Run
 from support.socket_list import SocketList, socket_list, with_fields
-from support.stderr_lines import line_of_user, refused_connections, told
+from support.stderr_lines import line_of_socket, line_of_user, refused_connections, told
 from support.switch import LISTENING, Switch, book, words_of_serve
-from support.users import NOBODY, connect_as, is_root
+from support.users import NOBODY, connect_as, files_of_group, is_root
 
 VARIABLE = "BG_SWITCH_OPERATORS"
 ROOT = 0
@@ -48,7 +52,7 @@ def switch_of(users: str, *, is_open: bool = True) -> Iterator[Switch]:
 def asked_as(user: int, switch: Switch, text: bytes) -> bytes:
     """All that a connection of this user is sent that sends this text, and then no more."""
     with connect_as(user, switch.control) as connection:
-        with contextlib.suppress(ConnectionError):
+        with contextlib.suppress(OSError):  # it may have been turned away already
             connection.sendall(text)
             connection.shutdown(socket.SHUT_WR)
         return received(connection)
@@ -286,6 +290,110 @@ def lines_are_told() -> None:
     check("the orders", lines, expected)
 
 
+@contextlib.contextmanager
+def socket_with(*flags: str, port: bool = False, users: str | None = None) -> Iterator[Switch]:
+    """A switch that takes lines at a control socket with these flags, in a folder that everybody can
+    reach; with `port` at the control port too. `users` is the list for the port."""
+    variables = {} if users is None else {VARIABLE: users}
+    with tempfile.TemporaryDirectory() as folder:
+        os.chmod(folder, 0o755)
+        path = f"{folder}/control"
+        beside = ("--control-socket", path) if port else ()
+        with book(
+            path="" if port else path, flags=(*beside, *flags), variables=variables
+        ) as switch:
+            switch.path = path
+            yield switch
+
+
+def asked_at_socket(user: int, switch: Switch, text: bytes) -> bytes:
+    """What a line of this user at the control socket is answered; the reason where the file can't be
+    opened."""
+    try:
+        with connect_as(user, switch.path) as connection:
+            connection.sendall(text)
+            connection.shutdown(socket.SHUT_WR)
+            return received(connection)
+    except PermissionError as refused:
+        return os.strerror(refused.errno or 0).encode("ascii")
+
+
+def files_of_the_socket() -> None:
+    """The mode and the group of the file are those that were given, and its owner is the user of
+    the switch."""
+    for flags, expected in (
+        ((), (0o600, ROOT, 0)),
+        (("--control-socket-mode", "660"), (0o660, ROOT, 0)),
+        (("--control-socket-mode", "0666"), (0o666, ROOT, 0)),
+        (("--control-socket-group", f"{NOBODY}"), (0o600, ROOT, NOBODY)),
+        (
+            ("--control-socket-mode=620", f"--control-socket-group={grp.getgrgid(NOBODY).gr_name}"),
+            (0o620, ROOT, NOBODY),
+        ),
+    ):
+        before = os.umask(0o077)
+        try:
+            with socket_with(*flags) as switch:
+                told = os.stat(switch.path)
+                check(
+                    f"the file of a socket with {flags}",
+                    (stat.S_IMODE(told.st_mode), told.st_uid, told.st_gid),
+                    expected,
+                )
+        finally:
+            os.umask(before)
+
+
+def who_may_open_the_socket() -> None:
+    """Who may write to the file may order, whatever the list for the port says, and nobody else."""
+    refused = os.strerror(errno.EACCES).encode("ascii")
+    for mode, is_member, reply in (
+        ("600", True, refused),
+        ("660", False, refused),
+        ("660", True, b"ok 0\n"),
+        ("666", False, b"ok 0\n"),
+        ("440", True, refused),
+        ("444", False, refused),
+    ):
+        flags = ("--control-socket-mode", mode, "--control-socket-group", f"{NOBODY}")
+        with socket_with(
+            *flags, port=True, users="root"
+        ) as switch, contextlib.ExitStack() as stack:
+            if is_member:
+                stack.enter_context(files_of_group(NOBODY))
+            check(
+                f"another user at a socket of mode {mode}, a member of its group: {is_member}",
+                asked_at_socket(NOBODY, switch, b"tick 1\n"),
+                reply,
+            )
+            check("the same user at the port", asked_as(NOBODY, switch, b"tick 2\n"), NOT_ALLOWED)
+            check("root at the socket", asked_at_socket(ROOT, switch, b"tick 3\n"), b"ok 0\n")
+            check("root at the port", asked_as(ROOT, switch, b"tick 4\n"), b"ok 0\n")
+
+
+def lines_of_the_socket_are_told() -> None:
+    """Each order that came by the socket is told as one of the socket; a moment, a report and a
+    refused line aren't. A list without a port is told to have no effect."""
+    with socket_with(users="root") as switch:
+        two = Endpoint(by_target(b"two")).port
+        for line, reply in (
+            (f"deploy two {two}", b"ok 0\n"),
+            ("available 2 1", b"ok 1\n"),
+            ("tick 1", b"ok 0\n"),
+            ("retry", b"refused NotAborted\n"),
+            ("abort", b"ok 0\n"),
+        ):
+            check(
+                f"the reply to {line}", asked_at_socket(ROOT, switch, f"{line}\n".encode()), reply
+            )
+        check("a list without a port is told", switch.tells(VARIABLE, "no effect"), True)
+        comes(lambda: len(told(switch, line_of_socket())) == 3)
+        lines = [match[1] for match in told(switch, line_of_socket())]
+        check("the orders", lines[1:], [f"deploy two {two}", "abort"])
+        check("the first order", lines[0].startswith("open one "), True)
+        check("no user is told", told(switch, line_of_user()), [])
+
+
 def strangers_hold_up_nobody() -> None:
     """Connections of others, more than the port has room for and without end, close no operator's,
     and hold up no order."""
@@ -344,6 +452,9 @@ if __name__ == "__main__":
             gone_while_it_is_looked_at,
             half_closed,
             lines_are_told,
+            files_of_the_socket,
+            who_may_open_the_socket,
+            lines_of_the_socket_are_told,
             strangers_hold_up_nobody,
         ),
         4,

@@ -26,8 +26,9 @@ from support.switch import LISTENING, Switch, words_of_serve
 
 EXAMPLE = TOP / "examples" / "production"
 NAME, PREVIEW_NAME, UNKNOWN_NAME = "web.example", "preview.web.example", "other.example"
-# The ports that the example has, in the order of the words of `serve`.
-ACTIVE, CONTROL, PREVIEW = 8080, 8082, 8081
+# The ports and the control socket that the example has.
+ACTIVE, PREVIEW, CONTROL = 8080, 8081, "/run/bg-switch/control"
+SOCKET = ("--control-socket-mode", "660", "--control-socket-group", "bg-operators")
 CONCURRENCY = ("--concurrency", "255", "--redispatch")
 DESCRIPTORS = 8192
 SOON = 60
@@ -157,7 +158,13 @@ class NginxSetup:
     def __init__(self, folder: pathlib.Path) -> None:
         self.folder = folder
         self.endpoint, self.front, self.plain_front = free_port(), free_port(), free_port()
-        self.switch = Switch(ROLLOUT, instead_of_workers=CONCURRENCY, descriptors=DESCRIPTORS)
+        self.switch = Switch(
+            ROLLOUT,
+            instead_of_workers=CONCURRENCY,
+            descriptors=DESCRIPTORS,
+            path=str(folder / "control"),
+            flags=("--control-socket-mode", "666"),
+        )
         check("listening", self.switch.first, LISTENING)
         write_pages(folder / "pages")
         make_certificate(folder)
@@ -333,7 +340,10 @@ def stop_by_unit(setup: NginxSetup) -> None:
         sorted(
             [
                 "/usr/bin/bg_switch",
-                *words_of_serve(ACTIVE, CONTROL, PREVIEW, 0, None, CONCURRENCY),
+                *words_of_serve(ACTIVE, None, PREVIEW, 0, None, CONCURRENCY),
+                "--control-socket",
+                CONTROL,
+                *SOCKET,
                 "--abort-on-close",
             ]
         ),
@@ -342,7 +352,7 @@ def stop_by_unit(setup: NginxSetup) -> None:
     archive = make_tools(setup.folder)
     shutdown, wait = values(
         unit.replace("/usr/bin/bg-operator", f"{archive} operator")
-        .replace(str(CONTROL), str(setup.switch.control))
+        .replace(CONTROL, setup.switch.path)
         .replace("${MAINPID}", str(setup.switch.process.pid)),
         "ExecStop",
     )

@@ -29,15 +29,15 @@ DOCUMENTS = pathlib.Path("/usr/share/doc/bg-switch")
 LOG = pathlib.Path("/var/log/bg/access.log")
 PLAN = pathlib.Path("/var/lib/bg/plan.json")
 HOST = "127.0.0.1"
-ACTIVE, PREVIEW, CONTROL, PAGE = 8080, 8081, 8082, 8090
+ACTIVE, PREVIEW, PAGE = 8080, 8081, 8090
+CONTROL = "/run/bg-switch/control"  # the socket, which the group may open
+OPERATORS = "bg-operators"
 ENDPOINTS = {"v1": (9101, 9102), "v2": (9201, 9202)}
 # The ports of README.md's session, and how many blocks it and that of OPERATING.md have at least.
 PAGE_PORTS = ("8080", "8081", "8082", "9101", "9102", "9201", "9202")
 LEAST_BLOCKS, LEAST_OF_RUNBOOK = 4, 8
 SOON = 30  # seconds for a command
 CLIENTS = 4
-# A user without rights of whom the switch takes orders, by the list in its unit.
-OPERATOR = "bg-controller"
 # The program, and what the command that starts it sets for the C library.
 PROGRAM = pathlib.Path("/usr/libexec/bg-switch/bg_switch")
 VARIABLES = {"MALLOC_ARENA_MAX", "MALLOC_MMAP_THRESHOLD_"}
@@ -63,8 +63,12 @@ class Unit:
         return next(iter(self.values(key)), "")
 
     def make_folders(self) -> None:
-        """The folders of its logs and of its state, which belong to its user."""
-        for key, place in (("LogsDirectory", "/var/log"), ("StateDirectory", "/var/lib")):
+        """The folders of its logs, of its state and of its socket, which belong to its user."""
+        for key, place in (
+            ("LogsDirectory", "/var/log"),
+            ("StateDirectory", "/var/lib"),
+            ("RuntimeDirectory", "/run"),
+        ):
             for name in self.values(key):
                 folder = os.path.join(place, name)
                 os.makedirs(folder, exist_ok=True)
@@ -97,6 +101,8 @@ class Unit:
         finally:
             process.kill()
             process.wait(SOON)
+            for name in self.values("RuntimeDirectory"):  # which systemd removes at the end
+                shutil.rmtree(os.path.join("/run", name), ignore_errors=True)
 
     def stop(self, process: "subprocess.Popen[bytes]") -> list[int]:
         """Runs its commands of a stop, in turn. Gives their statuses."""
@@ -110,8 +116,8 @@ class Unit:
         return statuses
 
 
-def told(words: Sequence[str], user: str = "nobody") -> tuple[str, int]:
-    """What a command prints for a user without rights, and its status."""
+def told(words: Sequence[str], user: str = "nobody", groups: Sequence[str] = ()) -> tuple[str, int]:
+    """What a command prints for a user without rights, who is in these groups, and its status."""
     done = subprocess.run(
         words,
         capture_output=True,
@@ -120,15 +126,20 @@ def told(words: Sequence[str], user: str = "nobody") -> tuple[str, int]:
         check=False,
         user=user,
         group="nogroup",
-        extra_groups=[],
+        extra_groups=list(groups),
         cwd="/",
     )
     return done.stdout.strip(), done.returncode
 
 
+def ordered(*words: str) -> tuple[str, int]:
+    """What bg-operator prints for a person who is in the group of the socket, and its status."""
+    return told(["bg-operator", CONTROL, *words], groups=[OPERATORS])
+
+
 def send(line: str, reply: str) -> None:
     """A check of the reply to a line of an operator."""
-    check(line, told(["bg-operator", str(CONTROL), *line.split()], OPERATOR), (reply, 0))
+    check(line, ordered(*line.split()), (reply, 0))
 
 
 def asked(port: int, target: str = "/") -> tuple[int, str]:
@@ -300,9 +311,11 @@ def by_hand() -> None:
     shutil.copy(DOCUMENTS / "examples" / "live" / "rollout.json", "/etc/bg/rollout.json")
     unit = Unit("bg-switch")
     with unit.running() as switch:
-        words = ["bg-operator", str(CONTROL), "status"]
-        check("the control port answers", comes(lambda: told(words, OPERATOR)[0] != ""), True)
-        check("a user who is not in the list gets no answer", told(words), ("", 2))
+        check("the control socket answers", comes(lambda: ordered("status")[0] != ""), True)
+        by_variable = ["env", f"BG_CONTROL={CONTROL}", "bgctl", "status"]
+        for words in (["bg-operator", CONTROL, "status"], by_variable):
+            check("a user who is not in the group gets no answer", told(words), ("", 2))
+        check("bgctl, by BG_CONTROL", told(by_variable, groups=[OPERATORS])[0] != "", True)
         open_and_roll_back()
         judge_log()
         rotate()
@@ -316,17 +329,8 @@ def by_controller() -> None:
     PLAN.write_text(json.dumps(plan), encoding="ascii")
     switch = Unit("bg-switch")
     with switch.running() as serving, Unit("bg-controller").running() as controller:
-        words = [
-            "bg-operator",
-            str(CONTROL),
-            "wait",
-            "stable=media-v1",
-            "--wait",
-            "10",
-            "--timeout",
-            "20",
-        ]
-        check("the book is opened", told(words, OPERATOR)[1], 0)
+        words = ("wait", "stable=media-v1", "--wait", "10", "--timeout", "20")
+        check("the book is opened", ordered(*words)[1], 0)
         check("clients are answered", comes(partial(answers, ACTIVE)), True)
         check("clients", asked(ACTIVE), (200, "hello from v1"))
         check("the state file", comes(PLAN.with_name("plan.json.state").exists), True)

@@ -31,6 +31,7 @@ from bg_switch_tools.controller.plan_reader import (  # noqa: E402
     MOST_FAILURES,
     MOST_REVISIONS,
 )
+from bg_switch_tools.switch.control import ABSOLUTE, LONGEST_PATH  # noqa: E402
 from bg_switch_tools.switch.json_values import GREATEST_PORT, MOST_PORTS, NAME, PATH  # noqa: E402
 
 FILE = TOP / "share" / "plan.schema.json"
@@ -57,6 +58,12 @@ def an_object(properties: Schema, required: tuple[str, ...] = ()) -> Schema:
 
 def port() -> Schema:
     return {"type": "integer", "minimum": 1, "maximum": GREATEST_PORT}
+
+
+def control() -> Schema:
+    """A port, or the absolute path of a socket."""
+    path = text_of(ABSOLUTE.pattern)
+    return {**path, **port(), "type": ["integer", "string"], "maxLength": LONGEST_PATH}
 
 
 def command() -> Schema:
@@ -120,7 +127,9 @@ def schema() -> Schema:
             "The place of this schema, for editors. The controller does not read it.",
             {"type": "string"},
         ),
-        "control": told("The control port of the switch.", port()),
+        "control": told(
+            "The control port of the switch, or the absolute path of its control socket.", control()
+        ),
         "active": told("The port of the active service, which no revision may have.", port()),
         "preview": told("The port of the preview service, which no revision may have.", port()),
         "health": told(
@@ -239,6 +248,8 @@ def values_told(schema: Any) -> str:
         return ", or ".join(values_told(each) for each in schema["anyOf"])
     if schema["type"] == "boolean":
         return "`true`, `false`"
+    if isinstance(schema["type"], list):
+        return "port, 1 to 65,535, or path"
     if "minimum" in schema:
         whole = "whole number" if schema["type"] == "integer" else "number"
         return (

@@ -4,6 +4,7 @@ import threading
 from collections.abc import Callable, Iterable, Sequence
 from types import TracebackType
 
+from bg_switch_tools.switch.control import Control
 from support.reserved import reserved
 
 REPORT = (
@@ -35,11 +36,20 @@ class FakePort:
     """Answers each line by what a function gives for it. `lines` are all that were sent, in
     turn."""
 
-    def __init__(self, answer: Answer, port: int = 0, lines: list[str] | None = None) -> None:
+    def __init__(
+        self, answer: Answer, port: int = 0, lines: list[str] | None = None, path: str = ""
+    ) -> None:
+        """At a port of this machine, or with `path` at a Unix socket."""
         self.answer = answer
         self.lines: list[str] = [] if lines is None else lines
-        self.listener = socket.create_server(("127.0.0.1", port or free_port()))
-        self.port: int = self.listener.getsockname()[1]
+        self.path = path
+        self.listener = (
+            socket.create_server(path, family=socket.AF_UNIX)
+            if path
+            else socket.create_server(("127.0.0.1", port or free_port()))
+        )
+        self.port: int = 0 if path else self.listener.getsockname()[1]
+        self.control: Control = path or self.port
         self.taken: socket.socket | None = None
         self.thread = threading.Thread(target=self._serve, daemon=True)
         self.thread.start()

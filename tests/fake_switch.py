@@ -1,6 +1,7 @@
 """A switch with a book of its own, as far as the tools need one: one connection after the other, no
 traffic."""
 import dataclasses
+import pathlib
 from collections.abc import Callable, Sequence
 
 from tests.fake_port import ENDS, FakePort
@@ -183,15 +184,18 @@ class FakeBook:
 
 
 class FakeSwitch:
-    """A switch at a control port. It can be killed, after which its book is gone, and started
-    again."""
+    """A switch at a control port, or with `path` at a control socket. It can be killed, after which
+    its book is gone, and started again."""
 
-    def __init__(self, *steps: str, delay: int = 30, knows_down: bool = False) -> None:
+    def __init__(
+        self, *steps: str, delay: int = 30, knows_down: bool = False, path: str = ""
+    ) -> None:
         self.steps = steps
         self.delay = delay
         self.knows_down = knows_down
         self.lines: list[str] = []
         self.port = 0
+        self.path = path
         self.start()
 
     def start(self, *lines: str) -> None:
@@ -200,7 +204,9 @@ class FakeSwitch:
         self.book.down = [] if self.knows_down else None
         for line in lines:
             self.book.answer(line)
-        self.control = FakePort(self.book.answer, self.port, self.lines)
+        if self.path:
+            pathlib.Path(self.path).unlink(missing_ok=True)
+        self.control = FakePort(self.book.answer, self.port, self.lines, self.path)
         self.port = self.control.port
 
     def kill(self) -> None:

@@ -20,7 +20,7 @@ from bg_switch_tools.analysis.measurements import (
 )
 from bg_switch_tools.switch import access_log
 from bg_switch_tools.switch.access_log import LogEntry, written
-from bg_switch_tools.switch.arguments import count_of, port_of, share_of
+from bg_switch_tools.switch.arguments import control_of, count_of, share_of
 from bg_switch_tools.switch.durations import (
     duration_of,
     milliseconds_of,
@@ -194,7 +194,7 @@ class Words(unittest.TestCase):
             (300, 1500, 0, 60000),
         )
         self.assertEqual(
-            (count_of("50"), port_of("8082"), positive_duration_of("2.5")), (50, 8082, 2.5)
+            (count_of("50"), control_of("8082"), positive_duration_of("2.5")), (50, 8082, 2.5)
         )
         self.assertEqual(
             [duration_of(text) for text in ("60", "60s", "1m", "1.5h", "500ms", "0", "86400")],
@@ -209,7 +209,7 @@ class Words(unittest.TestCase):
             (share_of, ("1", "", "%", "101%", "-1%", "nan%", "x%")),
             (milliseconds_of, ("300", "ms", "s", "-1ms", "infs", "nans", "1 m s")),
             (count_of, ("", "-1", "1.5", "x", "1" * 10)),
-            (port_of, ("0", "65536", "x", "", "0000080829999")),
+            (control_of, ("0", "65536", "x", "", "0000080829999")),
             (duration_of, ("-1", "nan", "86401", "x", "", "s", "1d", "25h", "1e9m", "infm")),
             (positive_duration_of, ("0", "0s", "0m", "-1")),
             (value_of, ("nan", "inf", "x", "", "101%")),

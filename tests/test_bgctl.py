@@ -19,6 +19,7 @@ from bg_switch_tools.dashboard import cli as dashboard_cli
 from bg_switch_tools.operator import cli as operator_cli
 from support.processes import Run
 from tests.fake_port import free_port
+from tests.fake_switch import FakeSwitch
 from tests.tool_runs import TOP, WithBook, plan_of, run_in_process
 
 
@@ -182,9 +183,32 @@ class Ports(Operated):
         self.assertEqual(
             run("status", BG_CONTROL="8o82").told,
             "bgctl: BG_CONTROL: the control port is expected, a number from 1 to 65535, "
-            "and not '8o82'\n",
+            "or the path of the control socket, and not '8o82'\n",
         )
         self.assertEqual(run("status", "--control", "0").status, 2)
+
+    def test_a_path_names_the_control_socket(self) -> None:
+        with tempfile.TemporaryDirectory() as folder:
+            path, plan = f"{folder}/control", pathlib.Path(folder, "plan.json")
+            switch = FakeSwitch("pause", path=path)
+            self.addCleanup(switch.kill)
+            switch.book.answer("open web-v1 9101 9102")
+            plan.write_text(
+                json.dumps(
+                    {"control": path, "revisions": [{"name": "web-v1", "ports": [9101, 9102]}]}
+                ),
+                encoding="ascii",
+            )
+            for told in (
+                run("status", "--control", path),
+                run("--control", path, "status"),
+                run("status", BG_CONTROL=path),
+                run("status", BG_PLAN=str(plan)),
+            ):
+                self.assertIn("web-v1", told.printed, told)
+            self.assertEqual(run("line", "tick", "5", BG_CONTROL=path).printed, "ok 0\n")
+            told = run("status", "--request-timeout", "0.2", BG_CONTROL=f"{folder}/other")
+            self.assertIn(f"socket {folder}/other can't be reached", told.told)
 
     def test_a_plan_that_cannot_be_read_is_told_whatever_else_names_the_port(self) -> None:
         words, path = ("abort", "--control", str(self.switch.port)), "/none/plan.json"

@@ -1,9 +1,15 @@
-"""Lines that go to a control port."""
+"""Lines that go to a control port or a control socket."""
+import errno
+import os
+import socket
+import tempfile
 import threading
 import time
 import unittest
+import unittest.mock
 from collections.abc import Sequence
 
+from bg_switch_tools.switch import connection
 from bg_switch_tools.switch.connection import Connection, Unreachable, ask, words_of
 from tests.fake_port import ENDS, REPORT, FakePort, free_port
 
@@ -87,6 +93,60 @@ class Ask(unittest.TestCase):
                 Unreachable, "is not a switch"
             ):
                 ask(port.port, b"report", 5)
+
+
+class Sockets(unittest.TestCase):
+    """Lines that go to a control socket."""
+
+    def setUp(self) -> None:
+        folder = tempfile.TemporaryDirectory()
+        self.addCleanup(folder.cleanup)
+        self.path = f"{folder.name}/control"
+
+    def test_a_path_is_that_of_a_socket(self) -> None:
+        with FakePort(usual, path=self.path) as port:
+            self.assertEqual(ask(self.path, b"tick 1", 5), ["ok 0"])
+            self.assertEqual(port.lines, ["report", "tick 1"])
+
+    def test_what_messages_call_it(self) -> None:
+        for reply, told in (
+            (["refused NotAllowed"], f"the switch at socket {self.path} takes no lines"),
+            (["x"], f"what answers at socket {self.path} is not a switch"),
+        ):
+            with FakePort(lambda line: reply, path=self.path) as port:
+                with self.assertRaisesRegex(Unreachable, told):
+                    ask(port.control, b"report", 5)
+            os.unlink(self.path)
+
+    def test_no_socket_and_one_at_which_nobody_listens(self) -> None:
+        with self.assertRaisesRegex(Unreachable, f"^socket {self.path} can't be reached: No such"):
+            ask(self.path, b"report", 0.2)
+        FakePort(usual, path=self.path).close()
+        with self.assertRaisesRegex(Unreachable, f"^socket {self.path} can't be reached: Conn"):
+            ask(self.path, b"report", 0.2)
+
+    def test_a_switch_that_starts_is_waited_for(self) -> None:
+        later: list[FakePort] = []
+        timer = threading.Timer(0.3, lambda: later.append(FakePort(usual, path=self.path)))
+        timer.start()
+        self.assertEqual(ask(self.path, b"tick 1", 5), ["ok 0"])
+        timer.join()
+        later[0].close()
+
+    def test_a_socket_that_this_user_may_not_open_is_told_at_once(self) -> None:
+        refused = PermissionError(errno.EACCES, "Permission denied")
+        with unittest.mock.patch.object(connection, "connected", side_effect=refused):
+            start = time.monotonic()
+            with self.assertRaisesRegex(Unreachable, "can't be opened by this user: Permission"):
+                ask(self.path, b"report", 5)
+            self.assertLess(time.monotonic() - start, 1)
+
+    def test_a_socket_whose_backlog_is_full(self) -> None:
+        with socket.create_server(self.path, family=socket.AF_UNIX, backlog=0):
+            with socket.socket(socket.AF_UNIX) as first:
+                first.connect(self.path)
+                with self.assertRaisesRegex(Unreachable, "others wait there already"):
+                    ask(self.path, b"report", 0.3)
 
 
 class Lines(unittest.TestCase):

@@ -13,10 +13,12 @@ from unittest import mock
 
 from bg_switch_tools.controller import book, cli as controller_cli, controller, memory
 from bg_switch_tools.controller.cli import Runner
+from bg_switch_tools.controller.former_switches import is_gone
 from bg_switch_tools.controller.log import Log
 from bg_switch_tools.controller.plan_file import PlanFile
 from bg_switch_tools.controller.state_file import StateFile, StateLock
 from support.pace import is_within
+from tests.fake_port import REPORT, FakePort
 from tests.fake_switch import FakeBook, FakeSwitch
 from tests.tool_runs import WAIT, Endpoint, comes, plan_of
 
@@ -197,6 +199,32 @@ class Openings(ControllerCase):
         )
         self.assertEqual(second.sent_lines(), [f"open {self.words('web-v2')}", "available 1 2"])
         self.assertEqual((self.switch.sent_lines(), "started again" in self.log()), ([], False))
+
+    def test_a_second_switch_at_a_control_socket(self) -> None:
+        """An upgrade: the plan names the control socket of another switch in place of a port."""
+        self.v3_is_paused()
+        self.by_hand("abort")
+        self.some_rounds()
+        path = f"{self.folder}/control"
+        second = FakeSwitch("pause", path=path)
+        self.stack.callback(second.kill)
+        self.write(*NAMES, control=path)
+        self.assertTrue(
+            comes(lambda: len([line for line in second.lines if line.startswith("tick ")]) >= 2),
+            self.log(),
+        )
+        self.assertEqual(second.sent_lines(), [f"open {self.words('web-v2')}", "available 1 2"])
+        self.await_log(f"the plan has changed: its control socket is {path}, its last revision")
+
+    def test_the_switch_before_was_at_a_control_socket(self) -> None:
+        """Its file may be left, or gone, once nobody listens there."""
+        for is_left in (True, False):
+            path = f"{self.folder}/control-{is_left}"
+            with FakePort(lambda line: REPORT, path=path):
+                self.assertFalse(is_gone(path))
+            if not is_left:
+                os.unlink(path)
+            self.assertTrue(is_gone(path))
 
     def test_the_moment_goes_on(self) -> None:
         runner = self.v3_is_paused()

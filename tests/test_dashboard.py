@@ -49,10 +49,12 @@ class Dashboard(WithDashboard):
     """A fake switch that is paused at web-v2, a log, and a dashboard."""
 
     options: Sequence[str] = ()
+    at_socket = False
 
     def setUp(self) -> None:
         super().setUp()
-        self.switch = FakeSwitch("pause", "post")
+        path = str(self.folder / "control") if self.at_socket else ""
+        self.switch = FakeSwitch("pause", "post", path=path)
         self.addCleanup(self.switch.kill)
         self.by_hand("open web-v1 1 2", "available 1 2", "deploy web-v2 3 4", "available 2 2")
         self.log = GrowingLog(self.folder / "access.log")
@@ -62,7 +64,7 @@ class Dashboard(WithDashboard):
     def start(self, program: Sequence[str]) -> None:
         words = [
             *program,
-            str(self.switch.port),
+            str(self.switch.control.control),
             "--listen",
             str(self.port),
             "--log",
@@ -101,6 +103,17 @@ class Dashboard(WithDashboard):
         return self.get(
             "/api/order", "POST", json.dumps({"order": line, "revision": revision}), **kept
         )
+
+
+class AtControlSocket(Dashboard):
+    """A dashboard of a switch that takes lines at a control socket."""
+
+    at_socket = True
+
+    def test_a_command_of_the_page(self) -> None:
+        self.assertEqual(self.state()["control"], self.switch.path)
+        self.assertEqual(self.send_command().status, 200)
+        self.assertEqual(self.switch.sent_lines(), ["promote"])
 
 
 class Pages(Dashboard):

@@ -133,15 +133,19 @@ class Json(unittest.TestCase):
             {len(ports) for ports in PORTS.values()}, {told("rollout.json")["spec"]["replicas"]}
         )
 
-    def test_the_ports_are_those_of_the_units(self) -> None:
+    def test_the_ports_and_the_socket_are_those_of_the_units(self) -> None:
         start = next(
             line
             for line in text("bg-switch.service", PRODUCTION).splitlines()
             if line.startswith("ExecStart=")
         )
         machine = told("fleet.json")
-        for key in ("active", "preview", "control"):
-            self.assertIn(f" --{key} {machine[key]} ", start)
+        for key, word in (
+            ("active", "active"),
+            ("preview", "preview"),
+            ("control", "control-socket"),
+        ):
+            self.assertIn(f" --{word} {machine[key]} ", start)
         self.assertIn(" /etc/bg/fleet.json agent", text("bg-fleet.service"))
 
     def test_an_undo_of_the_last_plan_is_a_plan(self) -> None:

@@ -154,6 +154,11 @@ class Problems(unittest.TestCase):
             ({"fleet": "a/b"}, f'fleet: "a/b" {name}'),
             ({"host": ""}, f'host: "" {name}'),
             ({"control": 0}, "control: 0 is below 1"),
+            (
+                {"control": "run/control"},
+                'control: "run/control" is not the absolute path of a socket: / and at most 106 further '
+                "printable characters of ASCII",
+            ),
             ({"active": 8082}, "active: 8082 is already at control"),
             ({"preview": 8080}, "preview: 8080 is already at active"),
             ({"etcd": []}, f"etcd: it is not a list of 1 to {MOST_ENDPOINTS} endpoints"),

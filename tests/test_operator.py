@@ -2,6 +2,7 @@
 import contextlib
 import io
 import json
+import tempfile
 import threading
 import unittest
 from unittest import mock
@@ -10,6 +11,7 @@ from bg_switch_tools.operator.cli import main
 from bg_switch_tools.operator.prompt import Prompt
 from support.processes import Run
 from tests.fake_port import free_port
+from tests.fake_switch import FakeSwitch
 from tests.tool_runs import WithBook, run_in_process
 
 
@@ -36,6 +38,19 @@ class Lines(Operated):
         self.assertEqual(
             (nobody.printed, nobody.status, "can't be reached" in nobody.told), ("", 2, True)
         )
+
+    def test_a_path_names_the_control_socket(self) -> None:
+        with tempfile.TemporaryDirectory() as folder:
+            path = f"{folder}/control"
+            switch = FakeSwitch(path=path)
+            self.addCleanup(switch.kill)
+            switch.book.answer("open web-v1 9101 9102")
+            self.assertEqual(run_in_process(main, path, "tick", "5"), ("ok 0\n", "", 0))
+            with mock.patch("builtins.input", side_effect=["report", EOFError]) as asked:
+                with contextlib.redirect_stdout(io.StringIO()) as printed:
+                    Prompt(path, 5, {}).run()
+            self.assertIn(f"The switch at socket {path}.", printed.getvalue())
+            asked.assert_called_with(f"{path}> ")
 
     def test_quit_is_the_last_line(self) -> None:
         self.assertEqual(self.operator(lines="tick 6\nquit\ntick 7\n")[::2], ("ok 0\n", 0))

@@ -368,15 +368,9 @@ class Examples(Staged):
 
 class Units(unittest.TestCase):
     def test_the_agent_of_a_fleet_takes_the_place_of_the_controller(self) -> None:
-        """It has the same user, whose lines the switch takes, the same folder of state and the same
-        limits, and never runs beside it."""
+        """It has the same user and groups, the same folder of state and the same limits, and never runs
+        beside it."""
         self.assertEqual(values("bg-fleet", "Conflicts"), ["bg-controller.service"])
-        variable = next(
-            value
-            for value in values("bg-switch", "Environment")
-            if value.startswith("BG_SWITCH_OPERATORS=")
-        )
-        self.assertIn(values("bg-fleet", "User")[0], variable.partition("=")[2].split(","))
         for key in ("User", "SupplementaryGroups", "StateDirectory", "WorkingDirectory"):
             self.assertEqual(values("bg-fleet", key), values("bg-controller", key), key)
         limits = [
@@ -418,13 +412,32 @@ class Units(unittest.TestCase):
             int(most[:-1]) * 1024, OF_A_WORKER * workers_of_the_switch() + 2 * OF_A_PORT + BESIDE
         )
 
-    def test_all_have_one_control_port(self) -> None:
-        control = word_after(values("bg-switch", "ExecStart")[0], "--control")
+    def test_all_have_one_control_socket(self) -> None:
+        """It lies in the folder that systemd makes for the switch."""
+        (start,) = values("bg-switch", "ExecStart")
+        control = word_after(start, "--control-socket")
+        (folder,) = values("bg-switch", "RuntimeDirectory")
+        self.assertEqual(control, f"/run/{folder}/control")
+        self.assertEqual(values("bg-switch", "RuntimeDirectoryMode"), [])  # so all may reach it
         self.assertEqual(
             word_after(values("bg-switch", "ExecStop")[0], "/usr/bin/bg-operator"), control
         )
         self.assertEqual(
             word_after(values("bg-dashboard", "ExecStart")[0], "/usr/bin/bg-dashboard"), control
+        )
+        self.assertNotIn("--control", start.split())
+
+    def test_who_may_order_is_in_the_group_of_the_socket(self) -> None:
+        (start,) = values("bg-switch", "ExecStart")
+        group = word_after(start, "--control-socket-group")
+        self.assertEqual(word_after(start, "--control-socket-mode"), "660")
+        for unit in UNITS:
+            self.assertIn(group, values(unit, "SupplementaryGroups")[0].split(), unit)
+            families = values(unit, "RestrictAddressFamilies")[0].split()
+            self.assertIn("AF_UNIX", families, unit)
+        # what comes later adds to the calls, or takes from them
+        self.assertEqual(
+            values("bg-switch", "SystemCallFilter"), ["@system-service", "~@privileged", "@chown"]
         )
 
     def test_the_page_tells_of_the_controller(self) -> None:
@@ -449,9 +462,8 @@ class Units(unittest.TestCase):
             rotation,
         )
         for unit in ("bg-controller", "bg-fleet", "bg-dashboard"):
-            self.assertEqual(
-                values(unit, "SupplementaryGroups"), values("bg-switch", "Group"), unit
-            )
+            (groups,) = values(unit, "SupplementaryGroups")
+            self.assertIn(values("bg-switch", "Group")[0], groups.split(), unit)
 
 
 if __name__ == "__main__":

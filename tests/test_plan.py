@@ -361,6 +361,17 @@ class Contradictions(unittest.TestCase):
             ],
         )
 
+    def test_a_control_socket(self) -> None:
+        self.assertEqual(
+            read_plan(json.dumps(with_keys(control="/run/bg-switch/control")).encode()).control,
+            "/run/bg-switch/control",
+        )
+        for path in ("run/control", "./control", "/a\n", "/ä", "/" + "a" * 107):
+            told = problems(with_keys(control=path))
+            self.assertEqual(len(told), 1)
+            self.assertIn("is not the absolute path of a socket", told[0])
+        self.assertEqual(problems(with_keys(control="/" + "a" * 106)), [])
+
     def test_a_port_of_the_switch_itself(self) -> None:
         for port, key in ((8080, "active"), (8081, "preview"), (8082, "control")):
             self.assertEqual(

@@ -38,7 +38,7 @@ STATE = State(
     (ProcessId(700, 12345),),
     (V2, V3),
     (ProcessId(701, 7),),
-    (8082, 8182),
+    (8082, "/run/bg-switch/control", 8182),
     (V2, V3),
     (HeldBack(PlannedRevision("web-v1", (1, 2)), "it has other ports"),),
 )

@@ -11,6 +11,8 @@ import time
 from collections.abc import Callable, Iterable, Iterator, Sequence
 from typing import NamedTuple, TypeVar
 
+from bg_switch_tools.switch.control import Control
+
 from support.messages import head_of, request
 from support.ports import HOST
 
@@ -21,15 +23,15 @@ Body = bytes | Iterable[bytes] | None
 Given = TypeVar("Given")
 
 
-def connect(port: int, receive_buffer: int | None = None) -> socket.socket:
-    """A connection to a port, whose system takes as many bytes ahead as `receive_buffer` says, or
-    as many as it likes."""
-    client = socket.socket()
+def connect(at: Control, receive_buffer: int | None = None) -> socket.socket:
+    """A connection to a port, or to the Unix socket of a path, whose system takes as many bytes
+    ahead as `receive_buffer` says, or as many as it likes."""
+    client = socket.socket(socket.AF_INET if isinstance(at, int) else socket.AF_UNIX)
     if receive_buffer is not None:
         client.setsockopt(socket.SOL_SOCKET, socket.SO_RCVBUF, receive_buffer)
     client.settimeout(LONGEST)
     try:
-        client.connect((HOST, port))
+        client.connect((HOST, at) if isinstance(at, int) else at)
     except OSError:
         client.close()
         raise
@@ -107,12 +109,12 @@ def dripped(port: int, pieces: Iterable[bytes], pause: float) -> Timed:
 
 
 def timed_for(
-    port: int, longest: float, pieces: Sequence[bytes] = (request(),), pause: float = 0.0
+    at: Control, longest: float, pieces: Sequence[bytes] = (request(),), pause: float = 0.0
 ) -> Timed:
     """The same, where a client may wait for no longer than so many seconds: the answer is none
     then."""
     start = time.monotonic()
-    with connect(port) as client:
+    with connect(at) as client:
         client.settimeout(longest)
         send_in_pieces(client, pieces, pause)
         with contextlib.suppress(TimeoutError):

@@ -1,5 +1,7 @@
-"""An operator, who keeps one connection to the control port and is answered line by line."""
+"""An operator, who keeps one connection to the control port or the control socket and is answered
+line by line."""
 from bg_switch_tools.switch.connection import Connection
+from bg_switch_tools.switch.control import Control
 from bg_switch_tools.switch.reports import Report, read_report
 
 from support.checks import check
@@ -9,10 +11,10 @@ LONGEST = 30
 
 
 class Operator(Connection):
-    """A connection to the control port of a switch."""
+    """A connection to the control port or the control socket of a switch."""
 
-    def __init__(self, port: int) -> None:
-        super().__init__(port, LONGEST)
+    def __init__(self, control: Control) -> None:
+        super().__init__(control, LONGEST)
 
     def check(self, line: str, expected: str) -> None:
         check(line, self.answer_to(line), expected)

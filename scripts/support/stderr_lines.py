@@ -19,9 +19,9 @@ def no_event_loop(port: str) -> re.Pattern[str]:
     return re.compile(rf"bg_switch: the {port} port has no event loop")
 
 
-def accepts_fail(port: str) -> re.Pattern[str]:
-    """Accepts fail at a port: `active`, `preview` or `control`."""
-    return re.compile(rf"bg_switch: accepts fail at the {port} port{REASON}")
+def accepts_fail(name: str, kind: str = "port") -> re.Pattern[str]:
+    """Accepts fail at a port: `active`, `preview` or `control`; or at the control socket."""
+    return re.compile(rf"bg_switch: accepts fail at the {name} {kind}{REASON}")
 
 
 def used_up(port: str) -> re.Pattern[str]:
@@ -55,6 +55,11 @@ def refused_connections() -> re.Pattern[str]:
 def line_of_user() -> re.Pattern[str]:
     """An order was carried out; the groups are the number of its user, and the line."""
     return re.compile(r"bg_switch: user (\d+): (.+)")
+
+
+def line_of_socket() -> re.Pattern[str]:
+    """An order that came by the control socket was carried out; the group is the line."""
+    return re.compile(r"bg_switch: control socket: (.+)")
 
 
 def told(switch: Switch, pattern: re.Pattern[str]) -> list[re.Match[str]]:

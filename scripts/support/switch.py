@@ -7,6 +7,8 @@ import threading
 from collections.abc import Callable, Iterator, Mapping, Sequence
 from typing import NamedTuple
 
+from bg_switch_tools.switch.control import Control
+
 from support import PROGRAM, clients, processes
 from support.checks import check, comes, fail
 from support.endpoints import Endpoint, by_target
@@ -22,15 +24,21 @@ USUAL_DESCRIPTORS = 1024
 
 
 def run_to_end(
-    rollout: str, active: int, control: int, preview: int | None = None
+    rollout: str,
+    active: int,
+    control: int | None,
+    preview: int | None = None,
+    *,
+    flags: Sequence[str] = (),
 ) -> processes.Run:
     """A run of `serve` that ends by itself, since it can't begin to serve."""
-    return processes.run_to_end([PROGRAM, *words_of_serve(active, control, preview, 1, 1)], rollout)
+    words = [PROGRAM, *words_of_serve(active, control, preview, 1, 1), *flags]
+    return processes.run_to_end(words, rollout)
 
 
 def words_of_serve(
     active: int,
-    control: int,
+    control: int | None,
     preview: int | None,
     workers: int,
     count: int | None,
@@ -41,8 +49,7 @@ def words_of_serve(
         "serve",
         "--active",
         str(active),
-        "--control",
-        str(control),
+        *([] if control is None else ["--control", str(control)]),
         *(instead_of_workers or ("--workers", str(workers))),
         *([] if preview is None else ["--preview", str(preview)]),
         *(["--forever"] if count is None else ["--count", str(count)]),
@@ -62,7 +69,8 @@ class Switch:
     With a `count` each worker takes exactly so many connections, and `end` takes all that the
     checks have left over; without one it serves for ever. It may have so many descriptors,
     `prepare` is called in its process before it starts, and it has these flags beside its other
-    words, and these variables of the environment beside those of the script.
+    words, and these variables of the environment beside those of the script. With a `path` it takes
+    lines at this control socket, in the place of the control port.
     """
 
     def __init__(
@@ -78,8 +86,10 @@ class Switch:
         flags: Sequence[str] = (),
         prepare: Callable[[], object] = lambda: None,
         variables: Mapping[str, str] | None = None,
+        path: str = "",
     ) -> None:
         self.active, self.preview, self.control = free_ports(3)
+        self.path = path
         self.left = {
             self.active: workers * (count or 0),
             self.preview: count or 0 if preview else 0,
@@ -89,12 +99,13 @@ class Switch:
             PROGRAM,
             *words_of_serve(
                 self.active,
-                self.control,
+                None if path else self.control,
                 self.preview if preview else None,
                 workers,
                 count,
                 instead_of_workers,
             ),
+            *(["--control-socket", path] if path else []),
             *flags,
         ]
         environment = {
@@ -151,8 +162,13 @@ class Switch:
         """How many descriptors the program has open. Each connection that it has taken is one."""
         return len(processes.descriptors(self.process.pid))
 
+    @property
+    def place(self) -> Control:
+        """Where lines are sent: at the control socket if there is one."""
+        return self.path or self.control
+
     def operator(self) -> Operator:
-        return Operator(self.control)
+        return Operator(self.place)
 
     def answer_to(self, line: str) -> str:
         """The reply to a line that has a connection of its own."""
@@ -312,10 +328,16 @@ class LaterEnd:
 
 @contextlib.contextmanager
 def book(
-    *, is_open: bool = True, rollout: str = BY_HAND, variables: Mapping[str, str] | None = None
+    *,
+    is_open: bool = True,
+    rollout: str = BY_HAND,
+    variables: Mapping[str, str] | None = None,
+    path: str = "",
+    flags: Sequence[str] = (),
 ) -> Iterator[Switch]:
-    """A switch with these variables of the environment, whose book is open, or isn't."""
-    switch = Switch(rollout, workers=2, variables=variables)
+    """A switch with these variables of the environment and these flags, whose book is open, or
+    isn't. With a `path` it takes lines at this control socket."""
+    switch = Switch(rollout, workers=2, variables=variables, path=path, flags=flags)
     check("listening", switch.first, LISTENING)
     if is_open:
         check("open", switch.answer_to(f"open one {Endpoint(by_target(b'one')).port}"), "ok 0")

@@ -5,6 +5,8 @@ import os
 import socket
 from collections.abc import Iterator
 
+from bg_switch_tools.switch.control import Control
+
 from support.clients import connect
 
 # A user without rights.
@@ -27,7 +29,17 @@ def sockets_of(user: int) -> Iterator[None]:
         SYSTEM.setfsuid(before)
 
 
-def connect_as(user: int, port: int) -> socket.socket:
-    """A connection of this user."""
+def connect_as(user: int, at: Control) -> socket.socket:
+    """A connection of this user to a port, or to the Unix socket of a path."""
     with sockets_of(user):
-        return connect(port)
+        return connect(at)
+
+
+@contextlib.contextmanager
+def files_of_group(group: int) -> Iterator[None]:
+    """This thread opens files as a member of this group in the block (setfsgid(2))."""
+    before = SYSTEM.setfsgid(group)
+    try:
+        yield
+    finally:
+        SYSTEM.setfsgid(before)

@@ -76,25 +76,33 @@ pub record IsMet (flags : Flags) (words : List Text) (m : ArgMatches) : Type 0 w
   pub same : subcommand_rows_of m ≡ Some (name, rows)
   pub known : IsKnown flags name rows
 
-simple_by : (forever concurrency : Bool) → is_simple (program (record { forever = forever; concurrency = concurrency })) ≡ true
+simple_by : (forever concurrency socket : Bool) → is_simple (program (record { forever = forever; concurrency = concurrency; socket = socket })) ≡ true
 unfolding clap_on_literals
-simple_by true true = refl
-simple_by true false = refl
-simple_by false true = refl
-simple_by false false = refl
+simple_by true true true = refl
+simple_by true true false = refl
+simple_by true false true = refl
+simple_by true false false = refl
+simple_by false true true = refl
+simple_by false true false = refl
+simple_by false false true = refl
+simple_by false false false = refl
 
 is_simple_program : (flags : Flags) → is_simple (program flags) ≡ true
-is_simple_program flags = simple_by flags.forever flags.concurrency
+is_simple_program flags = simple_by flags.forever flags.concurrency flags.socket
 
-free_by : (forever concurrency : Bool) → is_simple_and_free (program (record { forever = forever; concurrency = concurrency })) ≡ true
+free_by : (forever concurrency socket : Bool) → is_simple_and_free (program (record { forever = forever; concurrency = concurrency; socket = socket })) ≡ true
 unfolding clap_on_literals
-free_by true true = refl
-free_by true false = refl
-free_by false true = refl
-free_by false false = refl
+free_by true true true = refl
+free_by true true false = refl
+free_by true false true = refl
+free_by true false false = refl
+free_by false true true = refl
+free_by false true false = refl
+free_by false false true = refl
+free_by false false false = refl
 
 pub is_free_program : (flags : Flags) → is_simple_and_free (program flags) ≡ true
-is_free_program flags = free_by flags.forever flags.concurrency
+is_free_program flags = free_by flags.forever flags.concurrency flags.socket
 
 pub met : (flags : Flags) (app : App) (words : List Text) (m : ArgMatches) → app ≡ program flags → (is_simple_and_free app ≡ true → fault_of app words ≡ [])
     → HasMatchesOf app words m → IsMet flags words m

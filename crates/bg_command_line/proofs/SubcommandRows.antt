@@ -12,14 +12,14 @@ use Rattle.clap.specs.Kinds.{check_kinds}
 use Rattle.clap.specs.Faults.{level_fault, walk_fault, settle_fault, defaults_fault}
 use Rattle.clap.specs.declared.builder.value_parser.ValueParser.TheVariants as value_parser
 use Rattle.clap.proofs.ValueTestLemmas.{accepts-Accepts}
-use Rattle.bg_command_line.specs.CommandLine.{IsIn, HasWordsOfServe, program, replay_app, serve_app, number_rule, required_rule, count_rule, flag_rule, forever_rule, rule_required_if}
+use Rattle.bg_command_line.specs.CommandLine.{IsIn, HasWordsOfServe, program, replay_app, serve_app, number_rule, required_rule, count_rule, flag_rule, forever_rule, rule_required_if, text_rule, text_rule_required_if}
 use Rattle.bg_command_line.specs.declared.invocation.Flags.{Flags}
 use Rattle.bg_command_line.proofs.WordsTaken.{none_else}
 use Rattle.bg_command_line.proofs.ValuesAccepted.{AreGood, has_none, first_accepted}
-use Rattle.bg_command_line.proofs.ArgumentRows.{Keeps, Each, held, number_keeps, required_keeps, required_if_keeps, count_keeps, flag_keeps, help_keeps, DefaultKeeps, no_default_keeps, flag_default_keeps, help_default_keeps, leaf_good}
+use Rattle.bg_command_line.proofs.ArgumentRows.{Keeps, Each, held, number_keeps, required_keeps, required_if_keeps, text_keeps, count_keeps, flag_keeps, help_keeps, DefaultKeeps, no_default_keeps, flag_default_keeps, help_default_keeps, leaf_good}
 
 abbrev pub built_sub : Shape → Shape
-built_sub s = built_leaf (inherited (with_leaf_noted (marked_built (program (record { forever = false; concurrency = false })).top)) s)
+built_sub s = built_leaf (inherited (with_leaf_noted (marked_built (program (record { forever = false; concurrency = false; socket = false })).top)) s)
 
 abbrev pub replay : Shape
 replay = built_sub replay_app.top
@@ -67,18 +67,32 @@ endpoint_and_later_keep flags = let c = (serve flags).rules in (
   (number_keeps c (codes "endpoint-limit") 1023 refl, client_and_count_keep flags),
 )
 
+worker_and_later_keep : (flags : Flags) → let c = (serve flags).rules in
+    Each (Keeps c) (held (rule_required_if (not flags.concurrency) (codes "workers") 7)
+    ∷ held (rule_required_if flags.concurrency (codes "concurrency") 1023) ∷ held (number_rule (codes "preview-concurrency") 1023)
+    ∷ held (flag_rule (codes "redispatch")) ∷ held (number_rule (codes "endpoint-limit") 1023)
+    ∷ held (flag_rule (codes "abort-on-close")) ∷ held (number_rule (codes "shutdown-grace") 60)
+    ∷ held (count_rule flags.forever) ∷ held (forever_rule flags.forever) ∷ held help_rule ∷ [])
+worker_and_later_keep flags = let c = (serve flags).rules in (
+  required_if_keeps c (not flags.concurrency) (codes "workers") 7 refl,
+  (
+    required_if_keeps c flags.concurrency (codes "concurrency") 1023 refl,
+    (number_keeps c (codes "preview-concurrency") 1023 refl, endpoint_and_later_keep flags),
+  ),
+)
+
 serve_keeps : (flags : Flags) → Each (Keeps (serve flags).rules) (serve flags).rules
 serve_keeps flags = let c = (serve flags).rules in (
   required_keeps c (codes "active") 65535 refl,
   (
     number_keeps c (codes "preview") 65535 refl,
     (
-      required_keeps c (codes "control") 65535 refl,
+      required_if_keeps c (not flags.socket) (codes "control") 65535 refl,
       (
-        required_if_keeps c (not flags.concurrency) (codes "workers") 7 refl,
+        text_keeps c flags.socket (codes "control-socket") refl,
         (
-          required_if_keeps c flags.concurrency (codes "concurrency") 1023 refl,
-          (number_keeps c (codes "preview-concurrency") 1023 refl, endpoint_and_later_keep flags),
+          number_keeps c (codes "control-socket-mode") 777 refl,
+          (text_keeps c false (codes "control-socket-group") refl, worker_and_later_keep flags),
         ),
       ),
     ),
@@ -108,21 +122,35 @@ endpoint_and_later_defaults flags = let c = (serve flags).rules in (
   (no_default_keeps c (held (number_rule (codes "endpoint-limit") 1023)) refl, client_and_count_defaults flags),
 )
 
+worker_and_later_defaults : (flags : Flags) → let c = (serve flags).rules in
+    Each (DefaultKeeps c) (held (rule_required_if (not flags.concurrency) (codes "workers") 7)
+    ∷ held (rule_required_if flags.concurrency (codes "concurrency") 1023) ∷ held (number_rule (codes "preview-concurrency") 1023)
+    ∷ held (flag_rule (codes "redispatch")) ∷ held (number_rule (codes "endpoint-limit") 1023)
+    ∷ held (flag_rule (codes "abort-on-close")) ∷ held (number_rule (codes "shutdown-grace") 60)
+    ∷ held (count_rule flags.forever) ∷ held (forever_rule flags.forever) ∷ held help_rule ∷ [])
+worker_and_later_defaults flags = let c = (serve flags).rules in (
+  no_default_keeps c (held (rule_required_if (not flags.concurrency) (codes "workers") 7)) refl,
+  (
+    no_default_keeps c (held (rule_required_if flags.concurrency (codes "concurrency") 1023)) refl,
+    (
+      no_default_keeps c (held (number_rule (codes "preview-concurrency") 1023)) refl,
+      endpoint_and_later_defaults flags,
+    ),
+  ),
+)
+
 serve_defaults : (flags : Flags) → Each (DefaultKeeps (serve flags).rules) (serve flags).rules
 serve_defaults flags = let c = (serve flags).rules in (
   no_default_keeps c (held (required_rule (codes "active") 65535)) refl,
   (
     no_default_keeps c (held (number_rule (codes "preview") 65535)) refl,
     (
-      no_default_keeps c (held (required_rule (codes "control") 65535)) refl,
+      no_default_keeps c (held (rule_required_if (not flags.socket) (codes "control") 65535)) refl,
       (
-        no_default_keeps c (held (rule_required_if (not flags.concurrency) (codes "workers") 7)) refl,
+        no_default_keeps c (held (text_rule_required_if flags.socket (codes "control-socket"))) refl,
         (
-          no_default_keeps c (held (rule_required_if flags.concurrency (codes "concurrency") 1023)) refl,
-          (
-            no_default_keeps c (held (number_rule (codes "preview-concurrency") 1023)) refl,
-            endpoint_and_later_defaults flags,
-          ),
+          no_default_keeps c (held (number_rule (codes "control-socket-mode") 777)) refl,
+          (no_default_keeps c (held (text_rule (codes "control-socket-group"))) refl, worker_and_later_defaults flags),
         ),
       ),
     ),
@@ -187,14 +215,18 @@ serve_known flags words e =
     let rows = rows_after c [] words in
     let good : AreGood c rows = leaf_good (serve flags) words refl (serve_keeps flags) (serve_defaults flags) e in
     let active = first_given (is_given (codes "active") rows) _ (all_given (serve flags) words refl e) in
-    let control = first_given (is_given (codes "control") rows) _ active.1 in
-    let workers = required_given (not flags.concurrency) (is_given (codes "workers") rows) _ control.1 in
+    let control = required_given (not flags.socket) (is_given (codes "control") rows) _ active.1 in
+    let socket = required_given flags.socket (is_given (codes "control-socket") rows) _ control.1 in
+    let workers = required_given (not flags.concurrency) (is_given (codes "workers") rows) _ socket.1 in
     let concurrency = required_given flags.concurrency (is_given (codes "concurrency") rows) _ workers.1 in
     let count = required_given (not flags.forever) (is_given (codes "count") rows) _ concurrency.1 in
     record {
       active = (given_has c (codes "active") rows good active.0, in_range c (held (required_rule (codes "active") 65535)) (codes "active") 65535 rows refl refl refl good);
       preview = in_range c (held (number_rule (codes "preview") 65535)) (codes "preview") 65535 rows refl refl refl good;
-      control = (given_has c (codes "control") rows good control.0, in_range c (held (required_rule (codes "control") 65535)) (codes "control") 65535 rows refl refl refl good);
+      control = in_range c (held (rule_required_if (not flags.socket) (codes "control") 65535)) (codes "control") 65535 rows refl refl refl good;
+      control_given = λ alone. given_has c (codes "control") rows good (control.0 (not_true flags.socket alone));
+      control_socket_given = λ has. given_has c (codes "control-socket") rows good (socket.0 has);
+      control_socket_mode = in_range c (held (number_rule (codes "control-socket-mode") 777)) (codes "control-socket-mode") 777 rows refl refl refl good;
       workers = in_range c (held (rule_required_if (not flags.concurrency) (codes "workers") 7)) (codes "workers") 7 rows refl refl refl good;
       workers_given = λ few. given_has c (codes "workers") rows good (workers.0 (not_true flags.concurrency few));
       concurrency = in_range c (held (rule_required_if flags.concurrency (codes "concurrency") 1023)) (codes "concurrency") 1023 rows refl refl refl good;

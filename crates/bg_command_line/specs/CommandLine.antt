@@ -11,8 +11,11 @@ use Rattle.clap.specs.declared.error.kind.ErrorKind.TheVariants as kind
 use Rattle.clap.specs.declared.builder.action.ArgAction.TheVariants.{SetTrue}
 use Rattle.clap.specs.declared.builder.value_parser.ValueParser.TheVariants as value_parser
 use Rattle.bg_command_line.specs.declared.command_option.CommandOption.{CommandOption}
+use Rattle.bg_command_line.specs.declared.command_option.OptionValue.{OptionValue}
+use Rattle.bg_command_line.specs.declared.command_option.OptionValue.TheVariants as option_value
 use Rattle.bg_command_line.specs.declared.invocation.Connections.{Connections}
 use Rattle.bg_command_line.specs.declared.invocation.Connections.TheVariants.{Count, Forever}
+use Rattle.bg_command_line.specs.declared.invocation.ControlSocket.{ControlSocket}
 use Rattle.bg_command_line.specs.declared.invocation.Flags.{Flags}
 use Rattle.bg_command_line.specs.declared.invocation.Invocation.{Invocation}
 use Rattle.bg_command_line.specs.declared.invocation.Invocation.TheVariants.{Check, Replay, Serve}
@@ -44,14 +47,27 @@ flag_rule name = record (new_rule name) { long = Some name; action = Some SetTru
 abbrev pub flag_rule_required_if : Bool → Text → Rule
 flag_rule_required_if required name = record (flag_rule name) { required = required }
 
--- `--NAME N`, with N from 1 to the number, or the flag `--NAME` if there is no number
-abbrev pub rule_of_kind : Option ℕ → Bool → Text → Rule
-rule_of_kind None required name = flag_rule_required_if required name
-rule_of_kind (Some most) required name = rule_required_if required name most
+-- `--NAME TEXT`, with a text that is not empty
+abbrev pub text_rule : Text → Rule
+text_rule name = record (new_rule name) {
+  long = Some name;
+  value_names = 1;
+  parser = Some value_parser.NonEmptyString;
+}
+
+-- `--NAME TEXT`, which is required if `required` says so
+abbrev pub text_rule_required_if : Bool → Text → Rule
+text_rule_required_if required name = record (text_rule name) { required = required }
+
+-- the flag `--NAME`, `--NAME N` with N from 1 to the number, or `--NAME TEXT`
+abbrev pub rule_of_kind : OptionValue → Bool → Text → Rule
+rule_of_kind option_value.Nothing required name = flag_rule_required_if required name
+rule_of_kind (option_value.UpTo most) required name = rule_required_if required name most
+rule_of_kind (option_value.Text value) required name = text_rule_required_if required name
 
 -- the rule of an option
 abbrev pub option_rule : CommandOption → Rule
-option_rule option = rule_of_kind option.most option.required option.name.now
+option_rule option = rule_of_kind option.value option.required option.name.now
 
 -- `check`
 abbrev pub check_app : App
@@ -61,10 +77,18 @@ check_app = new_app (codes "check")
 abbrev pub replay_app : App
 replay_app = with_rule (new_app (codes "replay")) (number_rule (codes "seats") 8)
 
--- `--active P [--preview P] --control P`
+-- `--active P [--preview P]`
 abbrev pub with_port_rules : App → App
-with_port_rules a = with_rule (with_rule (with_rule a (required_rule (codes "active") 65535))
-    (number_rule (codes "preview") 65535)) (required_rule (codes "control") 65535)
+with_port_rules a = with_rule (with_rule a (required_rule (codes "active") 65535)) (number_rule (codes "preview") 65535)
+
+-- `--control P`, `--control-socket PATH`, `[--control-socket-mode MODE]` and `[--control-socket-group GROUP]`; of the first
+-- two the second is required if `socket` holds, else the first
+abbrev pub with_control_rules : Bool → App → App
+with_control_rules socket a = with_rule (with_rule (with_rule (with_rule a
+    (rule_required_if (not socket) (codes "control") 65535))
+    (text_rule_required_if socket (codes "control-socket")))
+    (number_rule (codes "control-socket-mode") 777))
+    (text_rule (codes "control-socket-group"))
 
 -- `--count K`, with K from 1 to 1,000,000, which is required unless `--forever` is given
 abbrev pub count_rule : Bool → Rule
@@ -96,11 +120,12 @@ with_client_rules a = with_rule (with_rule a (flag_rule (codes "abort-on-close")
 abbrev pub with_connection_rules : Bool → App → App
 with_connection_rules forever a = with_rule (with_rule a (count_rule forever)) (forever_rule forever)
 
--- `serve --active P [--preview P] --control P [--preview-concurrency M] [--redispatch] [--endpoint-limit M]
--- [--abort-on-close] [--shutdown-grace S]`, with `--workers N` or `--concurrency N`, and `--count K` or `--forever`; the flags say which of each two is required
+-- `serve --active P [--preview P] [--control-socket-mode MODE] [--control-socket-group GROUP] [--preview-concurrency M]
+-- [--redispatch] [--endpoint-limit M] [--abort-on-close] [--shutdown-grace S]`, with `--control P` or `--control-socket PATH`
+-- or both, `--workers N` or `--concurrency N`, and `--count K` or `--forever`; the flags say which of each two is required
 abbrev pub serve_app : Flags → App
 serve_app flags = with_connection_rules flags.forever (with_client_rules (with_endpoint_rules
-    (with_worker_rules flags.concurrency (with_port_rules (new_app (codes "serve"))))))
+    (with_worker_rules flags.concurrency (with_control_rules flags.socket (with_port_rules (new_app (codes "serve")))))))
 
 -- `bg_switch`, which has a version and requires a subcommand; there is no subcommand `help`
 abbrev pub top_app : App
@@ -122,20 +147,20 @@ program flags = with_subcommand (with_subcommand (with_subcommand top_app check_
 abbrev pub has_word : Text → List Text → Bool
 has_word word words = list_any (λ w. bytes_eq w word) (drop 1 words)
 
--- the word is `--concurrency`, whose value is the next word, or has the form `--concurrency=N`
-abbrev pub is_concurrency : Text → Bool
-is_concurrency word =
-    bytes_eq word (codes "--concurrency") || starts_with eqb word (codes "--concurrency=")
+-- the word is the option, whose value is the next word, or begins with `start`, which is the option and `=`
+abbrev pub is_option : Text → Text → Text → Bool
+is_option option start word = bytes_eq word option || starts_with eqb word start
 
--- the words after the program's name have `--concurrency`, in either of its forms
-abbrev pub has_concurrency : List Text → Bool
-has_concurrency words = list_any is_concurrency (drop 1 words)
+-- the words after the program's name have the option, in either of its forms
+abbrev pub has_option : Text → Text → List Text → Bool
+has_option option start words = list_any (is_option option start) (drop 1 words)
 
 -- the flags among the words after the program's name
 abbrev pub flags_of : List Text → Flags
 flags_of words = record {
   forever = has_word (codes "--forever") words;
-  concurrency = has_concurrency words;
+  concurrency = has_option (codes "--concurrency") (codes "--concurrency=") words;
+  socket = has_option (codes "--control-socket") (codes "--control-socket=") words;
 }
 
 -- `--count` is given together with `--forever`, or `--workers` with `--concurrency`
@@ -195,12 +220,27 @@ default_preview_workers true workers = max (workers / 8) 1
 abbrev pub has_flag : Text → List Row → Bool
 has_flag id rows = option_map_or (λ t. bytes_eq t (codes "true")) (first_of id rows) false
 
+-- the mode of the file of the control socket: that of `--control-socket-mode`, or 600
+abbrev pub IsMode : List Row → ℕ → Type 0
+IsMode rows mode = (mode ≡ unwrap_or (number_of (codes "control-socket-mode") rows) 600) × IsBetween 1 777 mode
+
+-- the control socket that the arguments give: a path, a mode, and maybe a group
+abbrev pub IsControlSocket : List Row → Option ControlSocket → Type 0
+IsControlSocket rows None = first_of (codes "control-socket") rows ≡ None
+IsControlSocket rows (Some socket) = (first_of (codes "control-socket") rows ≡ Some socket.path.now)
+    × IsMode rows socket.mode
+    × (option_map (λ group. group.now) socket.group ≡ first_of (codes "control-socket-group") rows)
+
 -- the arguments of `serve`
 pub record IsServe (flags : Flags) (rows : List Row) (settings : ServeSettings) : Type 0 where
   pub active_is : IsGiven 1 65535 (codes "active") rows settings.active
   pub preview_is : settings.preview ≡ number_of (codes "preview") rows
   pub preview_range : IfSome settings.preview (IsBetween 1 65535)
-  pub control_is : IsGiven 1 65535 (codes "control") rows settings.control
+  pub control_is : settings.control ≡ number_of (codes "control") rows
+  pub control_range : IfSome settings.control (IsBetween 1 65535)
+  pub control_given : flags.socket ≡ false → is_some settings.control ≡ true
+  pub control_socket_is : IsControlSocket rows settings.control_socket
+  pub control_socket_given : flags.socket ≡ true → is_some settings.control_socket ≡ true
   pub workers_are : AreWorkers flags.concurrency rows settings.workers
   pub preview_workers_are : settings.preview_workers ≡ unwrap_or (number_of (codes "preview-concurrency") rows)
       (default_preview_workers flags.concurrency settings.workers)
@@ -257,12 +297,16 @@ abbrev pub IsNumber : ℕ → ℕ → Text → List Row → Type 0
 IsNumber least most id rows =
     (is_some (first_of id rows) ≡ true) × IsIn least most id rows
 
--- the words of `serve` are numbers in their ranges; `--count` is given unless `--forever` is, and `--workers` unless
--- `--concurrency` is
+-- the numbers among the words of `serve` are in their ranges; `--count` is given unless `--forever` is, `--workers` unless
+-- `--concurrency` is, and `--control` unless `--control-socket` is
 pub record HasWordsOfServe (flags : Flags) (rows : List Row) : Type 0 where
   pub active : IsNumber 1 65535 (codes "active") rows
   pub preview : IsIn 1 65535 (codes "preview") rows
-  pub control : IsNumber 1 65535 (codes "control") rows
+  pub control : IsIn 1 65535 (codes "control") rows
+  pub control_given : flags.socket ≡ false → is_some (first_of (codes "control") rows) ≡ true
+  pub control_socket_given
+      : flags.socket ≡ true → is_some (first_of (codes "control-socket") rows) ≡ true
+  pub control_socket_mode : IsIn 1 777 (codes "control-socket-mode") rows
   pub workers : IsIn 1 7 (codes "workers") rows
   pub workers_given : flags.concurrency ≡ false → is_some (first_of (codes "workers") rows) ≡ true
   pub concurrency : IsIn 1 1023 (codes "concurrency") rows

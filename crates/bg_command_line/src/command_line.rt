@@ -4,7 +4,7 @@ ghost use Rattle.clap.specs.Words.{app_of, kind_of};
 ghost use Rattle.clap.specs.declared.builder.command.Command.TheViews.{out-Command as fields_of};
 ghost use Rattle.bg_command_line.specs.CommandLine.{check_app, program, replay_app, serve_app, top_app};
 
-use crate::command_option::{CommandOption, with_options};
+use crate::command_option::{CommandOption, OptionValue, with_options};
 use crate::invocation::Flags;
 use crate::serve_options::serve_options;
 use clap::error::ErrorKind;
@@ -17,12 +17,15 @@ const VERSION: &str = "0.1.0";
 /// The notes in the help of `serve`.
 const NOTES_ON_SERVING: &str = "\
 One of --count and --forever has to be given, and not both. So has one of --workers and --concurrency.
+--control, --control-socket or both have to be given.
 With --count, any connection counts, a health check too, and one that sends nothing. Once the workers
 of a port have taken all of theirs, the port is closed, and clients are refused at once.
 With --forever, the workers take connections without a limit, up to a graceful shutdown.
 The active port has --workers or --concurrency workers. The preview port has --preview-concurrency workers. Where
 that isn't given, it has one with --workers, and with --concurrency an eighth of that number, but at least one.
 --preview-concurrency has no effect without --preview.
+With --control-socket, who may write to the file may order. Its mode is --control-socket-mode, and its group
+--control-socket-group. A file that an earlier run left there is replaced, and the file is removed at the end.
 With --redispatch, a request for which the switch can't connect to an endpoint goes to another endpoint of the same
 revision. Then --endpoint-limit is how many requests at a time an endpoint gets while another one of its revision is
 free. It has no effect without --redispatch.
@@ -42,7 +45,14 @@ check has no words of its own. replay takes --seats N: how many requests can be 
 4 where it isn't given. serve takes, on ports of 127.0.0.1:
   --active P   port of clients whose requests go to the active revision, 1 to 65535; has to be given
   --preview P  that of the revision under preview, 1 to 65535; no such port where it isn't given
-  --control P  port at which operators' lines are answered, 1 to 65535; has to be given
+  --control P  port at which operators' lines are answered, 1 to 65535; has to be given,
+               unless --control-socket is
+  --control-socket PATH
+               file of a Unix socket at which they are answered too; in the place of --control, or beside it
+  --control-socket-mode MODE
+               mode of that file, in octal digits; 600 where it isn't given
+  --control-socket-group GROUP
+               group of that file, by its name or number; that of the process where it isn't given
   --workers N  how many requests the active port forwards at a time, 1 to 7; has to be given,
                unless --concurrency is
   --concurrency N
@@ -90,15 +100,17 @@ fn replay_command<'a>(alloc: Global) -> Result<Command<'a>, AllocError>
     );
     let seats = CommandOption {
         name: "seats",
-        most: Some(8),
+        value: OptionValue::UpTo(8),
         required: false,
         help: "How many requests can be open at once, 1 to 8; 4 where it isn't given",
     };
     with_options(alloc, named, &[seats])
 }
 
-/// `serve --active P [--preview P] --control P [--preview-concurrency M] [--redispatch] [--endpoint-limit M]
-/// [--abort-on-close] [--shutdown-grace S]`, with `--workers N` or `--concurrency N`, and `--count K` or `--forever`. The flags say which of each two is required.
+/// `serve --active P [--preview P] [--control-socket-mode MODE] [--control-socket-group GROUP] [--preview-concurrency M]
+/// [--redispatch] [--endpoint-limit M] [--abort-on-close] [--shutdown-grace S]`, with `--control P` or `--control-socket
+/// PATH` or both, `--workers N` or `--concurrency N`, and `--count K` or `--forever`. The flags say which of each two is
+/// required.
 fn serve_command<'a>(alloc: Global, flags: Flags) -> Result<Command<'a>, AllocError>
     ensures app { IfOk result (λ c. app_of c ≡ serve_app flags) }
     ensures local { IfOk result (λ c. (fields_of c).has_globals ≡ false) }
@@ -116,6 +128,7 @@ pub fn conflict<'a>(alloc: Global, message: &'a str) -> Result<Error, AllocError
     let flags = Flags {
         forever: true,
         concurrency: true,
+        socket: true,
     };
     let mut command: Command<'a> = serve_command(alloc, flags)?.bin_name("bg_switch serve")?;
     command.error(ErrorKind::ArgumentConflict, message)

@@ -2,19 +2,29 @@
 ghost use Rattle.std.specs.Prelude.{◌≡◌, IfOk, false, fold, map};
 ghost use Rattle.clap.specs.Words.{app_of, rule_of, with_rule};
 ghost use Rattle.clap.specs.declared.builder.command.Command.TheViews.{out-Command as fields_of};
-ghost use Rattle.bg_command_line.specs.CommandLine.{flag_rule, number_rule, option_rule};
+ghost use Rattle.bg_command_line.specs.CommandLine.{flag_rule, number_rule, option_rule, text_rule};
 
 use clap::builder::ValueParser;
 use clap::{Arg, ArgAction, Command};
 use std::alloc::{AllocError, Global};
+
+/// The value of an option.
+#[derive(Clone, Copy)]
+pub(crate) enum OptionValue<'a> {
+    /// There is none: the option is a flag.
+    Nothing,
+    /// A number from 1 to this one.
+    UpTo(u64),
+    /// A text that is not empty. The help calls it by this word.
+    Text(&'a str),
+}
 
 /// An option of a subcommand.
 #[derive(Clone, Copy)]
 pub(crate) struct CommandOption<'a> {
     /// `NAME` in `--NAME`.
     pub(crate) name: &'a str,
-    /// The greatest number that the option takes, from 1 on; `None` for a flag, which has no value.
-    pub(crate) most: Option<u64>,
+    pub(crate) value: OptionValue<'a>,
     /// Whether the option has to be given.
     pub(crate) required: bool,
     pub(crate) help: &'a str,
@@ -31,6 +41,17 @@ fn number_argument<'a>(alloc: Global, name: &'a str, most: u64) -> Arg<'a>
         .value_parser(ValueParser::unsigned(1, most))
 }
 
+/// The optional `--NAME TEXT`, with a text that is not empty, which the help calls `value`.
+fn text_argument<'a>(alloc: Global, name: &'a str, value: &'a str) -> Arg<'a>
+    ensures rule { rule_of result ≡ text_rule name.entry.now }
+    ensures local { result.global ≡ false }
+{
+    Arg::new(alloc, name)
+        .long(name)
+        .value_name(value)
+        .value_parser(ValueParser::NonEmptyString)
+}
+
 /// The optional flag `--NAME`, which has no value.
 fn flag<'a>(alloc: Global, name: &'a str) -> Arg<'a>
     ensures rule { rule_of result ≡ flag_rule name.entry.now }
@@ -44,9 +65,10 @@ fn argument<'a>(alloc: Global, option: &CommandOption<'a>) -> Arg<'a>
     ensures rule { rule_of result ≡ option_rule option.now }
     ensures local { result.global ≡ false }
 {
-    let argument = match option.most {
-        Some(most) => number_argument(alloc, option.name, most),
-        None => flag(alloc, option.name),
+    let argument = match option.value {
+        OptionValue::Nothing => flag(alloc, option.name),
+        OptionValue::UpTo(most) => number_argument(alloc, option.name, most),
+        OptionValue::Text(value) => text_argument(alloc, option.name, value),
     };
     argument.required(option.required).help(option.help)
 }

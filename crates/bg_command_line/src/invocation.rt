@@ -10,13 +10,13 @@ use thiserror::Error as DeriveError;
 
 /// What the words of the command line ask for.
 #[derive(Clone, Copy, Debug, Drop, PartialEq, Eq)]
-pub enum Invocation {
+pub enum Invocation<'a> {
     /// Write what the strategy on standard input means.
     Check,
     /// Answer the script after the strategy, with this many seats, 1 to 8.
     Replay { seats: u8 },
     /// Forward the requests of clients, controlled by the lines of operators.
-    Serve(ServeSettings),
+    Serve(ServeSettings<'a>),
 }
 
 /// The number of connections that a worker takes.
@@ -35,18 +35,33 @@ pub struct Flags {
     pub forever: bool,
     /// `--concurrency`, in place of `--workers`.
     pub concurrency: bool,
+    /// `--control-socket`, in place of `--control` or beside it.
+    pub socket: bool,
+}
+
+/// The socket at which operators' lines are answered.
+#[derive(Clone, Copy, Debug, Drop, PartialEq, Eq)]
+pub struct ControlSocket<'a> {
+    /// The path of its file.
+    pub path: &'a str,
+    /// The mode of the file, as the number that has the digits of the mode, 1 to 777. A digit may be 8 or 9, which is no mode.
+    pub mode: u16,
+    /// The name or the number of the group of the file; `None` stands for that of the process.
+    pub group: Option<&'a str>,
 }
 
 /// The ports at which `serve` takes connections, how many connections and requests each takes, how an endpoint
 /// is chosen, and how clients are treated that leave or are silent. Ports are from 1 to 65535.
 #[derive(Clone, Copy, Debug, Drop, PartialEq, Eq)]
-pub struct ServeSettings {
+pub struct ServeSettings<'a> {
     /// The port of the active service.
     pub active: u16,
     /// The port of the preview service, if it is given.
     pub preview: Option<u16>,
-    /// The control port.
-    pub control: u16,
+    /// The control port, if it is given. It or the control socket is.
+    pub control: Option<u16>,
+    /// The control socket, if it is given.
+    pub control_socket: Option<ControlSocket<'a>>,
     /// The number of workers of the active service: 1 to 7 by `--workers`, 1 to 1,023 by `--concurrency`.
     pub workers: u16,
     /// The number of workers of the preview service, 1 to 1,023, by `--preview-concurrency`. If that is not given:

@@ -8,6 +8,6 @@ mod message_timeout;
 mod serve_options;
 mod words;
 
-pub use invocation::{Connections, Invocation, InvocationFault, ServeSettings};
+pub use invocation::{Connections, ControlSocket, Invocation, InvocationFault, ServeSettings};
 pub use message_timeout::{MessageTimeout, TIMEOUT_VARIABLE};
 pub use words::parse_command_line;

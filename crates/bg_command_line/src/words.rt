@@ -2,10 +2,12 @@
 ghost use Rattle.std.specs.Prelude.{◌≡◌, IfOk, IfErr, IfSome, map, codes, option_map, is_some, false, true, unwrap_or};
 ghost use Rattle.std.specs.List.{list_any};
 ghost use Rattle.clap.specs.Words.{IsUnsignedIn, first_of, found_of, rows_of};
-ghost use Rattle.bg_command_line.specs.CommandLine.{AreConnections, AreWorkers, HasWordsOfServe, IsBetween, IsConflict, IsFaultFrom, IsFaultIn, IsIn, IsKnown, IsInvocationIn, IsInvocationOf, default_preview_workers, flags_of, has_concurrency, has_flag, has_word, is_concurrency, is_in_conflict, number, number_of};
+ghost use Rattle.bg_command_line.specs.CommandLine.{AreConnections, AreWorkers, HasWordsOfServe, IsBetween, IsConflict, IsFaultFrom, IsFaultIn, IsIn, IsKnown, IsInvocationIn, IsInvocationOf, IsControlSocket, IsMode, default_preview_workers, flags_of, has_flag, has_option, has_word, is_in_conflict, is_option, number, number_of};
 
 use crate::command_line::{conflict, program_command};
-use crate::invocation::{Connections, Flags, Invocation, InvocationFault, ServeSettings};
+use crate::invocation::{
+    Connections, ControlSocket, Flags, Invocation, InvocationFault, ServeSettings,
+};
 use clap::error::ErrorKind;
 use clap::{ArgMatches, Error};
 use std::alloc::Global;
@@ -16,17 +18,24 @@ const DEFAULT_SEATS: u8 = 4;
 /// The number of seconds for which a shutdown keeps silent clients if `--shutdown-grace` is not given.
 const DEFAULT_GRACE: u8 = 1;
 
+/// The mode of the file of the control socket if `--control-socket-mode` is not given: only its owner may open it.
+const DEFAULT_MODE: u16 = 600;
+
 /// Reads the program's words. The first word is the program's name. The others are `check`; `replay
 /// [--seats N]` with N from 1 to 8, and 4 seats if no number is given; or `serve --active P [--preview
-/// P] --control P` with ports from 1 to 65535, either `--workers N` with N from 1 to 7 or `--concurrency N`
+/// P]` with `--control P` or `--control-socket PATH` or both, with ports from 1 to 65535, either `--workers N` with N from 1 to 7 or `--concurrency N`
 /// with N from 1 to 1023, and either `--count K` with K from 1 to 1,000,000 or `--forever`. `serve` also takes
 /// `--preview-concurrency M` and `--endpoint-limit M` with M from 1 to 1023, `--redispatch`, `--abort-on-close`, and
-/// `--shutdown-grace S` with S from 1 to 60. A value may also follow its option after `=`, in the same word.
+/// `--shutdown-grace S` with S from 1 to 60, `--control-socket-mode MODE` with MODE from 1 to 777, and
+/// `--control-socket-group GROUP`. A value may also follow its option after `=`, in the same word.
 ///
 /// The error is `Words` only if `clap` refuses the words, if they ask for help or for the version, or if
 /// both `--count` and `--forever` are given, or both `--workers` and `--concurrency`. It is `OutOfMemory` if an
 /// allocation fails.
-pub fn parse_command_line(alloc: Global, words: &[&str]) -> Result<Invocation, InvocationFault>
+pub fn parse_command_line<'a>(
+    alloc: Global,
+    words: &'a [&'a str],
+) -> Result<Invocation<'a>, InvocationFault>
     ensures ok { IfOk result (IsInvocationIn (map (λ w. w.now) words.now)) }
     ensures fault { IfErr result (IsFaultIn (map (λ w. w.now) words.now)) }
 {
@@ -50,7 +59,8 @@ fn flags_in(words: &[&str]) -> Flags
 {
     Flags {
         forever: has_word("--forever", words),
-        concurrency: has_concurrency(words),
+        concurrency: has_option("--concurrency", "--concurrency=", words),
+        socket: has_option("--control-socket", "--control-socket=", words),
     }
 }
 
@@ -64,27 +74,28 @@ fn has_word(word: &str, words: &[&str]) -> bool
     }
 }
 
-/// Whether the words after the program's name have `--concurrency`, in either of its forms.
-fn has_concurrency(words: &[&str]) -> bool
-    ensures { result ≡ has_concurrency (map (λ w. w.now) words.now) }
+/// Whether the words after the program's name have an option, in either of its forms: the option itself, whose value is the
+/// next word, or a word that begins with `start`, the option and `=`.
+fn has_option(option: &str, start: &str, words: &[&str]) -> bool
+    ensures { result ≡ has_option option.now start.now (map (λ w. w.now) words.now) }
 {
     match words.get(1..) {
-        Some(arguments) => have_concurrency(arguments),
+        Some(arguments) => have_option(option, start, arguments),
         None => false,
     }
 }
 
-fn have_concurrency(arguments: &[&str]) -> bool
-    ensures { result ≡ list_any (λ w. is_concurrency w.now) arguments.now }
+fn have_option(option: &str, start: &str, arguments: &[&str]) -> bool
+    ensures { result ≡ list_any (λ w. is_option option.now start.now w.now) arguments.now }
 {
-    arguments.iter().any(|word| is_concurrency(word))
+    arguments.iter().any(|word| is_option(option, start, word))
 }
 
-/// Whether a word is `--concurrency`, whose value is the next word, or has the form `--concurrency=N`.
-fn is_concurrency(word: &str) -> bool
-    ensures { result ≡ is_concurrency word.now }
+/// Whether a word is an option, whose value is the next word, or begins with the option and `=`.
+fn is_option(option: &str, start: &str, word: &str) -> bool
+    ensures { result ≡ is_option option.now start.now word.now }
 {
-    word == "--concurrency" || word.starts_with("--concurrency=")
+    word == option || word.starts_with(start)
 }
 
 /// Whether `--count` is given together with `--forever`, or `--workers` together with `--concurrency`.
@@ -126,7 +137,7 @@ fn fault_of(error: Error) -> InvocationFault
     }
 }
 
-fn invocation_of(flags: Flags, name: &str, matches: &ArgMatches) -> Invocation
+fn invocation_of<'a>(flags: Flags, name: &str, matches: &ArgMatches<'a>) -> Invocation<'a>
     requires { IsKnown flags name.now (rows_of (found_of matches.now)) }
     ensures { IsInvocationOf flags name.now (rows_of (found_of matches.now)) result }
 {
@@ -153,7 +164,7 @@ fn seats_of(matches: &ArgMatches) -> u8
     }
 }
 
-fn serve_of(flags: Flags, matches: &ArgMatches) -> Invocation
+fn serve_of<'a>(flags: Flags, matches: &ArgMatches<'a>) -> Invocation<'a>
     requires { HasWordsOfServe flags (rows_of (found_of matches.now)) }
     ensures { IsInvocationOf flags (codes "serve") (rows_of (found_of matches.now)) result }
 {
@@ -164,7 +175,8 @@ fn serve_of(flags: Flags, matches: &ArgMatches) -> Invocation
             Some(text) => Some(port_in(text)),
             None => None,
         },
-        control: port_in(required_text(matches, "control")),
+        control: control_of(matches),
+        control_socket: control_socket_of(matches),
         workers,
         preview_workers: preview_workers_of(flags.concurrency, workers, matches),
         redispatch: has_flag(matches, "redispatch"),
@@ -173,6 +185,42 @@ fn serve_of(flags: Flags, matches: &ArgMatches) -> Invocation
         shutdown_grace: shutdown_grace_of(matches),
         connections: connections_of(flags.forever, matches),
     })
+}
+
+fn control_of(matches: &ArgMatches) -> Option<u16>
+    requires { IsIn 1 65535 (codes "control") (rows_of (found_of matches.now)) }
+    ensures value { result ≡ number_of (codes "control") (rows_of (found_of matches.now)) }
+    ensures range { IfSome result (IsBetween 1 65535) }
+{
+    match argument_text(matches, "control") {
+        Some(text) => Some(port_in(text)),
+        None => None,
+    }
+}
+
+fn control_socket_of<'a>(matches: &ArgMatches<'a>) -> Option<ControlSocket<'a>>
+    requires { IsIn 1 777 (codes "control-socket-mode") (rows_of (found_of matches.now)) }
+    ensures { IsControlSocket (rows_of (found_of matches.now)) result }
+{
+    match argument_text(matches, "control-socket") {
+        Some(path) => Some(ControlSocket {
+            path,
+            mode: mode_of(matches),
+            group: argument_text(matches, "control-socket-group"),
+        }),
+        None => None,
+    }
+}
+
+/// The mode of the file of the control socket.
+fn mode_of(matches: &ArgMatches) -> u16
+    requires { IsIn 1 777 (codes "control-socket-mode") (rows_of (found_of matches.now)) }
+    ensures { IsMode (rows_of (found_of matches.now)) result }
+{
+    match argument_text(matches, "control-socket-mode") {
+        Some(text) => mode_in(text),
+        None => DEFAULT_MODE,
+    }
 }
 
 fn workers_of(concurrency: bool, matches: &ArgMatches) -> u16
@@ -284,6 +332,14 @@ fn port_in(text: &str) -> u16
     requires { IsUnsignedIn 1 65535 text.now }
     ensures value { result ≡ number text.now }
     ensures range { IsBetween 1 65535 result }
+{
+    text.parse::<u16>().unwrap()
+}
+
+fn mode_in(text: &str) -> u16
+    requires { IsUnsignedIn 1 777 text.now }
+    ensures value { result ≡ number text.now }
+    ensures range { IsBetween 1 777 result }
 {
     text.parse::<u16>().unwrap()
 }

@@ -38,7 +38,7 @@ pub record Gives (old new : Register) (line : List ℕ) (asker : Asker) : Type 0
   pub was : at old.places asker.key ≡ Some connection
   pub first : IsFirst (next_order old) old.places asker.key place
   pub line_is : given_line connection ≡ Some line
-  pub user_is : asker.user ≡ connection.user
+  pub peer_is : asker.peer ≡ connection.peer
   pub now : new ≡ record old {
     places = slice_set old.places asker.key (Some (asked connection));
     urgent_in_a_row = row_after old.urgent_in_a_row place.is_ahead;

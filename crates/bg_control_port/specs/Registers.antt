@@ -5,6 +5,7 @@ use Rattle.bg_control_port.specs.Steps.{came, ended, replied, with_urgency, wrot
 use Rattle.bg_control_port.specs.declared.connection.Connection.{Connection}
 use Rattle.bg_control_port.specs.declared.connection.Moment.{Moment}
 use Rattle.bg_control_port.specs.declared.connection.Stage.TheVariants as stage
+use Rattle.bg_control_port.specs.declared.peer.Peer.{Peer}
 use Rattle.bg_control_port.specs.declared.reply.AfterReply.{AfterReply}
 
 -- the place of each key, the number of the next whole line, and how many lines in a row were given before others since
@@ -56,11 +57,11 @@ abbrev pub without : Register → ℕ → Register
 without old key = record old { places = slice_set old.places key None }
 
 -- a connection that was accepted now has a key that was free
-pub record Enters (old new : Register) (key : ℕ) (user : Option ℕ) (now : ℕ) : Type 0 where
+pub record Enters (old new : Register) (key : ℕ) (peer : Peer) (now : ℕ) : Type 0 where
   pub within : key < length old.places
   pub vacant : at old.places key ≡ None
   pub now_is : new ≡ record old {
-    places = slice_set old.places key (Some (record { stage = stage.Awaits; input = []; user = user; moved = now }));
+    places = slice_set old.places key (Some (record { stage = stage.Awaits; input = []; peer = peer; moved = now }));
   }
 
 -- the connection of a key is out of its place, for a step

@@ -1,27 +1,27 @@
-//! The listener of the port.
+//! How connections are accepted.
 
+use crate::listener::Listener;
 use bg_sockets::set_backlog;
 use std::io;
 use std::io::ErrorKind;
-use std::net::{TcpListener, TcpStream};
 
 /// The number of milliseconds before an accept that failed, or that had no room, is tried again.
 const PAUSE_MILLIS: u64 = 100;
 
-/// The listener. Its accepts do not wait. Moments are milliseconds from the start of the port.
+/// A listener. Its accepts do not wait. Moments are milliseconds from the start of the port.
 #[derive(Drop)]
-pub struct Acceptor {
-    listener: TcpListener,
+pub struct Acceptor<L> {
+    listener: L,
     /// From when on connections may be accepted; `None` stands for when the listener is ready.
     due: Option<u64>,
     /// Whether the last accept failed.
     is_failing: bool,
 }
 
-impl Acceptor {
+impl<L: Listener + Drop> Acceptor<L> {
     /// An acceptor over this listener, which gets the backlog of the ports. An error if it cannot be made non-blocking.
-    pub fn new(listener: TcpListener) -> io::Result<Acceptor> {
-        listener.set_nonblocking(true)?;
+    pub fn new(listener: L) -> io::Result<Acceptor<L>> {
+        listener.wait_never()?;
         set_backlog(&listener);
         Ok(Acceptor {
             listener,
@@ -30,7 +30,7 @@ impl Acceptor {
         })
     }
 
-    pub fn listener(&self) -> &TcpListener {
+    pub fn listener(&self) -> &L {
         &self.listener
     }
 
@@ -52,9 +52,9 @@ impl Acceptor {
 
     /// Accepts a connection; `None` if none waits, or if its peer has given it up. If the accept fails, it is tried again
     /// after a pause.
-    pub fn accept(&mut self, now: u64) -> io::Result<Option<TcpStream>> {
-        match self.listener.accept() {
-            Ok((stream, _from)) => {
+    pub fn accept(&mut self, now: u64) -> io::Result<Option<L::Stream>> {
+        match self.listener.accept_next() {
+            Ok(stream) => {
                 self.is_failing = false;
                 self.due = Some(now);
                 Ok(Some(stream))
@@ -65,7 +65,7 @@ impl Acceptor {
 
     /// The result of a failed accept. If the peer has already given its connection up, the
     /// connection is skipped, and another one may wait.
-    fn not_accepted(&mut self, error: io::Error, now: u64) -> io::Result<Option<TcpStream>> {
+    fn not_accepted(&mut self, error: io::Error, now: u64) -> io::Result<Option<L::Stream>> {
         match error.kind() {
             ErrorKind::WouldBlock => self.due = None,
             ErrorKind::Interrupted | ErrorKind::ConnectionAborted => self.due = Some(now),

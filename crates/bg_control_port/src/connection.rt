@@ -8,6 +8,7 @@ mod steps;
 
 use crate::bounds::has_passed;
 use crate::buffer::{Buffer, WholeLine};
+use crate::peer::Peer;
 use crate::reply::{AfterReply, Reply};
 use crate::turn::{Place, Precedence};
 use std::alloc::Global;
@@ -54,29 +55,29 @@ pub struct Connection {
     stage: Stage,
     /// What came of its input and was not taken. No more is read while a whole line of it waits.
     input: Buffer,
-    /// The user whose process is at its other end, if only listed users are served.
-    user: Option<u32>,
+    /// Who is at its other end.
+    peer: Peer,
     /// When a byte of a line last came, or a byte of a reply was last taken. Bytes that are skipped do not count.
     moved: u64,
 }
 
 impl Connection {
-    /// A connection of this user that was accepted now.
-    pub fn new(alloc: Global, user: Option<u32>, now: u64) -> Connection
-        ensures { result ≡ record { stage = stage.Awaits; input = []; user = user; moved = now } }
+    /// A connection of this peer that was accepted now.
+    pub fn new(alloc: Global, peer: Peer, now: u64) -> Connection
+        ensures { result ≡ record { stage = stage.Awaits; input = []; peer = peer; moved = now } }
     {
         Connection {
             stage: Stage::Awaits,
             input: Buffer::new(alloc),
-            user,
+            peer,
             moved: now,
         }
     }
 
-    pub fn user(&self) -> Option<u32>
-        ensures { result ≡ self.now.user }
+    pub fn peer(&self) -> Peer
+        ensures { result ≡ self.now.peer }
     {
-        self.user
+        self.peer
     }
 
     /// What it waits for; `None` if its line waits or is being answered.

@@ -9,6 +9,7 @@ mod turns;
 
 use crate::bounds::MOST_CONNECTIONS;
 use crate::connection::{Connection, Moment};
+use crate::peer::Peer;
 use crate::reply::Reply;
 pub use room::is_long;
 use std::alloc::{AllocError, Global};
@@ -81,14 +82,14 @@ impl Connections {
         self.places.get(key)?.as_ref()
     }
 
-    /// Adds a connection of this user that was accepted now, and gives its key; `None` only if there are 1,024.
-    pub fn add(&mut self, user: Option<u32>, now: u64) -> Option<usize>
-        ensures enters { IfSome result (λ key. Enters self.old self.new key user now) }
+    /// Adds a connection of this peer that was accepted now, and gives its key; `None` only if there are 1,024.
+    pub fn add(&mut self, peer: Peer, now: u64) -> Option<usize>
+        ensures enters { IfSome result (λ key. Enters self.old self.new key peer now) }
         ensures none { IfNone result (self.new ≡ self.old) }
         ensures full { IfNone result (EachIndex self.old.places (λ key. ¬ (at self.old.places key ≡ None))) }
     {
         let key = self.first_free()?;
-        let connection = Connection::new(self.alloc, user, now);
+        let connection = Connection::new(self.alloc, peer, now);
         self.replace(key, Some(connection));
         Some(key)
     }

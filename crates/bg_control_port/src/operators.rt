@@ -3,6 +3,7 @@
 use crate::bounds::MOST_CONNECTIONS;
 use crate::connection::Interest;
 use crate::connections::{Asker, Connections, NextLine, is_long};
+use crate::peer::Peer;
 use crate::priority::LinePriority;
 use crate::readiness::Readiness;
 use crate::reply::Reply;
@@ -12,7 +13,7 @@ use bg_sockets::receive_now;
 use std::alloc::{AllocError, Global};
 use std::io;
 use std::io::ErrorKind;
-use std::net::TcpStream;
+use std::os::fd::OwnedFd;
 
 /// The number of bytes that a read asks for.
 const PIECE: usize = 8_192;
@@ -32,7 +33,7 @@ pub struct PortContext<'a, P> {
 pub struct Operators {
     connections: Connections,
     /// The socket of each connection, at its key.
-    streams: Vec<Option<TcpStream>>,
+    streams: Vec<Option<OwnedFd>>,
 }
 
 impl Operators {
@@ -53,10 +54,10 @@ impl Operators {
         &self.connections
     }
 
-    /// Adds a connection of this user. The next wait reports what has already arrived on it. A connection that cannot be
+    /// Adds a connection of this peer. The next wait reports what has already arrived on it. A connection that cannot be
     /// watched is closed.
-    pub fn add(&mut self, stream: TcpStream, user: Option<u32>, readiness: &Readiness, now: u64) {
-        let Some(key) = self.connections.add(user, now) else {
+    pub fn add(&mut self, stream: OwnedFd, peer: Peer, readiness: &Readiness, now: u64) {
+        let Some(key) = self.connections.add(peer, now) else {
             return;
         };
         if readiness.watch(&stream, key).is_err() {
@@ -69,7 +70,7 @@ impl Operators {
     }
 
     /// The socket of a connection.
-    fn stream(&self, key: usize) -> Option<&TcpStream> {
+    fn stream(&self, key: usize) -> Option<&OwnedFd> {
         self.streams.get(key)?.as_ref()
     }
 

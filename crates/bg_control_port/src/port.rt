@@ -1,11 +1,13 @@
-//! The control port.
+//! The control port, and the control socket.
 
 use crate::acceptor::Acceptor;
 use crate::admission::{Admission, Admitted};
 use crate::bounds::most_connections;
 use crate::connections::Asker;
 use crate::events::ControlEvents;
+use crate::listener::{ControlListeners, Entrance, Listener};
 use crate::operators::{Operators, PortContext};
+use crate::peer::Peer;
 use crate::priority::LinePriority;
 use crate::readiness::{MOST_READY, Readiness, Ready};
 use crate::reply::Reply;
@@ -15,6 +17,8 @@ use bg_sockets::{PortClock, descriptor_limits};
 use std::alloc::Global;
 use std::io;
 use std::net::{TcpListener, TcpStream};
+use std::os::fd::OwnedFd;
+use std::os::unix::net::{UnixListener, UnixStream};
 use std::sync::{Mutex, Wait};
 use std::time::Clock;
 
@@ -24,7 +28,7 @@ const MOST_ACCEPTS: usize = 64;
 /// The number of milliseconds between two calls of [`ControlEvents::second_passed`].
 const SECOND: u64 = 1_000;
 
-/// The port at which operators connect. One thread answers their lines; other threads may share it.
+/// The port and the socket at which operators connect. One thread answers their lines; other threads may share it.
 #[derive(Drop)]
 pub struct ControlPort {
     readiness: Readiness,
@@ -36,8 +40,10 @@ pub struct ControlPort {
 #[derive(Drop)]
 struct State {
     alloc: Global,
-    /// `None` after the port was closed.
-    acceptor: Option<Acceptor>,
+    /// `None` if there is no port, and after it was closed.
+    port: Option<Acceptor<TcpListener>>,
+    /// `None` if there is no socket, and after it was closed.
+    socket: Option<Acceptor<UnixListener>>,
     admission: Admission,
     operators: Operators,
     /// When the next call of `second_passed` is due.
@@ -47,31 +53,34 @@ struct State {
 /// The calls that are due to the events.
 #[derive(Drop)]
 struct News {
-    /// Why an accept failed.
-    failure: Option<io::Error>,
-    /// The number of connections that were refused.
+    /// Why an accept of the port failed.
+    port_failure: Option<io::Error>,
+    /// Why an accept of the socket failed.
+    socket_failure: Option<io::Error>,
+    /// The number of connections of the port that were refused.
     refused: u64,
     second_passed: bool,
 }
 
 impl ControlPort {
-    /// The port of a listener, for these users; `None` stands for all users. Allocates the memory for 1,024
-    /// connections. An error if this allocation or the clock fails, if the system cannot create an epoll set or
-    /// watch the listener, or if the listener cannot be made non-blocking.
+    /// The port and the socket of these listeners. The port is for these users; `None` stands for all users. Allocates the
+    /// memory for 1,024 connections. An error if this allocation or the clock fails, if the system cannot create an epoll
+    /// set or watch a listener, or if a listener cannot be made non-blocking.
     ///
-    /// A connection of another user, and one whose user two reads of the system's list of sockets do not confirm
-    /// ([`Users::confirmed`]), is sent `refused NotAllowed` and closed. No line of it is given.
+    /// A connection of the port of another user, and one whose user two reads of the system's list of sockets do not
+    /// confirm ([`Users::confirmed`]), is sent `refused NotAllowed` and closed. No line of it is given. A connection of the
+    /// socket is served whoever has made it.
     pub fn new<R: Clock>(
         rt: &R,
         alloc: Global,
-        listener: TcpListener,
+        listeners: ControlListeners,
         operators: Option<Users>,
     ) -> io::Result<ControlPort> {
-        let acceptor = Acceptor::new(listener)?;
-        let readiness = Readiness::new(acceptor.listener())?;
+        let readiness = Readiness::new()?;
         let state = State {
             alloc,
-            acceptor: Some(acceptor),
+            port: watched(&readiness, listeners.port, Entrance::Port)?,
+            socket: watched(&readiness, listeners.socket, Entrance::Socket)?,
             admission: Admission::new(alloc, operators),
             operators: Operators::new(alloc)?,
             next_second: SECOND,
@@ -140,11 +149,12 @@ impl ControlPort {
         self.state.lock(rt).operators.end(asker.key);
     }
 
-    /// Closes the listener and all connections. From then on no line comes, so a call of
+    /// Closes the listeners and all connections. From then on no line comes, so a call of
     /// [`ControlPort::next`] does not return.
     pub fn close<R: Wait>(&self, rt: &R) {
         let mut state = self.state.lock(rt);
-        state.acceptor = None;
+        state.port = None;
+        state.socket = None;
         state.operators.close();
     }
 
@@ -164,14 +174,17 @@ impl ControlPort {
         events: &E,
         priority: &P,
     ) {
-        let mut ready = [Ready::Listener; MOST_READY];
+        let mut ready = [Ready::Listener(Entrance::Port); MOST_READY];
         let count = self.readiness.wait(self.millis_to_wait(rt), &mut ready);
         let context = self.context(rt, priority);
         let mut state = self.state.lock(rt);
         let news = state.attend(&ready[..count], &context);
         drop(state);
-        if let Some(reason) = &news.failure {
-            events.accept_failed(reason);
+        if let Some(reason) = &news.port_failure {
+            events.accept_failed(Entrance::Port, reason);
+        }
+        if let Some(reason) = &news.socket_failure {
+            events.accept_failed(Entrance::Socket, reason);
         }
         if news.refused > 0 {
             events.connections_refused(news.refused);
@@ -194,12 +207,12 @@ impl ControlPort {
         {
             return 0;
         }
-        let mut millis = state.next_second.saturating_sub(now).min(SECOND);
-        if let Some(acceptor) = &state.acceptor
-            && let Some(pause) = acceptor.millis_to_wait(now)
-        {
-            millis = millis.min(pause);
-        }
+        let millis = state
+            .next_second
+            .saturating_sub(now)
+            .min(SECOND)
+            .min(pause_of(&state.port, now))
+            .min(pause_of(&state.socket, now));
         i32::try_from(millis).unwrap_or(0)
     }
 }
@@ -211,11 +224,8 @@ impl State {
             match *one {
                 // its connections are accepted after all else, so that no key of a connection that was closed is given
                 // again before
-                Ready::Listener => {
-                    if let Some(acceptor) = &mut self.acceptor {
-                        acceptor.note_ready(context.now);
-                    }
-                }
+                Ready::Listener(Entrance::Port) => note_ready(&mut self.port, context.now),
+                Ready::Listener(Entrance::Socket) => note_ready(&mut self.socket, context.now),
                 Ready::Connection { key, has_ended } => {
                     self.operators.attend(key, has_ended, context);
                 }
@@ -225,45 +235,37 @@ impl State {
         if second_passed {
             self.operators.end_given_up(context.now);
         }
+        // those of the socket first, since the users of the port may have to be looked up
+        let socket_failure = self.accept_at_socket(context.readiness, context.now);
         let mut arrived = Vec::new(self.alloc);
-        let failure = self.accept_arrived(context.now, &mut arrived);
+        let port_failure = accept_arrived(
+            &mut self.port,
+            &mut self.operators,
+            context.now,
+            &mut arrived,
+        );
         let count = arrived.len();
         let served = self.keep_served(arrived, context.readiness, context.now);
         News {
-            failure,
+            port_failure,
+            socket_failure,
             refused: count.saturating_sub(served) as u64,
             second_passed,
         }
     }
 
-    /// Accepts the connections that have come. Returns a failure that has to be reported.
-    fn accept_arrived(&mut self, now: u64, arrived: &mut Vec<TcpStream>) -> Option<io::Error> {
-        let acceptor = self.acceptor.as_mut()?;
-        for _ in 0..MOST_ACCEPTS {
-            if acceptor.millis_to_wait(now) != Some(0) {
-                return None;
-            }
-            let connections = self.operators.connections();
-            let count = connections.count().saturating_add(arrived.len());
-            if count >= most_connections_now() && connections.first(Precedence::Silence).is_none() {
-                acceptor.put_off(now);
-                return None;
-            }
-            match acceptor.accept(now) {
-                // without memory, it is closed
-                Ok(Some(stream)) => drop(arrived.push(stream)),
-                Ok(None) => {}
-                Err(reason) => {
-                    self.operators.close_silent(now);
-                    return acceptor.is_first_failure().then_some(reason);
-                }
-            }
+    /// Accepts the connections of the socket that have come, and serves them. Returns a failure that has to be reported.
+    fn accept_at_socket(&mut self, readiness: &Readiness, now: u64) -> Option<io::Error> {
+        let mut arrived: Vec<UnixStream> = Vec::new(self.alloc);
+        let failure = accept_arrived(&mut self.socket, &mut self.operators, now, &mut arrived);
+        for stream in arrived {
+            self.keep(OwnedFd::from(stream), Peer::AtSocket, readiness, now);
         }
-        None
+        failure
     }
 
-    /// Keeps those of these connections that are served, and returns their number. Each takes the place of another one if
-    /// there is no room. Without memory, none of them is served.
+    /// Keeps those of these connections of the port that are served, and returns their number. Without memory, none of them
+    /// is served.
     fn keep_served(&mut self, arrived: Vec<TcpStream>, readiness: &Readiness, now: u64) -> usize {
         let mut lookup = SystemLookup::new(self.alloc);
         let Ok(admitted) = self.admission.admit(&mut lookup, arrived) else {
@@ -271,12 +273,21 @@ impl State {
         };
         let count = admitted.len();
         for Admitted { stream, user } in admitted {
-            if self.operators.connections().count() >= most_connections_now() {
-                self.operators.make_room();
-            }
-            self.operators.add(stream, user, readiness, now);
+            let peer = match user {
+                Some(user) => Peer::User(user),
+                None => Peer::Anybody,
+            };
+            self.keep(OwnedFd::from(stream), peer, readiness, now);
         }
         count
+    }
+
+    /// Keeps a connection. It takes the place of another one if there is no room.
+    fn keep(&mut self, stream: OwnedFd, peer: Peer, readiness: &Readiness, now: u64) {
+        if self.operators.connections().count() >= most_connections_now() {
+            self.operators.make_room();
+        }
+        self.operators.add(stream, peer, readiness, now);
     }
 
     /// Whether a second has passed since the last one that was reported.
@@ -287,6 +298,65 @@ impl State {
         self.next_second = now.saturating_add(SECOND);
         true
     }
+}
+
+/// An acceptor over a listener that is watched, if there is one.
+fn watched<L: Listener + Drop>(
+    readiness: &Readiness,
+    listener: Option<L>,
+    entrance: Entrance,
+) -> io::Result<Option<Acceptor<L>>> {
+    let Some(listener) = listener else {
+        return Ok(None);
+    };
+    let acceptor = Acceptor::new(listener)?;
+    readiness.watch_listener(acceptor.listener(), entrance)?;
+    Ok(Some(acceptor))
+}
+
+fn note_ready<L: Listener + Drop>(acceptor: &mut Option<Acceptor<L>>, now: u64) {
+    if let Some(acceptor) = acceptor {
+        acceptor.note_ready(now);
+    }
+}
+
+/// The number of milliseconds until connections may be accepted, or a second if that depends on the listener.
+fn pause_of<L: Listener + Drop>(acceptor: &Option<Acceptor<L>>, now: u64) -> u64 {
+    match acceptor {
+        Some(acceptor) => acceptor.millis_to_wait(now).unwrap_or(SECOND),
+        None => SECOND,
+    }
+}
+
+/// Accepts the connections that have come. Returns a failure that has to be reported.
+fn accept_arrived<L: Listener + Drop>(
+    acceptor: &mut Option<Acceptor<L>>,
+    operators: &mut Operators,
+    now: u64,
+    arrived: &mut Vec<L::Stream>,
+) -> Option<io::Error> {
+    let acceptor = acceptor.as_mut()?;
+    for _ in 0..MOST_ACCEPTS {
+        if acceptor.millis_to_wait(now) != Some(0) {
+            return None;
+        }
+        let connections = operators.connections();
+        let count = connections.count().saturating_add(arrived.len());
+        if count >= most_connections_now() && connections.first(Precedence::Silence).is_none() {
+            acceptor.put_off(now);
+            return None;
+        }
+        match acceptor.accept(now) {
+            // without memory, it is closed
+            Ok(Some(stream)) => drop(arrived.push(stream)),
+            Ok(None) => {}
+            Err(reason) => {
+                operators.close_silent(now);
+                return acceptor.is_first_failure().then_some(reason);
+            }
+        }
+    }
+    None
 }
 
 /// The maximum number of connections now. The limit of descriptors may change.

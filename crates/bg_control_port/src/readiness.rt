@@ -1,15 +1,17 @@
 //! Which sockets of the port are ready.
 ghost use Rattle.std.specs.Prelude.{◌≤◌, length};
 
+use crate::listener::Entrance;
 use bg_sockets::{EpollSet, Watched};
 use libc::net::{EPOLLERR, EPOLLET, EPOLLHUP, EPOLLIN, EPOLLOUT, EPOLLRDHUP};
 use os::EpollEvent;
 use std::io;
-use std::net::{TcpListener, TcpStream};
-use std::os::fd::AsRawFd;
+use std::os::fd::{AsRawFd, OwnedFd};
 
-/// The number of the events of the listener. The key of a connection is smaller.
-const LISTENER: u64 = u64::MAX;
+/// The numbers of the events of the listeners. The key of a connection is smaller.
+const PORT: u64 = u64::MAX;
+
+const SOCKET: u64 = u64::MAX - 1;
 
 /// The maximum number of sockets that a wait reports.
 pub const MOST_READY: usize = 64;
@@ -18,7 +20,7 @@ pub const MOST_READY: usize = 64;
 #[derive(Clone, Copy, Drop, PartialEq, Eq)]
 pub enum Ready {
     /// Connections may be accepted.
-    Listener,
+    Listener(Entrance),
     /// The connection with this key can be read or written, or its input has ended.
     Connection { key: usize, has_ended: bool },
 }
@@ -31,29 +33,37 @@ pub struct Readiness {
 }
 
 impl Readiness {
-    /// Watches the listener. An error if a system call fails.
-    pub fn new(listener: &TcpListener) -> io::Result<Readiness> {
-        let set = EpollSet::new()?;
-        set.add(Watched {
+    /// Watches nothing. An error if the system call fails.
+    pub fn new() -> io::Result<Readiness> {
+        Ok(Readiness {
+            set: EpollSet::new()?,
+        })
+    }
+
+    /// Watches a listener. An error if the system call fails.
+    pub fn watch_listener<L: AsRawFd>(&self, listener: &L, entrance: Entrance) -> io::Result<()> {
+        self.set.add(Watched {
             descriptor: listener.as_raw_fd(),
             events: EPOLLIN | EPOLLET,
-            number: LISTENER,
-        })?;
-        Ok(Readiness { set })
+            number: match entrance {
+                Entrance::Port => PORT,
+                Entrance::Socket => SOCKET,
+            },
+        })
     }
 
     /// Watches the input of a new connection. An error if the system call fails.
-    pub fn watch(&self, stream: &TcpStream, key: usize) -> io::Result<()> {
+    pub fn watch(&self, stream: &OwnedFd, key: usize) -> io::Result<()> {
         self.set.add(watched(stream, EPOLLIN | EPOLLRDHUP, key))
     }
 
     /// Watches the input of a connection again. What has arrived already is reported. An error if the system call fails.
-    pub fn watch_input(&self, stream: &TcpStream, key: usize) -> io::Result<()> {
+    pub fn watch_input(&self, stream: &OwnedFd, key: usize) -> io::Result<()> {
         self.set.change(watched(stream, EPOLLIN | EPOLLRDHUP, key))
     }
 
     /// Watches whether a connection takes bytes, and not its input. An error if the system call fails.
-    pub fn watch_output(&self, stream: &TcpStream, key: usize) -> io::Result<()> {
+    pub fn watch_output(&self, stream: &OwnedFd, key: usize) -> io::Result<()> {
         self.set.change(watched(stream, EPOLLOUT, key))
     }
 
@@ -71,7 +81,7 @@ impl Readiness {
     }
 }
 
-fn watched(stream: &TcpStream, events: u32, key: usize) -> Watched {
+fn watched(stream: &OwnedFd, events: u32, key: usize) -> Watched {
     Watched {
         descriptor: stream.as_raw_fd(),
         events: events | EPOLLET,
@@ -81,7 +91,8 @@ fn watched(stream: &TcpStream, events: u32, key: usize) -> Watched {
 
 fn ready_of(event: EpollEvent) -> Ready {
     match event.data {
-        LISTENER => Ready::Listener,
+        PORT => Ready::Listener(Entrance::Port),
+        SOCKET => Ready::Listener(Entrance::Socket),
         key => Ready::Connection {
             key: key as usize,
             has_ended: event.events & (EPOLLRDHUP | EPOLLHUP | EPOLLERR) != 0,

@@ -6,4 +6,4 @@ use Rattle.bg_endpoints.specs.declared.own_ports.OwnPorts.{OwnPorts}
 -- the port is that of the active service, the control port, or that of the preview service
 abbrev pub is_own : OwnPorts → ℕ → Bool
 is_own own port =
-    port == own.active || port == own.control || option_map_or (λ p. p == port) own.preview false
+    port == own.active || option_map_or (λ p. p == port) own.control false || option_map_or (λ p. p == port) own.preview false

@@ -10,8 +10,8 @@ pub struct OwnPorts {
     pub active: u16,
     /// The port of the preview service, if there is one.
     pub preview: Option<u16>,
-    /// The control port.
-    pub control: u16,
+    /// The control port, if there is one.
+    pub control: Option<u16>,
 }
 
 impl OwnPorts {
@@ -19,6 +19,6 @@ impl OwnPorts {
     pub fn is_own(&self, port: u16) -> bool
         ensures { result ≡ is_own self.now port }
     {
-        port == self.active || port == self.control || self.preview == Some(port)
+        port == self.active || self.control == Some(port) || self.preview == Some(port)
     }
 }

@@ -2,8 +2,7 @@
 ghost use Rattle.std.specs.Prelude.{◌≡◌, [], ◌∷◌, ◌++◌, OnErr, OnOk};
 ghost use Rattle.bg_peers.specs.Users.{has_user, numbers};
 
-use crate::lines::number_of;
-use crate::passwd::{read_passwd, user_named};
+use crate::names::{number_or_named, read_passwd};
 use std::alloc::{AllocError, Global};
 use std::fmt;
 
@@ -80,15 +79,5 @@ impl Users {
         ensures { result ≡ has_user user self.now }
     {
         self.numbers.iter().any(|number| *number == user)
-    }
-}
-
-/// The user that a word gives by its number, or else by its name.
-fn number_or_named(passwd: &[u8], word: &str) -> Option<u32> {
-    match number_of(word.as_bytes()) {
-        // the last number stands for no user (chown(2))
-        Some(u32::MAX) => None,
-        Some(number) => Some(number),
-        None => user_named(passwd, word.as_bytes()),
     }
 }

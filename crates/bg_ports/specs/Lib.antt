@@ -1,1 +1,2 @@
 pub mod ServiceNames
+pub mod SocketModes

@@ -10,6 +10,9 @@ use std::fmt;
 /// its turn.
 const CONTROL_DESCRIPTORS: usize = 6;
 
+/// The same, for the control socket.
+const SOCKET_DESCRIPTORS: usize = 1;
+
 /// The connections of operators may have one in this many of the descriptors, and at most `MOST_OPERATORS`
 /// (`ControlPort::next`).
 const CONTROL_SHARE: usize = 4;
@@ -38,8 +41,15 @@ fn ports_of(settings: &ServeSettings) -> usize {
 fn reserved_of(settings: &ServeSettings, descriptors: usize) -> usize {
     let workers = u32::from(settings.workers).saturating_add(preview_workers(settings));
     let operators = (descriptors / CONTROL_SHARE).min(MOST_OPERATORS);
-    let others = CONTROL_DESCRIPTORS.saturating_add(operators);
+    let others = control_descriptors(settings).saturating_add(operators);
     reserved_descriptors(ports_of(settings), workers as usize, others)
+}
+
+fn control_descriptors(settings: &ServeSettings) -> usize {
+    match settings.control_socket {
+        Some(_) => CONTROL_DESCRIPTORS + SOCKET_DESCRIPTORS,
+        None => CONTROL_DESCRIPTORS,
+    }
 }
 
 /// That the limit on descriptors leaves few of them to pending connections.

@@ -1,12 +1,15 @@
-//! The ports at which `serve` listens, and the notices that are written to standard error while they are open.
+//! The ports at which `serve` listens, the control socket, and the notices that are written to standard error while they
+//! are open.
 #![tactic(auto)]
 
 mod addresses;
+mod bind_fault;
 mod descriptors;
 mod notices;
 mod ports;
+mod socket_mode;
 
-pub use addresses::BindFault;
+pub use bind_fault::BindFault;
 pub use descriptors::FewDescriptors;
 pub use notices::Notices;
 pub use ports::{Ports, preview_workers, service_name};

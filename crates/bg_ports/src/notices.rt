@@ -4,7 +4,7 @@ use crate::ports::{Ports, service_name};
 use bg_access_log::{AccessLog, LogTrouble};
 use bg_client_port::ClientPort;
 use bg_command_line::ServeSettings;
-use bg_control_port::ControlEvents;
+use bg_control_port::{ControlEvents, Entrance, Peer};
 use bg_revisions::Service;
 use libc::STDERR_FILENO;
 use libc::net::{POLLOUT, poll};
@@ -33,6 +33,7 @@ enum Notice<'a> {
         port: &'static str,
     },
     ControlAcceptsFail {
+        entrance: Entrance,
         reason: &'a io::Error,
     },
     UsedUp {
@@ -48,9 +49,9 @@ enum Notice<'a> {
         lines: u64,
         requests: u64,
     },
-    /// A line of the user with this number, which was carried out.
+    /// A line of this peer, which was carried out.
     Decision {
-        user: u32,
+        peer: Peer,
         line: &'a str,
     },
     /// The number of connections of other users since the last such notice.
@@ -77,9 +78,10 @@ impl fmt::Display for Notice<'_> {
             Notice::AcceptsFail { port } => {
                 write!(f, "accepts fail at the {port} port, and are tried again")
             }
-            Notice::ControlAcceptsFail { reason } => write!(
+            Notice::ControlAcceptsFail { entrance, reason } => write!(
                 f,
-                "accepts fail at the control port, and are tried again: {reason}"
+                "accepts fail at the control {}, and are tried again: {reason}",
+                entrance_name(*entrance)
             ),
             Notice::UsedUp { port } => {
                 write!(f, "the {port} port is closed: its connections are used up")
@@ -92,7 +94,11 @@ impl fmt::Display for Notice<'_> {
                 f,
                 "the history is full; lines refused: {lines}, requests refused: {requests}"
             ),
-            Notice::Decision { user, line } => write!(f, "user {user}: {line}"),
+            Notice::Decision { peer, line } => match peer {
+                Peer::User(user) => write!(f, "user {user}: {line}"),
+                Peer::AtSocket => write!(f, "control socket: {line}"),
+                Peer::Anybody => write!(f, "control port: {line}"),
+            },
             Notice::RefusedConnections { connections } => write!(
                 f,
                 "connections at the control port that are not of the users of BG_SWITCH_OPERATORS: {connections}"
@@ -103,6 +109,14 @@ impl fmt::Display for Notice<'_> {
             ),
             Notice::LogLinesLost { lost } => write!(f, "the access log: lines lost: {lost}"),
         }
+    }
+}
+
+/// The word for where connections come in.
+fn entrance_name(entrance: Entrance) -> &'static str {
+    match entrance {
+        Entrance::Port => "port",
+        Entrance::Socket => "socket",
     }
 }
 
@@ -128,9 +142,10 @@ impl PortNotices {
 /// Writes notices to standard error while the ports are open: fewer threads than expected, failed
 /// accepts, a port that is closed because its workers have taken all their connections, a history that is
 /// nearly full, lines and requests that are refused because it is full, an access log that takes nothing
-/// or has lost lines, and, if only listed users are served, their decisions and the connections of others. Each is
-/// written once, or once for each client port, with these exceptions. Failed accepts at the control port, and a log
-/// that takes nothing, are written once for each series of failures. Refusals, and connections of others, are written
+/// or has lost lines, decisions that came by the control socket, and, if the control port serves only listed users, their
+/// decisions and the connections of others. Each is written once, or once for each client port, with these exceptions.
+/// Failed accepts at the control port or at the control socket, and a log that takes nothing, are written once for each
+/// series of failures. Refusals, and connections of others, are written
 /// each second in which something was refused. Each decision is written. A failed write changes nothing else.
 #[derive(Drop)]
 pub struct Notices<'p> {
@@ -232,11 +247,15 @@ impl<'p> Notices<'p> {
         }
     }
 
-    /// Writes who has made a decision: the line of an operator, and the number of its user.
-    pub fn write_decision(&self, user: u32, line: &[u8]) {
+    /// Writes who has made a decision: the line of an operator, and the number of its user, or that it came by the control
+    /// socket. Nothing is written of a decision at a port that serves all users.
+    pub fn write_decision(&self, peer: Peer, line: &[u8]) {
+        if peer == Peer::Anybody {
+            return;
+        }
         if let Ok(line) = str::from_utf8(line) {
             self.write(&Notice::Decision {
-                user,
+                peer,
                 line: line.trim_end(),
             });
         }
@@ -336,8 +355,8 @@ fn takes_a_line() -> bool {
 }
 
 impl ControlEvents for Notices<'_> {
-    fn accept_failed(&self, reason: &io::Error) {
-        self.write(&Notice::ControlAcceptsFail { reason });
+    fn accept_failed(&self, entrance: Entrance, reason: &io::Error) {
+        self.write(&Notice::ControlAcceptsFail { entrance, reason });
     }
 
     fn connections_refused(&self, connections: u64) {

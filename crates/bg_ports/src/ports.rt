@@ -2,44 +2,51 @@
 ghost use Rattle.std.specs.Prelude.{◌≡◌};
 ghost use Rattle.bg_ports.specs.ServiceNames.{name_of_service};
 
-use crate::addresses::{Address, Addresses, BindFault};
+use crate::addresses::{Address, Addresses, control_place};
+use crate::bind_fault::BindFault;
 use crate::descriptors::bounds_of;
 use bg_client_port::{Bounds, ClientPort, ClientPortSettings};
 use bg_command_line::{Connections, ServeSettings};
-use bg_control_port::ControlPort;
+use bg_control_port::{ControlPort, SocketFile};
 use bg_endpoints::OwnPorts;
 use bg_peers::Users;
 use bg_revisions::Service;
 use std::alloc::Global;
 use std::net::{Net, TcpListener, TcpStream};
+use std::rt::Files;
 use std::sync::Wait;
 use std::time::Clock;
 
-/// The ports on 127.0.0.1.
+/// The ports on 127.0.0.1, and the control socket.
 #[derive(Drop)]
 pub struct Ports {
     active: ClientPort,
     preview: Option<ClientPort>,
-    /// The port at which operators connect.
+    /// The port and the socket at which operators connect.
     pub control: ControlPort,
+    /// The file of the control socket, if there is one.
+    socket_file: Option<SocketFile>,
     /// The numbers of the ports.
     pub own: OwnPorts,
 }
 
 impl Ports {
-    /// Listens at the ports of the settings, which are bound in the order active, preview, control.
-    /// `request_seconds` is the timeout of a client's request. The control port serves the connections of
-    /// `operators`; `None` stands for all users. The error names the first port that cannot be
+    /// Listens at the ports of the settings, which are bound in the order active, preview, control, and then at the control
+    /// socket. `request_seconds` is the timeout of a client's request. The control port serves the connections of
+    /// `operators`; `None` stands for all users. The error names the first port or the socket that cannot be
     /// bound. If all are bound, it names the first one for which another system call or an allocation fails.
-    pub fn bind<R: Net<Listener = TcpListener, Stream = TcpStream> + Clock>(
+    pub fn bind<'a, R>(
         rt: &R,
         alloc: Global,
-        settings: &ServeSettings,
+        settings: &ServeSettings<'a>,
         request_seconds: u64,
         operators: Option<Users>,
-    ) -> Result<Ports, BindFault> {
+    ) -> Result<Ports, BindFault<'a>>
+    where
+        R: Files + Net<Listener = TcpListener, Stream = TcpStream> + Clock,
+    {
         let addresses = Addresses::of(settings);
-        let listeners = addresses.listen(rt)?;
+        let listeners = addresses.listen(rt, alloc)?;
         let clients = ClientPorts {
             alloc,
             connections: settings.connections,
@@ -51,11 +58,13 @@ impl Ports {
         let active = clients.port(rt, &addresses.active, listeners.active, settings.workers)?;
         let workers = settings.preview_workers;
         let preview = clients.preview_port(rt, &addresses, listeners.preview, workers)?;
-        let control = control_port(rt, alloc, &addresses.control, listeners.control, operators)?;
+        let control = ControlPort::new(rt, alloc, listeners.control, operators);
+        let control = control_place(settings).or_fault(control)?;
         Ok(Ports {
             active,
             preview,
             control,
+            socket_file: listeners.socket_file,
             own: OwnPorts {
                 active: settings.active,
                 preview: settings.preview,
@@ -69,6 +78,13 @@ impl Ports {
         self.active.close(rt);
         if let Some(preview) = &self.preview {
             preview.close(rt);
+        }
+    }
+
+    /// Removes the file of the control socket, if there is one.
+    pub fn remove_socket_file<R: Files>(&self, rt: &R) {
+        if let Some(file) = &self.socket_file {
+            file.remove(rt);
         }
     }
 
@@ -121,25 +137,25 @@ impl ClientPorts {
     }
 
     /// The client port at an address, with this many workers.
-    fn port<R: Clock>(
+    fn port<'a, R: Clock>(
         &self,
         rt: &R,
         address: &Address,
         listener: TcpListener,
         workers: u16,
-    ) -> Result<ClientPort, BindFault> {
+    ) -> Result<ClientPort, BindFault<'a>> {
         let settings = self.settings(workers);
         address.or_fault(ClientPort::new(rt, self.alloc, listener, settings))
     }
 
     /// The port of the preview service, if there is one.
-    fn preview_port<R: Clock>(
+    fn preview_port<'a, R: Clock>(
         &self,
         rt: &R,
-        addresses: &Addresses,
+        addresses: &Addresses<'a>,
         listener: Option<TcpListener>,
         workers: u16,
-    ) -> Result<Option<ClientPort>, BindFault> {
+    ) -> Result<Option<ClientPort>, BindFault<'a>> {
         match (&addresses.preview, listener) {
             (Some(address), Some(listener)) => {
                 Ok(Some(self.port(rt, address, listener, workers)?))
@@ -147,17 +163,6 @@ impl ClientPorts {
             _ => Ok(None),
         }
     }
-}
-
-/// The control port at an address.
-fn control_port<R: Net + Clock>(
-    rt: &R,
-    alloc: Global,
-    address: &Address,
-    listener: TcpListener,
-    operators: Option<Users>,
-) -> Result<ControlPort, BindFault> {
-    address.or_fault(ControlPort::new(rt, alloc, listener, operators))
 }
 
 /// The number of workers of the preview port; 0 if there is no such port.

@@ -28,7 +28,7 @@ fn moved(count: isize, most: usize) -> io::Result<usize>
 }
 
 /// Reads the available bytes. If there are none, the error is WouldBlock.
-pub fn receive_now(stream: &TcpStream, buf: &mut [u8]) -> io::Result<usize>
+pub fn receive_now<S: AsRawFd>(stream: &S, buf: &mut [u8]) -> io::Result<usize>
     ensures { ReadsAtMost result buf.new }
 {
     let most = buf.len();
@@ -37,7 +37,7 @@ pub fn receive_now(stream: &TcpStream, buf: &mut [u8]) -> io::Result<usize>
 }
 
 /// Writes what the system takes at once. If it takes nothing, the error is WouldBlock.
-pub fn send_now(stream: &TcpStream, bytes: &[u8]) -> io::Result<usize>
+pub fn send_now<S: AsRawFd>(stream: &S, bytes: &[u8]) -> io::Result<usize>
     ensures { WritesAtMost result bytes.now }
 {
     let count = unsafe { send(stream.as_raw_fd(), bytes, MSG_NOSIGNAL | MSG_DONTWAIT) };

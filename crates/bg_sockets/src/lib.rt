@@ -9,7 +9,7 @@ mod descriptors;
 mod epoll_set;
 mod signal;
 
-pub use backlog::set_backlog;
+pub use backlog::{begin_to_listen, set_backlog};
 pub use calls::{OtherEnd, await_input, is_drained, is_ready, other_end, receive_now, send_now};
 pub use clock::PortClock;
 pub use descriptors::{DescriptorLimits, descriptor_limits};

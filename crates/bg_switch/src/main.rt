@@ -19,11 +19,12 @@ use bg_command_line::{
     parse_command_line,
 };
 use bg_script::RunEnd;
+use std::alloc::{AllocError, Global};
 use std::env::VarError;
 use std::io::{ErrorKind, Read, Write};
 use std::net::{Net, TcpListener, TcpStream};
 use std::process::ExitCode;
-use std::rt::Env;
+use std::rt::{Env, Files};
 use std::sync::Wait;
 use std::thread::Threads;
 use std::time::Clock;
@@ -32,6 +33,9 @@ use std::{env, io};
 /// The environment variable that gives the path of the access log; `-` is standard error.
 const ACCESS_LOG_VARIABLE: &str = "BG_SWITCH_ACCESS_LOG";
 
+/// The word that stands for all words if one of them is not UTF-8.
+const NO_TEXT: &str = "\u{FFFD}";
+
 /// Reads the program's words, and carries out what they ask for over standard input and standard output.
 ///
 /// The exit status is 0, also after `--version`, or 1 after a fault. It is 2 after words that are
@@ -39,7 +43,13 @@ const ACCESS_LOG_VARIABLE: &str = "BG_SWITCH_ACCESS_LOG";
 /// goes to standard error. It is also 1 if the access log cannot be opened, or the list of operators cannot be
 /// used; a notice says why.
 fn main(rt: HostRuntime) -> ExitCode {
-    let invocation = match process_invocation(&rt) {
+    let Ok(texts) = process_texts(&rt) else {
+        return ended(&rt, RunEnd::OutOfMemory);
+    };
+    let Ok(words) = words_of(rt.alloc(), &texts) else {
+        return ended(&rt, RunEnd::OutOfMemory);
+    };
+    let invocation = match parse_command_line(rt.alloc(), &words) {
         Ok(invocation) => invocation,
         Err(fault) => return ended_without_invocation(&rt, &fault),
     };
@@ -95,7 +105,7 @@ fn served<R, I: Read, W: Write, E: Write>(
     errors: &mut E,
 ) -> Result<u8, RunEnd>
 where
-    R: Net<Listener = TcpListener, Stream = TcpStream> + Threads + Wait + Clock + Sync,
+    R: Files + Net<Listener = TcpListener, Stream = TcpStream> + Threads + Wait + Clock + Sync,
     R: Env + AllocGlobal,
 {
     let timeout = message_timeout(rt, errors);
@@ -181,20 +191,19 @@ fn ended(rt: &HostRuntime, end: RunEnd) -> ExitCode {
     ExitCode::FAILURE
 }
 
-/// What the process's words ask for. If a word is not UTF-8, the word U+FFFD stands for all of
-/// them.
-fn process_invocation<R: Env + AllocGlobal>(rt: &R) -> Result<Invocation, InvocationFault> {
-    let alloc = rt.alloc();
-    let texts = match env::args(rt) {
-        Ok(texts) => texts,
-        Err(error) => {
-            if error.kind() == ErrorKind::OutOfMemory {
-                return Err(InvocationFault::OutOfMemory);
-            }
-            return parse_command_line(alloc, &["bg_switch", "\u{FFFD}"]);
-        }
-    };
-    let texts: Vec<String> = texts.collect(alloc)?;
-    let words: Vec<&str> = texts.iter().map(|text| text.as_str()).collect(alloc)?;
-    parse_command_line(alloc, &words)
+/// The texts of the process's words; `None` if a word is not UTF-8. The only error is an allocation failure.
+fn process_texts<R: Env + AllocGlobal>(rt: &R) -> Result<Option<Vec<String>>, AllocError> {
+    match env::args(rt) {
+        Ok(texts) => Ok(Some(texts.collect(rt.alloc())?)),
+        Err(error) if error.kind() == ErrorKind::OutOfMemory => Err(AllocError),
+        Err(_) => Ok(None),
+    }
+}
+
+/// The words that these texts are. Without texts, the word U+FFFD stands for all words.
+fn words_of(alloc: Global, texts: &Option<Vec<String>>) -> Result<Vec<&str>, AllocError> {
+    match texts {
+        Some(texts) => texts.iter().map(|text| text.as_str()).collect(alloc),
+        None => Ok(vec![in alloc; "bg_switch", NO_TEXT]?),
+    }
 }

@@ -130,16 +130,16 @@ impl<'c, R: Clock + Wait> Operator<'c, R> {
         }
     }
 
-    /// Writes a notice of the line, if it makes a decision and its user is known.
+    /// Writes a notice of the line, if it makes a decision and came of a listed user or by the control socket.
     fn note_decision(&self) {
-        let Some(user) = self.asker.and_then(|asker| asker.user()) else {
+        let Some(asker) = self.asker else {
             return;
         };
         let mut line = self.line.as_slice();
         if let Ok(Some(read)) = OperatorLines::new(self.rollbacks.alloc).next(&mut line)
             && makes_decision(&read)
         {
-            self.notices.write_decision(user, &self.line);
+            self.notices.write_decision(asker.peer(), &self.line);
         }
     }
 

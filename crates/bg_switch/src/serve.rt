@@ -15,16 +15,17 @@ use std::alloc::Global;
 use std::io;
 use std::io::{Read, Write};
 use std::net::{Net, TcpListener, TcpStream};
+use std::rt::Files;
 use std::sync::Wait;
 use std::thread::Threads;
 use std::time::Clock;
 
 /// The settings of a run of `serve`.
 #[derive(Drop)]
-pub struct RunSettings<'l> {
+pub struct RunSettings<'l, 'w> {
     pub alloc: Global,
     /// What the words of the command line set.
-    pub words: ServeSettings,
+    pub words: ServeSettings<'w>,
     /// The timeout within which a request or a response has to be complete.
     pub timeout: MessageTimeout,
     /// The log of ended connections.
@@ -43,7 +44,7 @@ pub struct RunSettings<'l> {
 /// the report and the number of the workers' calls. It writes nothing more if no book was opened.
 ///
 /// To `errors` it writes why the strategy is not valid JSON, which of its keys look misspelt, that a
-/// preview port has no effect, and which port cannot be bound and why. A failed write to `errors` changes
+/// preview port or a list of users has no effect, and which port cannot be bound and why. A failed write to `errors` changes
 /// nothing else.
 pub fn serve<R, I: Read, W: Write, E: Write>(
     rt: &R,
@@ -53,7 +54,7 @@ pub fn serve<R, I: Read, W: Write, E: Write>(
     errors: &mut E,
 ) -> Result<u8, RunEnd>
 where
-    R: Net<Listener = TcpListener, Stream = TcpStream> + Threads + Wait + Clock + Sync,
+    R: Files + Net<Listener = TcpListener, Stream = TcpStream> + Threads + Wait + Clock + Sync,
 {
     let finding = finding_of_input(settings.alloc, input, errors)?;
     match &finding {
@@ -77,32 +78,42 @@ fn serve_strategy<R, W: Write, E: Write>(
     errors: &mut E,
 ) -> Result<u8, RunEnd>
 where
-    R: Net<Listener = TcpListener, Stream = TcpStream> + Threads + Wait + Clock + Sync,
+    R: Files + Net<Listener = TcpListener, Stream = TcpStream> + Threads + Wait + Clock + Sync,
 {
     if settings.words.preview.is_some() && strategy.preview_service.is_none() {
         write_useless_preview(errors);
+    }
+    if settings.operators.is_some() && settings.words.control.is_none() {
+        write_useless_list(errors);
     }
     write_few_descriptors(&settings.words, errors);
     let operators = settings.operators.take();
     match bind_ports(rt, settings, operators) {
         // one path for both results, since each path on which the ports are dropped is proved by itself
-        Ok(ports) => match serve_at_ports(rt, settings, strategy, &ports, output) {
-            Ok(()) => {
-                write_cut_responses(rt, &ports, errors);
-                Ok(0)
+        Ok(ports) => {
+            let end = serve_at_ports(rt, settings, strategy, &ports, output);
+            ports.remove_socket_file(rt);
+            match end {
+                Ok(()) => {
+                    write_cut_responses(rt, &ports, errors);
+                    Ok(0)
+                }
+                Err(end) => Err(end),
             }
-            Err(end) => Err(end),
-        },
+        }
         Err(fault) => write_bind_fault(&fault, output, errors),
     }
 }
 
 /// Binds the ports of the settings.
-fn bind_ports<R: Net<Listener = TcpListener, Stream = TcpStream> + Clock>(
+fn bind_ports<'w, R>(
     rt: &R,
-    settings: &RunSettings,
+    settings: &RunSettings<'_, 'w>,
     operators: Option<Users>,
-) -> Result<Ports, BindFault> {
+) -> Result<Ports, BindFault<'w>>
+where
+    R: Files + Net<Listener = TcpListener, Stream = TcpStream> + Clock,
+{
     let request_seconds = settings.timeout.seconds();
     Ports::bind(
         rt,
@@ -179,6 +190,14 @@ fn write_useless_preview<E: Write>(errors: &mut E) {
     let _ = writeln!(
         errors,
         "bg_switch: the strategy has no previewService: requests at the preview port are answered 503"
+    );
+}
+
+/// Writes the notice that the list of users has no effect.
+fn write_useless_list<E: Write>(errors: &mut E) {
+    let _ = writeln!(
+        errors,
+        "bg_switch: BG_SWITCH_OPERATORS has no effect without --control: who may write to the control socket may order"
     );
 }
 

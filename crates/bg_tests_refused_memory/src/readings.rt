@@ -21,7 +21,7 @@ pub fn make_calls<R: AllocGlobal + Print + Eprint>(rt: &R) -> Result<(), Stop> {
     show(rt, &settings)
 }
 
-fn make_order<R: AllocGlobal + Print + Eprint>(rt: &R) -> Result<Invocation, Stop> {
+fn make_order<R: AllocGlobal + Print + Eprint>(rt: &R) -> Result<Invocation<'_>, Stop> {
     let alloc = rt.alloc();
     match made(rt, "order", new_order(alloc))? {
         Some(order) => Ok(order),
@@ -29,7 +29,7 @@ fn make_order<R: AllocGlobal + Print + Eprint>(rt: &R) -> Result<Invocation, Sto
     }
 }
 
-fn new_order(alloc: Global) -> Result<Invocation, Stop> {
+fn new_order<'a>(alloc: Global) -> Result<Invocation<'a>, Stop> {
     Ok(parse_command_line(alloc, &["bg_switch", "replay", "--seats", "2"])?)
 }
 

@@ -10,7 +10,7 @@ from bg_switch_tools.analysis.log_analysis import LogAnalysis
 from bg_switch_tools.analysis.measurements import Limits
 from bg_switch_tools.analysis.verdicts import NOT_JUDGED, NotJudged, tell
 from bg_switch_tools.switch.access_log import Follower
-from bg_switch_tools.switch.arguments import count_of, port_of, share_of
+from bg_switch_tools.switch.arguments import control_of, count_of, share_of
 from bg_switch_tools.switch.durations import (
     duration_of,
     milliseconds_of,
@@ -87,7 +87,7 @@ def parser(
     )
     made.add_argument(
         "--control",
-        type=port_of,
+        type=control_of,
         metavar="PORT",
         help="the control port: the switch tells the number of a name, and which revisions the services select",
     )

@@ -4,8 +4,9 @@ import os
 from collections.abc import Mapping
 
 from bg_switch_tools.analysis.verdicts import NotJudged
-from bg_switch_tools.switch.arguments import port_of
+from bg_switch_tools.switch import arguments
 from bg_switch_tools.switch.connection import Unreachable, ask
+from bg_switch_tools.switch.control import Control
 from bg_switch_tools.switch.reports import NoReport, Report, read_report
 
 FIRST_WAIT = 10.0  # seconds for the switch to answer at the begin
@@ -21,7 +22,7 @@ class JudgedRevision:
     """A revision. With a control port, its number is that of its name in the book that is open: a
     switch that was started again gives numbers anew. `name` is empty where it is not known."""
 
-    def __init__(self, name: str, number: int, control: int | None = None) -> None:
+    def __init__(self, name: str, number: int, control: Control | None = None) -> None:
         self.name = name
         self.number = number
         self.control = control
@@ -53,7 +54,7 @@ class JudgedRevision:
 
 
 def subject_of(
-    told: str, control: int | None, variables: Mapping[str, str] = os.environ
+    told: str, control: Control | None, variables: Mapping[str, str] = os.environ
 ) -> JudgedRevision:
     """The revision that was told by its name or number, or else the one that the controller tells
     by variables. `NotJudged` where its number can't be known."""
@@ -74,17 +75,17 @@ def subject_of(
     )
 
 
-def control_of(variables: Mapping[str, str]) -> int | None:
+def control_of(variables: Mapping[str, str]) -> Control | None:
     """The control port that the controller tells; None where it tells none. `NotJudged` where it
     tells no port."""
     told = variables.get(CONTROL, "")
     try:
-        return port_of(told) if told else None
+        return arguments.control_of(told) if told else None
     except argparse.ArgumentTypeError as reason:
         raise NotJudged(f"{CONTROL}: {reason}") from None
 
 
-def asked_subject(subject: JudgedRevision, control: int) -> JudgedRevision:
+def asked_subject(subject: JudgedRevision, control: Control) -> JudgedRevision:
     """A revision with the number and name that the switch tells. `NotJudged` where it tells
     none."""
     told = subject.name or subject.number

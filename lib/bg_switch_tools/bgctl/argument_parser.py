@@ -19,7 +19,7 @@ from bg_switch_tools.bgctl.suggestion import did_you_mean
 from bg_switch_tools.bgctl.target import BEFORE
 from bg_switch_tools.dashboard.cli import listened_port
 from bg_switch_tools.operator.conditions import CONDITION_SYNTAX
-from bg_switch_tools.switch.arguments import count_of, numbered_port, port_of, seconds_of
+from bg_switch_tools.switch.arguments import control_of, count_of, numbered_port, seconds_of
 from bg_switch_tools.switch.installed_names import named
 from bg_switch_tools.switch.json_values import MOST_PORTS
 
@@ -131,9 +131,9 @@ class Building:
         to.add_argument(
             "--control",
             dest=f"{prefix}control",
-            type=port_of,
+            type=control_of,
             metavar="PORT",
-            help="the control port, on 127.0.0.1",
+            help="the control port, on 127.0.0.1, or the path of the control socket",
         )
         self.mark_file(
             to.add_argument(

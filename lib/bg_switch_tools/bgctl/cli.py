@@ -138,12 +138,12 @@ class CommandRun:
         return readable(self.given.path) if self.given.path else self.target.needed_path(why)
 
     def analysis(self) -> int:
-        port = None if self.given.control else self.target.known_port()
-        return analysis_cli.main([*self.words, *(["--control", str(port)] if port else [])])
+        control = None if self.given.control else self.target.known_control()
+        return analysis_cli.main([*self.words, *(["--control", str(control)] if control else [])])
 
     def dashboard(self) -> int:
         words = [
-            str(self.target.port()),
+            str(self.target.control()),
             "--listen",
             str(self.given.listen),
             "--log",

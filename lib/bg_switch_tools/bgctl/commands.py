@@ -150,8 +150,8 @@ NEWCOMER = "\n".join(
     )
 )
 
-END = f"""The control port is that of --control PORT, of the variable BG_CONTROL, or of the plan (--plan FILE, or the variable BG_PLAN). An
-empty variable counts as not set.
+END = f"""The control port is that of --control PORT, of the variable BG_CONTROL, or of the plan (--plan FILE, or the variable BG_PLAN). In
+its place may be the path of the control socket, a word with a slash. An empty variable counts as not set.
 
 {listed()}
 

@@ -20,7 +20,7 @@ def names_of_revisions(
     try:
         plan = target.plan()
         names |= dict.fromkeys(revision.name for revision in plan.revisions) if plan else {}
-        report = read_report(ask(target.port(), b"report", SOON))
+        report = read_report(ask(target.control(), b"report", SOON))
         names |= (
             dict.fromkeys(revision.name for revision in report.revisions.values()) if report else {}
         )

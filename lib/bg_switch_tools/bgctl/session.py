@@ -16,13 +16,13 @@ def tell(text: str) -> None:
 
 
 class Session(Operator):
-    """An operator at the control port of a run. What is told beside the replies begins with
+    """An operator at the control port or socket of a run. What is told beside the replies begins with
     `bgctl`."""
 
     def __init__(self, target: Target, given: argparse.Namespace) -> None:
-        """`Unusable` where the control port is not known."""
+        """`Unusable` where neither is known."""
         told = operator_cli.parser().parse_args([])  # each of its options, with its default
-        told.port, told.plan, told.idempotent = target.port(), target.path, True
+        told.control, told.plan, told.idempotent = target.control(), target.path, True
         told.wait = getattr(given, "request_timeout", told.wait)
         for option in ("timeout", "json", "yes"):
             setattr(told, option, getattr(given, option, getattr(told, option)))
@@ -33,11 +33,11 @@ class Session(Operator):
 
     def report(self) -> Report | None:
         """The report; None where no book is open."""
-        return read_report(ask(self.port, b"report", self.wait))
+        return read_report(ask(self.control, b"report", self.wait))
 
     def line_for(self, name: str, text: str) -> int:
         """Carries a line out, if the newest revision has this name. Gives the exit status."""
-        reply = send_line_for(self.port, name, text.encode("ascii"), self.wait)
+        reply = send_line_for(self.control, name, text.encode("ascii"), self.wait)
         self.show(reply)
         return 0 if reply.carried_out else 1
 

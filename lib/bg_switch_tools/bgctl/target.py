@@ -1,4 +1,4 @@
-"""Finds the plan and the control port that a run of bgctl is about."""
+"""Finds the plan, and the control port or socket, that a run of bgctl is about."""
 import argparse
 import os
 from typing import Any
@@ -6,7 +6,8 @@ from typing import Any
 from bg_switch_tools.controller.plan import Plan
 from bg_switch_tools.controller.plan_file import read_whole_plan
 from bg_switch_tools.controller.plan_reader import WrongPlan
-from bg_switch_tools.switch.arguments import port_of
+from bg_switch_tools.switch.arguments import control_of
+from bg_switch_tools.switch.control import Control
 
 CONTROL, PLAN = (
     "BG_CONTROL",
@@ -37,11 +38,11 @@ def readable(path: str) -> str:
 
 
 class Target:
-    """The plan and the control port: each by its option, or else by its variable. A port that
-    neither names is the plan's."""
+    """The plan, and the control port or socket: each by its option, or else by its variable. A port
+    or socket that neither names is the plan's."""
 
     def __init__(self, given: argparse.Namespace) -> None:
-        self.given_port: int | None = _option(given, "control")
+        self.given_control: Control | None = _option(given, "control")
         self.path: str | None = _option(given, "plan") or os.environ.get(PLAN) or None
 
     def needed_path(self, why: str) -> str:
@@ -60,27 +61,26 @@ class Target:
         except WrongPlan as wrong:
             raise Unusable(f"{self.path} is not a plan: {wrong}") from None
 
-    def known_port(self) -> int | None:
-        """The control port; None where nothing names it. `Unusable` where what names it is
-        wrong."""
-        plan = (
-            self.plan()
-        )  # a plan that is named and wrong is told, also where its port is not needed
-        if self.given_port is not None:
-            return self.given_port
+    def known_control(self) -> Control | None:
+        """The control port or socket; None where nothing names it. `Unusable` where what names it
+        is wrong."""
+        # a plan that is named and wrong is told, also where its port is not needed
+        plan = self.plan()
+        if self.given_control is not None:
+            return self.given_control
         if told := os.environ.get(CONTROL):
             try:
-                return port_of(told)
+                return control_of(told)
             except argparse.ArgumentTypeError as error:
                 raise Unusable(f"{CONTROL}: {error}") from None
         return plan.control if plan else None
 
-    def port(self) -> int:
-        """The control port. `Unusable` where nothing names it."""
-        port = self.known_port()
-        if port is None:
+    def control(self) -> Control:
+        """The control port or socket. `Unusable` where nothing names it."""
+        control = self.known_control()
+        if control is None:
             raise Unusable(
                 f"the control port is not known: --control PORT names it, or the variable {CONTROL}, or a plan "
                 f"(--plan FILE, {PLAN})"
             )
-        return port
+        return control

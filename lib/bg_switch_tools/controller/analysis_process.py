@@ -16,6 +16,7 @@ from bg_switch_tools.controller.analysis_results import (
 from bg_switch_tools.controller.plan import PlannedAnalysis, PlannedRevision
 from bg_switch_tools.controller.printed_lines import PrintedLines
 from bg_switch_tools.controller.process_groups import Group, ProcessId
+from bg_switch_tools.switch.control import Control
 from bg_switch_tools.switch.reports import Revision
 
 ANALYSIS_OF_PHASE = {
@@ -34,7 +35,7 @@ class Judged(NamedTuple):
     kind: str
     number: int
     revision: PlannedRevision
-    control: int
+    control: Control
 
     def is_of(self, kind: str | None, revision: Revision) -> bool:
         """Whether it is this analysis of this revision."""

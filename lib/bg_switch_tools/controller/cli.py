@@ -36,7 +36,7 @@ other ones is held back, and needs a new name.
 The controller does not change what an operator does (bin/operator): promote, abort, retry, an undo.
 
 A plan:
-  {"control": 8082,                                         the control port of the switch
+  {"control": 8082,                                         the control port of the switch, or the path of its control socket
    "active": 8080, "preview": 8081,                         its other ports, which no revision may have
    "health": {"path": "/", "interval": 2,                   how each endpoint is probed: a GET request every "interval"
               "timeout": 2, "failures": 2},                 seconds, whose whole response has to come within "timeout"
@@ -126,7 +126,7 @@ class Runner:
                 self._read_again()  # the plan may have changed while the switch was down
                 pause = (
                     self.controller.do_round(connection)
-                    if connection.port == self.controller.plan.control
+                    if connection.control == self.controller.plan.control
                     else 0.0
                 )
             self.silence.end()

@@ -22,6 +22,7 @@ from bg_switch_tools.controller.plan_lines import PlanLines
 from bg_switch_tools.controller.probes import Probes
 from bg_switch_tools.controller.progress import ProgressClock
 from bg_switch_tools.switch.connection import Connection
+from bg_switch_tools.switch.control import kind_of
 from bg_switch_tools.switch.lines import was_carried_out
 from bg_switch_tools.switch.moments import Clock
 from bg_switch_tools.switch.reports import Report
@@ -98,7 +99,7 @@ class Controller:
         """Goes on by another plan, and tells that it has changed."""
         self.log.say(
             "plan",
-            f"the plan has changed: its control port is {plan.control}, its last revision {plan.last.name}",
+            f"the plan has changed: its control {kind_of(plan.control)} is {plan.control}, its last revision {plan.last.name}",
         )
         self.go_by(plan)
 

@@ -1,10 +1,10 @@
-"""The switches that a plan named before, at other control ports: their requests may still be open
-after an upgrade."""
-import socket
+"""The switches that a plan named before, at other control ports or sockets: their requests may still
+be open after an upgrade."""
 import time
 
 from bg_switch_tools.controller.memory import Memory
-from bg_switch_tools.switch.connection import HOST, Unreachable, ask
+from bg_switch_tools.switch.connection import Unreachable, ask
+from bg_switch_tools.switch.control import Control, connected
 from bg_switch_tools.switch.reports import NoReport, Report, read_report
 
 PAUSE = 2.0  # seconds between two looks
@@ -23,21 +23,21 @@ def needed_names(report: Report) -> list[str]:
     ]
 
 
-def _is_gone(port: int) -> bool:
-    """Whether nothing listens at a port any more."""
+def is_gone(control: Control) -> bool:
+    """Whether nothing listens there any more."""
     try:
-        socket.create_connection((HOST, port), CONNECT).close()
-    except ConnectionRefusedError:
+        connected(control, CONNECT).close()
+    except (ConnectionRefusedError, FileNotFoundError):
         return True
     except OSError:
         pass
     return False
 
 
-def _names_at(port: int) -> set[str] | None:
+def _names_at(control: Control) -> set[str] | None:
     """The revisions that a switch needs; None where it does not answer."""
     try:
-        report = read_report(ask(port, b"report", ANSWER))
+        report = read_report(ask(control, b"report", ANSWER))
     except Unreachable:
         return None
     except NoReport:
@@ -46,33 +46,33 @@ def _names_at(port: int) -> set[str] | None:
 
 
 class FormerSwitches:
-    """Asks them which revisions they still need, until nothing listens at their ports."""
+    """Asks them which revisions they still need, until nothing listens there."""
 
     def __init__(self, memory: Memory) -> None:
         self.memory = memory
         self.next = 0.0
         self.needed: set[str] | None = None
 
-    def add(self, port: int) -> None:
-        """The plan names another control port in place of this one."""
-        self.memory.set_former((*self.memory.state.former, port))
+    def add(self, control: Control) -> None:
+        """The plan names another control port or socket in place of this one."""
+        self.memory.set_former((*self.memory.state.former, control))
         self.next = 0.0
 
-    def names(self, control: int) -> set[str] | None:
+    def names(self, control: Control) -> set[str] | None:
         """The names of the revisions that are needed there; None where one of the switches does not
-        tell, so that any may be. `control` is the port that the plan names now."""
+        tell, so that any may be. `control` is what the plan names now."""
         if not self.memory.state.former:
             return set()
         if time.monotonic() >= self.next:
             self.next = time.monotonic() + PAUSE
             self.memory.set_former(
                 tuple(
-                    port
-                    for port in self.memory.state.former
-                    if port != control and not _is_gone(port)
+                    former
+                    for former in self.memory.state.former
+                    if former != control and not is_gone(former)
                 )
             )
-            told = [_names_at(port) for port in self.memory.state.former]
+            told = [_names_at(former) for former in self.memory.state.former]
             self.needed = (
                 None if None in told else {name for names in told if names for name in names}
             )

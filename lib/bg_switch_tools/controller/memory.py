@@ -10,6 +10,7 @@ from bg_switch_tools.controller.plan import Plan, PlannedRevision
 from bg_switch_tools.controller.process_groups import ProcessId
 from bg_switch_tools.controller.state_file import HeldBack, NoState, State, StateFile
 from bg_switch_tools.controller.unopened import why_not_opened
+from bg_switch_tools.switch.control import Control
 from bg_switch_tools.switch.json_values import MOST_PORTS
 from bg_switch_tools.switch.moments import believed
 from bg_switch_tools.switch.reports import Report
@@ -282,10 +283,10 @@ class Memory:
         if revisions != self.state.started:
             self._keep(dataclasses.replace(self.state, started=revisions))
 
-    def set_former(self, ports: tuple[int, ...]) -> None:
-        """Remembers the control ports that the plan named before, the latest ones where there are
-        too many."""
-        distinct = tuple(dict.fromkeys(ports))[-MOST_PORTS:]
+    def set_former(self, controls: tuple[Control, ...]) -> None:
+        """Remembers the control ports and sockets that the plan named before, the latest ones where
+        there are too many."""
+        distinct = tuple(dict.fromkeys(controls))[-MOST_PORTS:]
         if distinct != self.state.former:
             self._keep(dataclasses.replace(self.state, former=distinct))
 

@@ -2,6 +2,8 @@
 import dataclasses
 from collections.abc import Mapping
 
+from bg_switch_tools.switch.control import Control
+
 
 @dataclasses.dataclass(frozen=True)
 class PlannedRevision:
@@ -95,12 +97,13 @@ class Commands:
 
 @dataclasses.dataclass(frozen=True)
 class Plan(Revisions):
-    """A whole plan. `revisions` go from the first one to the one that is to be live. `services` are
-    the ports of the active and the preview service, where the plan names them. `redispatch` says
-    whether the switch passes over endpoints that are down.
+    """A whole plan. `control` is where its switch takes lines. `revisions` go from the first one to
+    the one that is to be live. `services` are the ports of the active and the preview service,
+    where the plan names them. `redispatch` says whether the switch passes over endpoints that are
+    down.
     """
 
-    control: int
+    control: Control
     health: Health
     analyses: Analyses
     progress: Progress

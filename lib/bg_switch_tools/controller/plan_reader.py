@@ -12,6 +12,7 @@ from bg_switch_tools.controller.plan import (
 )
 from bg_switch_tools.controller.plan_limits import judge_limits
 from bg_switch_tools.controller.plan_text import value_of
+from bg_switch_tools.switch.control import Control
 from bg_switch_tools.switch.json_values import GREATEST_PORT, JsonObject, Judge
 
 LARGEST = 1 << 20  # bytes of a plan
@@ -51,6 +52,12 @@ def seconds(judge: Judge, told: JsonObject, key: str, place: str, default: float
     return judge.member(
         told, key, place, lambda value, at: judge.number(value, at, LEAST_SECONDS, LONGEST), default
     )
+
+
+def read_control(judge: Judge, members: JsonObject) -> Control:
+    """The control port or socket. An object that `judge` finds nothing wrong with has one."""
+    none: Control = 1
+    return judge.member(members, "control", "", judge.control, none)
 
 
 def read_health(judge: Judge, told: object, place: str) -> Health:
@@ -168,7 +175,7 @@ def compare(judge: Judge, revisions: tuple[PlannedRevision, ...], place: str) ->
 
 def compare_ports(judge: Judge, plan: Plan) -> None:
     """Notes ports of the switch itself that are named twice, or as those of an endpoint."""
-    own = {plan.control: "control"}
+    own = {plan.control: "control"} if isinstance(plan.control, int) else {}
     for key, port in plan.services.items():
         if port in own:
             judge.note(key, f"{port} is already at {own[port]}")
@@ -209,7 +216,7 @@ def read_plan(text: bytes) -> Plan:
         return judge.whole_number(value, place, 1, GREATEST_PORT)
 
     plan = Plan(
-        judge.member(members, "control", "", port, 1),
+        read_control(judge, members),
         judge.member(
             members, "health", "", lambda value, at: read_health(judge, value, at), Health()
         ),

@@ -13,7 +13,7 @@ import math
 import socket
 
 from bg_switch_tools.controller.plan import Health
-from bg_switch_tools.switch.connection import HOST
+from bg_switch_tools.switch.control import HOST
 
 MOST_FIELDS = 64  # of a head, as in the switch
 PIECE = 65536  # bytes of a body that are read at a time, and dropped

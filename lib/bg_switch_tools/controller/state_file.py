@@ -9,6 +9,7 @@ import time
 
 from bg_switch_tools.controller.plan import Plan, PlannedRevision
 from bg_switch_tools.controller.process_groups import ProcessId
+from bg_switch_tools.switch.control import Control
 from bg_switch_tools.switch.json_values import JsonObject, Judge, decoded
 
 SUFFIX = ".state"
@@ -66,8 +67,8 @@ class State:
     revision while its attempt runs. `since` is the time at which the moment was 0, in seconds of
     the system's clock (0 where that is not known). `analyses` are the processes of the analyses that
     run. `started` are the revisions that were started and not stopped yet, `commands` the
-    processes of the commands that start and stop them and run. `former` are the control ports that
-    the plan named before. `ports` are the revisions of the book whose ports are known for sure,
+    processes of the commands that start and stop them and run. `former` are the control ports and
+    sockets that the plan named before. `ports` are the revisions of the book whose ports are known for sure,
     `held` those of the plan that are held back. `unknown` is the name of the stable revision where
     its ports are not known, and those of none before are; else it is empty. `failing` are the
     revisions whose command `start` has failed and has not succeeded since."""
@@ -80,7 +81,7 @@ class State:
     analyses: tuple[ProcessId, ...] = ()
     started: tuple[PlannedRevision, ...] = ()
     commands: tuple[ProcessId, ...] = ()
-    former: tuple[int, ...] = ()
+    former: tuple[Control, ...] = ()
     ports: tuple[PlannedRevision, ...] = ()
     held: tuple[HeldBack, ...] = ()
     unknown: str = ""
@@ -230,7 +231,7 @@ def _read_values(judge: Judge, members: JsonObject) -> State:
         tuple(
             _read_process(judge, one, f"commands[{number}]") for number, one in enumerate(commands)
         ),
-        judge.ports(members["former"], "former") if members.get("former") else (),
+        judge.controls(members["former"], "former") if members.get("former") else (),
         earlier
         + tuple(_read_revision(judge, one, f"ports[{number}]") for number, one in enumerate(ports)),
         tuple(held),

@@ -11,6 +11,7 @@ from bg_switch_tools.dashboard.steps import SeenPhases, possible_commands, steps
 from bg_switch_tools.dashboard.totals import Totals
 from bg_switch_tools.dashboard.traffic import KEPT, SLOT, Traffic
 from bg_switch_tools.switch.access_log import CLIENT_SERVICES, Batch, LogEntry
+from bg_switch_tools.switch.control import Control
 from bg_switch_tools.switch.lines import with_meaning
 from bg_switch_tools.switch.report_changes import changes, is_another_book
 from bg_switch_tools.switch.report_text import NO_BOOK, WAITS_FOR, in_one_line
@@ -36,7 +37,7 @@ class Happening(TypedDict):
 class Board:
     """Takes in what is read, and tells all of it, or what has changed since the time before."""
 
-    def __init__(self, control: int, log_path: str, is_read_only: bool, plan: str = "") -> None:
+    def __init__(self, control: Control, log_path: str, is_read_only: bool, plan: str = "") -> None:
         """`plan` is the path of the plan of the switch's controller; empty where that is not looked
         at."""
         self.control = control

@@ -7,7 +7,7 @@ from collections.abc import Sequence
 from bg_switch_tools.dashboard.board import Board
 from bg_switch_tools.dashboard.fleet_agent import local_agent
 from bg_switch_tools.fleet.fleet_file import FleetFile, WrongFleetFile, read_whole_fleet_file
-from bg_switch_tools.switch.arguments import numbered_port, port_of
+from bg_switch_tools.switch.arguments import control_of, numbered_port
 from bg_switch_tools.switch.installed_names import named
 
 USAGE = "bin/dashboard [PORT] [--fleet FLEET.json] [--agent-state PATH] --listen PORT [--log FILE] [--plan PLAN] [--read-only]"
@@ -36,7 +36,11 @@ def parser() -> argparse.ArgumentParser:
         formatter_class=argparse.RawDescriptionHelpFormatter,
     )
     made.add_argument(
-        "port", type=port_of, nargs="?", metavar="PORT", help="the control port of the switch"
+        "control",
+        type=control_of,
+        nargs="?",
+        metavar="PORT",
+        help="the control port of the switch, or the path of its control socket",
     )
     made.add_argument(
         "--fleet",
@@ -75,15 +79,15 @@ def parser() -> argparse.ArgumentParser:
 
 def judge(made: argparse.ArgumentParser, given: argparse.Namespace) -> None:
     """Ends with status 2 where the words say nothing that can be shown."""
-    if given.port is None and not given.fleet:
+    if given.control is None and not given.fleet:
         made.error(
             "name what is shown: the control port of a switch, a fleet file with --fleet, or both"
         )
-    if given.port is None and given.log:
+    if given.control is None and given.log:
         made.error("--log is the access log of a switch: name its control port too")
-    if given.port is None and given.plan:
+    if given.control is None and given.plan:
         made.error("--plan is that of the controller of a switch: name its control port too")
-    if given.agent_state and (given.port is None or not given.fleet):
+    if given.agent_state and (given.control is None or not given.fleet):
         made.error(
             "--agent-state is of the agent of a switch: name its control port and the fleet file too"
         )
@@ -114,8 +118,8 @@ def main(words: Sequence[str]) -> int:
     try:
         board = (
             None
-            if given.port is None
-            else Board(given.port, given.log, given.read_only, given.plan)
+            if given.control is None
+            else Board(given.control, given.log, given.read_only, given.plan)
         )
         file = fleet_file(given.fleet)
         agent = local_agent(file, given.agent_state) if file and board else None

@@ -3,6 +3,7 @@ the page showed."""
 from typing import NamedTuple
 
 from bg_switch_tools.switch.connection import Connection, sent
+from bg_switch_tools.switch.control import Control
 from bg_switch_tools.switch.json_values import Judge, decoded
 from bg_switch_tools.switch.reports import read_report
 
@@ -49,9 +50,9 @@ def read_page_command(text: bytes) -> PageCommand:
     return PageCommand(line, number)
 
 
-def send_page_command(port: int, command: PageCommand) -> str:
+def send_page_command(control: Control, command: PageCommand) -> str:
     """Sends a command, and gives its reply. `Unreachable` where the switch gives no answer."""
-    with Connection(port, WAIT) as connection:
+    with Connection(control, WAIT) as connection:
         report = read_report(connection.answer(b"report"))
         if report is None or report.newest.number != command.revision:
             newest = report.newest.title() if report else "none"

@@ -15,7 +15,7 @@ from bg_switch_tools.dashboard.switch_pages import SwitchPages
 from bg_switch_tools.dashboard.web_pages import PageFiles, guarded
 from bg_switch_tools.fleet.etcd import EtcdStore
 from bg_switch_tools.fleet.fleet_file import FleetFile
-from bg_switch_tools.switch.connection import HOST
+from bg_switch_tools.switch.control import HOST
 
 LARGEST_COMMAND = 4096  # bytes
 LAST_SECOND = 1  # second for requests and streams to end after a signal

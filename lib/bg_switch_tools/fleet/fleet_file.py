@@ -13,6 +13,7 @@ from bg_switch_tools.controller.plan_reader import (
     SERVICE_KEYS,
     compare_ports,
     read_commands,
+    read_control,
 )
 from bg_switch_tools.controller.plan_text import value_of
 from bg_switch_tools.fleet.etcd_gateway import EtcdSettings
@@ -138,7 +139,7 @@ def read_machine(judge: Judge, members: JsonObject, folder: str) -> MachineSetti
         return judge.whole_number(value, place, 1, GREATEST_PORT)
 
     return MachineSettings(
-        judge.member(members, "control", "", port, 1),
+        read_control(judge, members),
         judge.member(
             members, "analyses", "", lambda value, at: read_analyses(judge, value, at), {}
         ),

@@ -27,6 +27,7 @@ from bg_switch_tools.controller.plan_reader import (
     seconds,
 )
 from bg_switch_tools.controller.plan_text import value_of
+from bg_switch_tools.switch.control import Control
 from bg_switch_tools.switch.json_values import JsonObject, Judge, shown
 
 KEYS = ("health", "analyses", "progress", "redispatch", "revisions", "fleet", SCHEMA)
@@ -67,12 +68,12 @@ class FleetPlan(Revisions):
 
 @dataclasses.dataclass(frozen=True)
 class MachineSettings:
-    """What a machine adds to the plan of its fleet: the control port and the other ports of its
+    """What a machine adds to the plan of its fleet: the control port or socket and the ports of its
     switch, the commands of the analyses by their names, the commands for its endpoints, and the
     path of the Rollout of its switch (empty: not told).
     """
 
-    control: int
+    control: Control
     analyses: Mapping[str, tuple[str, ...]] = dataclasses.field(default_factory=dict)
     commands: Commands = Commands()
     services: Mapping[str, int] = dataclasses.field(default_factory=dict)

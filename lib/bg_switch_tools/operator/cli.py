@@ -15,8 +15,9 @@ from bg_switch_tools.operator.line_sender import Reply, send_line
 from bg_switch_tools.operator.prompt import Prompt, PromptCommand, confirm_shutdown
 from bg_switch_tools.operator.wait import TOO_LATE, WaitLimits, nothing_comes, wait_for
 from bg_switch_tools.operator.watch import dated, watch
-from bg_switch_tools.switch.arguments import port_of, seconds_of
+from bg_switch_tools.switch.arguments import control_of, seconds_of
 from bg_switch_tools.switch.connection import Unreachable, ask, words_of
+from bg_switch_tools.switch.control import Control
 from bg_switch_tools.switch.installed_names import named
 from bg_switch_tools.switch.lines import with_meaning
 from bg_switch_tools.switch.report_text import in_one_line
@@ -53,11 +54,11 @@ def parser() -> argparse.ArgumentParser:
         formatter_class=argparse.RawDescriptionHelpFormatter,
     )
     made.add_argument(
-        "port",
-        type=port_of,
+        "control",
+        type=control_of,
         nargs="?",
         metavar="PORT",
-        help="the control port of the switch, on 127.0.0.1",
+        help="the control port of the switch, on 127.0.0.1, or the path of its control socket",
     )
     made.add_argument("words", nargs="*", metavar="WORD", help="the words of one line or command")
     made.add_argument(
@@ -106,7 +107,7 @@ class Operator:
     """What the words of a run ask for."""
 
     def __init__(self, given: argparse.Namespace) -> None:
-        self.port: int = given.port
+        self.control: Control = given.control
         self.wait: float = given.wait
         self.timeout: float = 600.0 if given.timeout is None else given.timeout
         self.keeps_going: bool = given.keep_going
@@ -138,7 +139,7 @@ class Operator:
         """Carries lines out, in turn, up to `quit`. Gives the exit status."""
         status = 0
         for line in lines:
-            reply = send_line(self.port, line, self.wait, self.is_idempotent, self.is_sure)
+            reply = send_line(self.control, line, self.wait, self.is_idempotent, self.is_sure)
             self.show(reply)
             if words_of(line) == [b"quit"]:
                 break
@@ -154,7 +155,7 @@ class Operator:
         controller acts by the plan, `HELD_BACK` where it holds a revision of the plan back, and
         else 1."""
         try:
-            report = read_report(ask(self.port, b"report", self.wait))
+            report = read_report(ask(self.control, b"report", self.wait))
         except (Unreachable, NoReport) as reason:
             if self.is_json:
                 self.show_json({"phase": None, "reason": str(reason)})
@@ -227,7 +228,7 @@ class Operator:
             before[:] = [report]
 
         waited = wait_for(
-            self.port, conditions, WaitLimits(self.timeout, self.wait), see, announced
+            self.control, conditions, WaitLimits(self.timeout, self.wait), see, announced
         )
         if self.is_json:
             report = as_json(waited.report) if waited.report else None
@@ -246,7 +247,7 @@ class Operator:
             if not sys.stdin.isatty():
                 self.tell("shutdown asks at a terminal alone; elsewhere --yes is needed with it")
                 return TOO_LATE
-            if not confirm_shutdown(self.port):
+            if not confirm_shutdown(self.control):
                 print("The switch continues.")
                 return 1
         return self.send_lines([b"quit"])
@@ -254,7 +255,7 @@ class Operator:
     def watch(self) -> int:
         """Watches until ctrl-C."""
         try:
-            watch(self.port, self.wait)
+            watch(self.control, self.wait)
         except KeyboardInterrupt:
             print()
         return 0
@@ -280,7 +281,7 @@ class Operator:
             "watch": lambda _: self.watch(),
             "wait": self.wait_for,
         }
-        Prompt(self.port, self.wait, commands).run()
+        Prompt(self.control, self.wait, commands).run()
         return 0
 
 
@@ -288,8 +289,10 @@ def judge_words(made: argparse.ArgumentParser, given: argparse.Namespace) -> Non
     """Ends the run where options and words don't go together."""
     words: list[str] = given.words
     command = words[0] if words else ""
-    if given.port is None:
-        made.error("PORT: the control port of the switch is needed, such as 8082")
+    if given.control is None:
+        made.error(
+            "PORT: the control port or the control socket of the switch is needed, such as 8082"
+        )
     if command in COMMAND_NAMES and command != "wait" and len(words) > 1:
         made.error(f"{command} takes no further words, and not {words[1]!r}")
     if command == "wait":

@@ -3,6 +3,7 @@ from collections.abc import Sequence
 from typing import NamedTuple
 
 from bg_switch_tools.switch.connection import Connection, Unreachable, ask, sent, words_of
+from bg_switch_tools.switch.control import Control
 from bg_switch_tools.switch.lines import meaning_of, was_carried_out
 from bg_switch_tools.switch.moments import DAY
 from bg_switch_tools.switch.reports import NoReport, Report, as_json, read_report
@@ -35,27 +36,27 @@ class Reply(NamedTuple):
 
 
 def send_line(
-    port: int, line: bytes, wait: float, is_idempotent: bool, is_sure: bool = False
+    control: Control, line: bytes, wait: float, is_idempotent: bool, is_sure: bool = False
 ) -> Reply:
     """Sends a line on a connection of its own. `Unreachable` where the switch does not answer. A
     tick far ahead is sent only by somebody who is sure."""
     words, text = words_of(line), line.decode("utf-8", "replace")
     if words[:1] == [b"deploy"]:
-        return _deploy(port, line, wait, is_idempotent)
+        return _deploy(control, line, wait, is_idempotent)
     if words[:1] == [b"tick"] and not is_sure:
-        return _tick(port, line, wait)
-    lines = ask(port, line, wait)
+        return _tick(control, line, wait)
+    lines = ask(control, line, wait)
     if not lines:
         return Reply(text, lines, True, None)
     report = read_report(lines) if words == [b"report"] else None
     return Reply(text, lines, was_carried_out(lines[0]), meaning_of(lines[0]), None, report)
 
 
-def send_line_for(port: int, name: str, line: bytes, wait: float) -> Reply:
+def send_line_for(control: Control, name: str, line: bytes, wait: float) -> Reply:
     """Sends a line for the newest revision, if that is the one of this name by a report on the same
     connection."""
     text = line.decode("utf-8", "replace")
-    with Connection(port, wait) as connection:
+    with Connection(control, wait) as connection:
         report = read_report(connection.answer(b"report"))
         if report is None or report.newest.name != name:
             newest = (
@@ -68,11 +69,11 @@ def send_line_for(port: int, name: str, line: bytes, wait: float) -> Reply:
     return Reply(text, lines, was_carried_out(lines[0]), meaning_of(lines[0]))
 
 
-def _tick(port: int, line: bytes, wait: float) -> Reply:
+def _tick(control: Control, line: bytes, wait: float) -> Reply:
     """Sends a tick, unless its moment lies more than a day ahead: no later tick could ever take it
     back."""
     text, told = line.decode("utf-8", "replace"), words_of(line)[1:]
-    with Connection(port, wait) as connection:
+    with Connection(control, wait) as connection:
         before = read_report(connection.answer(b"report"))
         moment = (
             int(told[0])
@@ -89,10 +90,10 @@ def _tick(port: int, line: bytes, wait: float) -> Reply:
     return Reply(text, lines, was_carried_out(lines[0]), meaning_of(lines[0]))
 
 
-def _deploy(port: int, line: bytes, wait: float, is_idempotent: bool) -> Reply:
+def _deploy(control: Control, line: bytes, wait: float, is_idempotent: bool) -> Reply:
     """Sends a deploy, and tells which revision it made or took again."""
     text = line.decode("utf-8", "replace")
-    with Connection(port, wait) as connection:
+    with Connection(control, wait) as connection:
         before = read_report(connection.answer(b"report"))
         lines = sent(connection, line, wait)
         if lines == ["refused SameTemplate"] and before and is_idempotent:

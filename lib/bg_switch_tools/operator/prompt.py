@@ -4,6 +4,7 @@ from collections.abc import Callable, Sequence
 from bg_switch_tools.operator.commands import help_lines
 from bg_switch_tools.operator.line_sender import Reply, send_line
 from bg_switch_tools.switch.connection import Unreachable, words_of
+from bg_switch_tools.switch.control import Control, place_of
 from bg_switch_tools.switch.lines import with_meaning
 from bg_switch_tools.switch.reports import NoReport
 
@@ -24,11 +25,11 @@ def show_at_terminal(reply: Reply) -> None:
         print(reply.note)
 
 
-def confirm_shutdown(port: int) -> bool:
+def confirm_shutdown(control: Control) -> bool:
     """Whether the operator wants the switch to be shut down. The end of the input is no."""
     try:
         told = input(
-            f"Shut the switch at port {port} down? No operator is answered any more. [y/N] "
+            f"Shut the switch at {place_of(control)} down? No operator is answered any more. [y/N] "
         )
     except EOFError:
         print()
@@ -39,8 +40,8 @@ def confirm_shutdown(port: int) -> bool:
 class Prompt:
     """Carries out the lines of a terminal. `commands` are those that are no lines of the switch."""
 
-    def __init__(self, port: int, wait: float, commands: dict[str, PromptCommand]) -> None:
-        self.port = port
+    def __init__(self, control: Control, wait: float, commands: dict[str, PromptCommand]) -> None:
+        self.control = control
         self.wait = wait
         self.commands = commands
 
@@ -59,7 +60,7 @@ class Prompt:
         elif words[0] in self.commands:
             self.run_command(words)
         else:
-            show_at_terminal(send_line(self.port, line, self.wait, is_idempotent=False))
+            show_at_terminal(send_line(self.control, line, self.wait, is_idempotent=False))
         return True
 
     def run_command(self, words: Sequence[str]) -> None:
@@ -71,21 +72,23 @@ class Prompt:
 
     def shut_down(self) -> bool:
         """Asks, and sends `quit`. Gives whether it did."""
-        if not confirm_shutdown(self.port):
+        if not confirm_shutdown(self.control):
             print("The switch continues.")
             return False
-        send_line(self.port, b"quit", self.wait, is_idempotent=False)
+        send_line(self.control, b"quit", self.wait, is_idempotent=False)
         print("The switch shuts down.")
         return True
 
     def run(self) -> None:
         """Carries lines out until `quit`, `exit`, the end of the input or ctrl-C. A line that is
         refused ends nothing."""
-        print(f"The switch at port {self.port}. help lists the lines; quit leaves this prompt.")
+        print(
+            f"The switch at {place_of(self.control)}. help lists the lines; quit leaves this prompt."
+        )
         goes_on = True
         while goes_on:
             try:
-                goes_on = self.run_line(input(f"{self.port}> "))
+                goes_on = self.run_line(input(f"{self.control}> "))
             except (Unreachable, NoReport, ValueError) as reason:
                 print(reason)
             except (EOFError, KeyboardInterrupt):

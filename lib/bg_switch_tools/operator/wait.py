@@ -6,6 +6,7 @@ from typing import NamedTuple
 from bg_switch_tools.controller.announced_deploy import Announcement
 from bg_switch_tools.operator.conditions import Conditions
 from bg_switch_tools.switch.connection import Unreachable, ask
+from bg_switch_tools.switch.control import Control
 from bg_switch_tools.switch.report_text import in_one_line
 from bg_switch_tools.switch.reports import NoReport, Report, read_report
 
@@ -36,7 +37,7 @@ def nothing_comes() -> Announcement:
 
 
 def wait_for(
-    port: int,
+    control: Control,
     conditions: Conditions,
     limits: WaitLimits,
     see: Callable[[Report], None],
@@ -55,7 +56,7 @@ def wait_for(
         coming = announced()  # before the report: what was deployed by then, the report shows
         try:
             report = read_report(
-                ask(port, b"report", max(min(limits.answer, deadline - time.monotonic()), PAUSE))
+                ask(control, b"report", max(min(limits.answer, deadline - time.monotonic()), PAUSE))
             )
             state = in_one_line(report)
         except (Unreachable, NoReport) as error:

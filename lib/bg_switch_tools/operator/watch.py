@@ -5,6 +5,7 @@ import time
 from collections.abc import Sequence
 
 from bg_switch_tools.switch.connection import ask
+from bg_switch_tools.switch.control import Control
 from bg_switch_tools.switch.report_changes import changes
 from bg_switch_tools.switch.report_text import draw
 from bg_switch_tools.switch.reports import Report, read_report
@@ -28,7 +29,7 @@ def dated(before: Report | None, now: Report | None) -> list[str]:
     return [moment + change for change in changes(before, now)]
 
 
-def watch(port: int, wait: float) -> None:
+def watch(control: Control, wait: float) -> None:
     """Draws until it is interrupted, or the switch does not answer for so many seconds
     (`Unreachable`).
 
@@ -40,7 +41,7 @@ def watch(port: int, wait: float) -> None:
     seen: list[str] = []
     before: Report | None = None
     while True:
-        report = read_report(ask(port, b"report", wait))
+        report = read_report(ask(control, b"report", wait))
         new = [] if is_first else dated(before, report)
         seen = (seen + new)[-MOST_SEEN:]
         if is_terminal:

@@ -3,16 +3,23 @@ import argparse
 import decimal
 import math
 
+from bg_switch_tools.switch.control import Control, is_path
 from bg_switch_tools.switch.json_values import GREATEST_PORT
 
 LONGEST = 86400.0  # seconds
 
 
-def port_of(text: str) -> int:
-    return numbered_port(text, "the control port")
+def control_of(text: str) -> Control:
+    """The control port that a text tells, or the path of the control socket."""
+    return (
+        text
+        if is_path(text)
+        else numbered_port(text, "the control port", "the path of the control socket")
+    )
 
 
-def numbered_port(text: str, title: str) -> int:
+def numbered_port(text: str, title: str, other: str = "") -> int:
+    """The port that a text tells. `other` is what it might have been else."""
     if (
         not text.isascii()
         or not text.isdigit()
@@ -20,7 +27,8 @@ def numbered_port(text: str, title: str) -> int:
         or not 1 <= int(text) <= GREATEST_PORT
     ):
         raise argparse.ArgumentTypeError(
-            f"{title} is expected, a number from 1 to {GREATEST_PORT}, and not {text!r}"
+            f"{title} is expected, a number from 1 to {GREATEST_PORT}, "
+            f"{f'or {other}, ' if other else ''}and not {text!r}"
         )
     return int(text)
 

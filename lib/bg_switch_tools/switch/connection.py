@@ -1,7 +1,7 @@
-"""Connections to the control port of a switch.
+"""Connections to the control port or the control socket of a switch.
 
-The connections of the control port take turns by lines. A tool opens a connection for one line or a
-few, and closes it, so it takes no place at the port while it sends nothing.
+The connections take turns by lines. A tool opens a connection for one line or a
+few, and closes it, so it takes no place while it sends nothing.
 """
 import contextlib
 import socket
@@ -9,9 +9,9 @@ import time
 from collections.abc import Sequence
 from types import TracebackType
 
+from bg_switch_tools.switch.control import HOST, Control, connected, place_of
 from bg_switch_tools.switch.lines import was_carried_out
 
-HOST = "127.0.0.1"
 PAUSE = 0.1  # seconds between two tries to connect
 SHORTEST = 0.001  # seconds; a socket takes a timeout of 0 for "do not block"
 LONGEST_LINE = 65536  # bytes without a line end, above which the peer is not a switch
@@ -30,12 +30,14 @@ def words_of(line: bytes) -> list[bytes]:
 
 
 class Connection:
-    """A connection to the control port. No call waits past the deadline, which `allow` sets."""
+    """A connection to the control port or the control socket. No call waits past the deadline,
+    which `allow` sets."""
 
-    def __init__(self, port: int, wait: float) -> None:
+    def __init__(self, control: Control, wait: float) -> None:
         """Connects within `wait` seconds, since the switch may be starting. `Unreachable` where
         that fails."""
-        self.port = port
+        self.control = control
+        self.place = place_of(control)
         self.wait = wait
         self.unread = b""
         self.allow(wait)
@@ -70,17 +72,25 @@ class Connection:
     def _connected(self) -> socket.socket:
         while True:
             try:
-                return socket.create_connection((HOST, self.port), timeout=self._left())
+                return connected(self.control, self._left())
             except TimeoutError:
                 raise Unreachable(
-                    f"port {self.port} takes no connection: others wait there already"
+                    f"{self.place} takes no connection: others wait there already"
+                ) from None
+            except PermissionError as error:
+                raise Unreachable(
+                    f"{self.place} can't be opened by this user: {error.strerror}"
                 ) from None
             except OSError as error:
                 if time.monotonic() + PAUSE >= self.deadline:
-                    raise Unreachable(
-                        f"port {self.port} of {HOST} can't be reached: {error.strerror}"
-                    ) from None
+                    raise Unreachable(self._not_reached(error)) from None
                 time.sleep(PAUSE)
+
+    def _not_reached(self, error: OSError) -> str:
+        if isinstance(error, BlockingIOError):  # which a socket tells whose backlog is full
+            return f"{self.place} takes no connection: others wait there already"
+        place = f"{self.place} of {HOST}" if isinstance(self.control, int) else self.place
+        return f"{place} can't be reached: {error.strerror}"
 
     def send(self, *lines: bytes) -> None:
         """Sends lines in one piece. `Unreachable` where the switch takes them no more."""
@@ -89,7 +99,7 @@ class Connection:
             self.socket.sendall(b"".join(line + b"\n" for line in lines))
         except OSError as error:
             raise Unreachable(
-                f"port {self.port} takes no line: {error.strerror or 'it is too slow'}"
+                f"{self.place} takes no line: {error.strerror or 'it is too slow'}"
             ) from None
 
     def receive(self) -> bytes:
@@ -111,7 +121,7 @@ class Connection:
                 piece = self.receive()
             except TimeoutError:
                 raise Unreachable(
-                    f"port {self.port} gave no answer in time: the switch is stopped or busy, or takes no "
+                    f"{self.place} gave no answer in time: the switch is stopped or busy, or takes no "
                     "lines any more"
                 ) from None
             if not piece:
@@ -124,11 +134,11 @@ class Connection:
 
     def _not_allowed(self) -> Unreachable:
         return Unreachable(
-            f"the switch at port {self.port} takes no lines of this user: its BG_SWITCH_OPERATORS lists others"
+            f"the switch at {self.place} takes no lines of this user: its BG_SWITCH_OPERATORS lists others"
         )
 
     def _no_switch(self) -> Unreachable:
-        return Unreachable(f"what answers at port {self.port} is not a switch")
+        return Unreachable(f"what answers at {self.place} is not a switch")
 
     def reply_to(self, line: bytes) -> list[str]:
         """The lines of the reply to a line that was sent. A report has several; every other reply
@@ -174,14 +184,14 @@ class Connection:
             raise self._not_allowed()
 
 
-def ask(port: int, line: bytes, wait: float) -> list[str]:
+def ask(control: Control, line: bytes, wait: float) -> list[str]:
     """Sends a line on a connection of its own, and gives the lines of its reply; none for `quit`.
 
     The line is sent only once the switch has answered a `report` on this connection. So no line is
     carried out later that this call gave up. `Unreachable` where the switch does not answer within
     `wait` seconds.
     """
-    with Connection(port, wait) as connection:
+    with Connection(control, wait) as connection:
         state = connection.answer(b"report")
         if words_of(line) == [b"report"]:
             return state

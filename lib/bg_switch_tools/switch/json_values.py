@@ -9,6 +9,7 @@ import shlex
 from collections.abc import Callable, Iterable, Sequence
 from typing import TypeVar
 
+from bg_switch_tools.switch.control import ABSOLUTE, LONGEST_PATH, Control
 from bg_switch_tools.switch.lines import REFUSALS
 
 LONGEST_TOLD = 60  # characters of a value that a problem repeats
@@ -161,6 +162,25 @@ class Judge:
         else:
             return tuple(told)
         return ()
+
+    def control(self, told: object, place: str) -> Control:
+        """A control port, or the absolute path of a control socket."""
+        if not isinstance(told, str) or "/" not in told:
+            return self.whole_number(told, place, 1, GREATEST_PORT)
+        if ABSOLUTE.fullmatch(told) is None or len(told) > LONGEST_PATH:
+            self.note(
+                place,
+                f"{shown(told)} is not the absolute path of a socket: / and at most {LONGEST_PATH - 1} further "
+                "printable characters of ASCII",
+            )
+        return told
+
+    def controls(self, told: object, place: str) -> tuple[Control, ...]:
+        """Control ports and control sockets, 64 at most."""
+        if not isinstance(told, list) or len(told) > MOST_PORTS:
+            self.note(place, f"{shown(told)} is not a list of at most {MOST_PORTS} ports and paths")
+            return ()
+        return tuple(self.control(one, f"{place}[{number}]") for number, one in enumerate(told))
 
     def name(self, told: object, place: str) -> str:
         """A revision's name, by the switch's rule."""

@@ -5,6 +5,7 @@ ghost use Rattle.bg_control_port.specs.Registers.{at};
 
 use super::Connections;
 use crate::connection::Connection;
+use crate::peer::Peer;
 use crate::turn::{Place, Precedence, first_so_far, precedence_after, row_after};
 use std::alloc::AllocError;
 
@@ -12,15 +13,15 @@ use std::alloc::AllocError;
 #[derive(Clone, Copy, Debug, Drop, PartialEq, Eq)]
 pub struct Asker {
     pub(crate) key: usize,
-    pub(crate) user: Option<u32>,
+    pub(crate) peer: Peer,
 }
 
 impl Asker {
-    /// The number of the user (`uid`) whose process sent the line, if only listed users are served.
-    pub fn user(&self) -> Option<u32>
-        ensures { result ≡ self.now.user }
+    /// Who sent the line.
+    pub fn peer(&self) -> Peer
+        ensures { result ≡ self.now.peer }
     {
-        self.user
+        self.peer
     }
 }
 
@@ -70,11 +71,11 @@ impl Connections {
         let Some(connection) = self.replace(key, None) else {
             return NextLine::Nothing;
         };
-        let user = connection.user();
+        let peer = connection.peer();
         match connection.take_line(line) {
             Ok(connection) => {
                 self.replace(key, Some(connection));
-                NextLine::Given(Asker { key, user })
+                NextLine::Given(Asker { key, peer })
             }
             Err(AllocError) => NextLine::Left(key),
         }

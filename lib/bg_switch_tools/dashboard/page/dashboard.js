@@ -108,7 +108,7 @@ function newest() {
 
 function showAttempt() {
   const report = state.report, phase = report ? report.phase : "";
-  setText("control", `at port ${state.control}`);
+  setText("control", `at ${typeof state.control === "number" ? "port" : "socket"} ${state.control}`);
   const none = state.switch.answers ? "No book is open yet" : "The state is not known";
   const isAlarmed = state.alarms.length > 0, name = report ? PHASES[phase] : none;
   document.title = `${isAlarmed ? "no endpoint is up" : report ? name : state.switch.answers ? "no book" : "no answer"} – bg_switch ${state.control}`;

@@ -19,7 +19,7 @@ returns-in-Ok c =
       was = search rules;
       first = search rules;
       line_is = search rules;
-      user_is = search rules;
+      peer_is = search rules;
       now = c.replace-in-Ok.ensures.place
           ∙ ap (λ (r : Register). record r { places = set r.places key (Some new) }) c.replace.ensures.place
           ∙ ap (λ ps. record { places = ps; next_number = inside.next_number; urgent_in_a_row = c.row_after-self-inside.result })

@@ -1,0 +1,39 @@
+"""Where a switch takes lines: at a port of this machine, or at a Unix socket."""
+import re
+import socket
+
+HOST = "127.0.0.1"
+LONGEST_PATH = 107  # characters of the path of a socket (unix(7))
+SOCKET_PATH = re.compile(r"[\x20-\x7e]*/[\x20-\x7e]*")
+ABSOLUTE = re.compile(r"/[\x20-\x7e]*")
+
+Control = int | str  # a port of 127.0.0.1, or the path of a socket
+
+
+def kind_of(control: Control) -> str:
+    """`port` or `socket`."""
+    return "port" if isinstance(control, int) else "socket"
+
+
+def place_of(control: Control) -> str:
+    """What messages call it."""
+    return f"{kind_of(control)} {control}"
+
+
+def is_path(text: str) -> bool:
+    """Whether a text is the path of a socket: one with a slash, which no port has."""
+    return SOCKET_PATH.fullmatch(text) is not None and len(text) <= LONGEST_PATH
+
+
+def connected(control: Control, wait: float) -> socket.socket:
+    """A connection, made within `wait` seconds. `OSError` where there is none."""
+    if isinstance(control, int):
+        return socket.create_connection((HOST, control), timeout=wait)
+    made = socket.socket(socket.AF_UNIX)
+    try:
+        made.settimeout(wait)
+        made.connect(control)
+    except OSError:
+        made.close()
+        raise
+    return made
