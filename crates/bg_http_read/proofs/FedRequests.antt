@@ -17,7 +17,7 @@ use Rattle.bg_http_read.specs.HeadFaults.{RequestHeadFails}
 use Rattle.bg_http_read.specs.MessageFaults.{as_request}
 use Rattle.bg_http_read.specs.RequestHeads.{ReadsRequestHead, RequestHeadIsCut}
 use Rattle.bg_http_read.specs.Requests.{FramedBodyFails, JudgedHead, ReadsRequestBody, RequestBodyFails, RequestFails}
-use Rattle.bg_http_read.specs.RequestStates.{FailsAsked, IsReadAsked, IsRefusedAsked, LacksRequest, OwesContinue}
+use Rattle.bg_http_read.specs.RequestStates.{FailsAsked, IsReadThen, IsRefusedAsked, LacksRequest, OwesContinue}
 use Rattle.bg_http_read.specs.RequestsFed.{Advances, AdvancesTo, AwaitsHead, HasParts, IsAt, IsFedBody, IsFedStage, IsOpenStage, IsSeen, LacksHead, StartsBody, first_stage, framed_body, is_head, most_of, stage_seen, was_asked}
 use Rattle.bg_http_read.specs.declared.body.Body.{Body}
 use Rattle.bg_http_read.specs.declared.body.BodyStage.{BodyStage}
@@ -108,9 +108,8 @@ fed_straight p next seen came now h is follows limit =
 pub fed_whole : (p : RequestBody) (waits seen : List ℕ) (request : Request) (asked : Bool)
     → IsFedBody p waits seen → KeepsLimit p.body → HasParts request p
     → is_whole p.body.stage ≡ true → owes_continue p.head p.framing ≡ asked
-    → IsReadAsked asked request seen
+    → IsReadThen asked request seen waits
 fed_whole p waits seen request asked h within parts whole owes more = (
-  waits ++ more,
   record {
     head = p.head;
     framing = p.framing;
@@ -292,7 +291,6 @@ nothing_fed s e = subst (λ t. IsAt t [] []) (sym e) (record {
   fed = refl;
   ready = tt;
   sees = refl;
-  lacks = no_request_yet [] refl;
 })
 
 -- the answer is the fault that is known
@@ -303,15 +301,19 @@ advances_err old seen bytes new (Ok advance) e is refused = absurd is
 advances_err old seen bytes new (Err f) e is refused =
     subst (λ f. IsRefusedAsked (was_asked old) f seen) (sym is) refused
 
--- `100 Continue` is not owed at a stage that looks for the head
-pub no_continue_here : (s : RequestStage) (waits seen : List ℕ) → IsAt s waits seen
-    → is_head s ≡ true → OwesContinue seen → ⊥
-no_continue_here (part.Head end) waits seen h head owed =
+-- no complete head waits before the first byte
+pub nothing_short : (s : RequestStage) → s ≡ part.Head head_end.Blank → LacksHead s []
+nothing_short s e = subst (λ t. LacksHead t []) (sym e) (no_request_yet [] refl)
+
+-- `100 Continue` is not owed at a stage that looks for the head, if no complete head waits
+pub no_continue_here : (s : RequestStage) (waits seen : List ℕ) → IsFedStage s waits seen
+    → LacksHead s waits → is_head s ≡ true → OwesContinue seen → ⊥
+no_continue_here (part.Head end) waits seen fed lacks head owed =
     let found = owed [] in
-    let reads = subst (λ l. ReadsRequestHead l found.head found.after) (append-nil seen ∙ h.fed) found.begins.reads in
-    h.lacks reads.tree found.after reads.reads
-no_continue_here (part.Body p) waits seen h head owed = cc
-no_continue_here (part.Done told) waits seen h head owed = cc
+    let reads = subst (λ l. ReadsRequestHead l found.head found.after) (append-nil seen ∙ fed) found.begins.reads in
+    lacks reads.tree found.after reads.reads
+no_continue_here (part.Body p) waits seen fed lacks head owed = cc
+no_continue_here (part.Done told) waits seen fed lacks head owed = cc
 
 -- no body of a request goes to the end of the input
 never_to_the_end : (named : Framing) → first_stage named ≡ stage.ToTheEnd → ⊥

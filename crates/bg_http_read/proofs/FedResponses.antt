@@ -10,9 +10,9 @@ use Rattle.bg_http.specs.declared.response_rules.ResponseFraming.{ResponseFramin
 use Rattle.bg_http.specs.declared.response_rules.ResponseFraming.TheVariants as framing
 use Rattle.bg_http_read.specs.Bodies.{Follows, KeepsLimit, Reads, Fails, Refuses, can_end, is_whole}
 use Rattle.bg_http_read.specs.BodyFaults.{Failure, malformed, large, cut}
-use Rattle.bg_http_read.specs.Responses.{AfterInterim, IsFinalHead, SkipsInterim, FramedResponseBodyFails, ReadsResponse, ReadsResponseBody, ResponseBodyFails, ResponseFails, length_of_response, most_response_body, no_body}
+use Rattle.bg_http_read.specs.Responses.{AfterInterim, IsFinalHead, SkipsInterim, FramedResponseBodyFails, ReadsResponse, ReadsResponseThen, ReadsResponseBody, ResponseBodyFails, ResponseFails, length_of_response, most_response_body, no_body}
 use Rattle.bg_http_read.specs.ResponsesFed.{AwaitsHead, IsSeen, Starts, stage_seen, HasParts, IsFedBody, IsFedStage, IsOpenStage, StartsBody, WantsBody, WantsStage, first_stage, most_of}
-use Rattle.bg_http_read.specs.ResponseStates.{LacksResponse, GoesToTheEnd, IsRead, IsRefused, NeedsMore}
+use Rattle.bg_http_read.specs.ResponseStates.{LacksResponse, GoesToTheEnd, IsReadThen, IsRefused, NeedsMore}
 use Rattle.bg_http_read.specs.declared.body.Body.{Body}
 use Rattle.bg_http_read.specs.declared.body.BodyStage.{BodyStage}
 use Rattle.bg_http_read.specs.declared.body.BodyStage.TheVariants as stage
@@ -103,7 +103,7 @@ fed_straight request p next seen came now h is follows limit =
 fed_reads : (request : Request) (p : ResponseBody) (waits seen more rest : List ℕ)
     (response : Response) → IsFedBody request p waits seen → KeepsLimit p.body
     → HasParts response p → Reads p.body (waits ++ more) p.body.bytes.items rest
-    → ReadsResponse request response (seen ++ more)
+    → ReadsResponseThen request (seen ++ more) response rest
 fed_reads request p waits seen more rest response h within parts reads = record {
   count = found.count;
   few = found.few;
@@ -114,7 +114,6 @@ fed_reads request p waits seen more rest response h within parts reads = record 
     p.framing,
     h.after ++ more,
     found.holds,
-    rest,
     record {
       body = subst (λ l. ReadsResponseBody p.framing (h.after ++ more) l rest) (sym parts.body_is) body;
       code_is = parts.code_is;
@@ -140,7 +139,7 @@ fed_reads request p waits seen more rest response h within parts reads = record 
 -- the body is complete
 pub fed_whole : (request : Request) (p : ResponseBody) (waits seen : List ℕ) (response : Response)
     → IsFedBody request p waits seen → KeepsLimit p.body → HasParts response p
-    → is_whole p.body.stage ≡ true → IsRead request response seen
+    → is_whole p.body.stage ≡ true → IsReadThen request response seen waits
 fed_whole request p waits seen response h within parts whole more =
     fed_reads request p waits seen more (waits ++ more) response h within parts
     (whole_reads p.body.stage p.body.bytes.items (waits ++ more) whole)
@@ -151,10 +150,12 @@ pub fed_end : (request : Request) (p : ResponseBody) (waits seen : List ℕ) (re
     → can_end p.body.stage ≡ true → (p.body.stage ≡ stage.ToTheEnd → waits ≡ [])
     → ReadsResponse request response seen
 fed_end request p waits seen response h within parts ends empty =
-    subst (ReadsResponse request response) (append-nil seen)
-    (fed_reads request p waits seen [] waits response h within parts
-    (subst (λ l. Reads p.body l p.body.bytes.items waits) (sym (append-nil waits))
-    (end_reads p.body.stage p.body.bytes.items waits ends empty)))
+    subst (ReadsResponse request response) (append-nil seen) (
+      waits,
+      fed_reads request p waits seen [] waits response h within parts
+          (subst (λ l. Reads p.body l p.body.bytes.items waits) (sym (append-nil waits))
+          (end_reads p.body.stage p.body.bytes.items waits ends empty)),
+    )
 
 -- a failure of the bytes that wait, and of those that follow, is one of the input
 fed_fails : (request : Request) (p : ResponseBody) (waits seen more : List ℕ) (e : ResponseFault)
@@ -268,7 +269,7 @@ cut_off_lacks request seen fails response reads =
 -- if the next head is not complete, the response is not complete
 head_lacks : (request : Request) (count : ℕ) (seen waits : List ℕ)
     → SkipsInterim request count seen waits → HasNoResponse waits → LacksResponse request seen
-head_lacks request count seen waits skips none response h =
+head_lacks request count seen waits skips none response (rest, h) =
     by_place (in_order request h.count count seen h.after waits h.skips skips)
   where
     by_place : (h.after ≡ waits) ⊎ (IsInterim request h.after ⊎ IsInterim request waits) → ⊥

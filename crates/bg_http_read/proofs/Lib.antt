@@ -1,3 +1,6 @@
+pub mod AnsweredHeads
+pub mod AnsweredRequests
+pub mod AnsweredRules
 pub mod BodyLoop
 pub mod BodyOrFault
 pub mod ChunkLines
@@ -5,8 +8,13 @@ pub mod DataSteps
 pub mod FaultStays
 pub mod FedRequests
 pub mod FedResponses
+pub mod FieldTexts
+pub mod ForwardedHeads
+pub mod ForwardedRequests
+pub mod ForwardedRules
 pub mod FramedBodies
 pub mod Fronts
+pub mod GivenLength
 pub mod HeadLengths
 pub mod HeadsOver
 pub mod InterimOrder
@@ -15,19 +23,22 @@ pub mod LineEnds
 pub mod LineSteps
 pub mod OneFailure
 pub mod OneFault
+pub mod OneRequest
+pub mod OneResponse
 pub mod OneResponseFault
+pub mod OneSequence
+pub mod Pieces
 pub mod RefusedHeads
+pub mod RequestBodies
 pub mod RequestHeadsFound
 pub mod RequestOrFault
 pub mod RequestPieces
 pub mod RequestSteps
 pub mod RequestsRead
-pub mod RequestBodies
 pub mod ResponseBodies
+pub mod ResponseHeadsFound
 pub mod ResponseOrFault
 pub mod ResponseSteps
-pub mod Pieces
-pub mod ResponseHeadsFound
 pub mod RuleFaults
 pub mod States
 pub mod StreamFaults
@@ -35,3 +46,4 @@ pub mod TrailersFound
 pub mod Walks
 mod WorkedBodies
 mod WorkedHeads
+pub mod WrittenResponses

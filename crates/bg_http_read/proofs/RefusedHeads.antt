@@ -9,8 +9,8 @@ use Rattle.bg_http.specs.declared.request_fault.RequestFault.TheVariants as faul
 use Rattle.bg_http_read.specs.RefusedHeads.{BeginsRefused, TellsHead}
 use Rattle.bg_http_read.specs.RequestHeads.{ReadsRequestHead, RequestHeadIsCut}
 use Rattle.bg_http_read.specs.Requests.{JudgedHead}
-use Rattle.bg_http_read.specs.RequestStates.{FailsAsked, IfWhole, goes_on, is_whole}
-use Rattle.bg_http_read.specs.RequestsFed.{AdvancesTo, IsAt, IsFedBody, IsFedStage, head_after, known_head, was_asked}
+use Rattle.bg_http_read.specs.RequestStates.{FailsAsked, IfWhole, goes_on}
+use Rattle.bg_http_read.specs.RequestsFed.{AdvancesTo, IsAt, IsFedBody, IsFedStage, LacksHead, head_after, LacksHead, known_head, was_asked}
 use Rattle.bg_http_read.specs.declared.refused_head.RefusedHead.{RefusedHead}
 use Rattle.bg_http_read.specs.declared.request_body.RequestBody.{RequestBody}
 use Rattle.bg_http_read.specs.declared.request_progress.RequestStage.{RequestStage}
@@ -58,13 +58,14 @@ tells_without_memory (part.Done told) waits seen h = absurd h
 
 -- an allocation failed after a step
 pub tells_after_step : (old new : RequestStage) (seen left : List ℕ) (at : RequestStep)
-    → AdvancesTo old seen left at new → is_whole at ≡ false
+    → AdvancesTo old seen left at new → IfWhole at (λ request. known_head new ≡ None)
     → TellsHead seen fault.OutOfMemory (known_head new)
-tells_after_step old new seen left step.More (cut, at, asked) missing =
+tells_after_step old new seen left step.More (cut, at, lacks, asked) none =
     tells_without_memory new left seen at.fed
-tells_after_step old new seen left step.Continue (head, owed, at, asked) missing =
+tells_after_step old new seen left step.Continue (head, owed, at, lacks, asked) none =
     tells_without_memory new left seen at.fed
-tells_after_step old new seen left (step.Whole request) h missing = cc
+tells_after_step old new seen left (step.Whole request) h none =
+    subst (TellsHead seen fault.OutOfMemory) (sym none) tt
 
 -- the input ends, and no head was found
 cut_head : (seen : List ℕ) → FailsAsked false seen fault.Closed → HasNoRequest seen → RequestHeadIsCut seen
@@ -75,12 +76,13 @@ cut_head seen (inr found) lacks =
 
 -- the input ends
 pub tells_cut_off : (asked : Bool) (s : RequestStage) (left seen : List ℕ) → asked ≡ was_asked s
-    → FailsAsked asked seen fault.Closed → IsAt s left seen → TellsHead seen fault.Closed (known_head s)
-tells_cut_off asked (part.Head end) left seen is fails at =
-    cut_head seen (subst (λ a. FailsAsked a seen fault.Closed) is fails) (subst HasNoRequest (sym at.fed) at.lacks)
-tells_cut_off asked (part.Body p) left seen is fails at =
+    → FailsAsked asked seen fault.Closed → IsAt s left seen → LacksHead s left
+    → TellsHead seen fault.Closed (known_head s)
+tells_cut_off asked (part.Head end) left seen is fails at lacks =
+    cut_head seen (subst (λ a. FailsAsked a seen fault.Closed) is fails) (subst HasNoRequest (sym at.fed) lacks)
+tells_cut_off asked (part.Body p) left seen is fails at lacks =
     tells_sound p left seen fault.Closed (known_head (part.Body p)) refl at.fed
-tells_cut_off asked (part.Done told) left seen is fails at = absurd at.fed
+tells_cut_off asked (part.Done told) left seen is fails at lacks = absurd at.fed
 
 -- the input ends while `100 Continue` is owed
 pub tells_unanswered : (s : RequestStage) (left seen : List ℕ) → IsAt s left seen → was_asked s ≡ true
@@ -94,9 +96,9 @@ tells_unanswered (part.Done told) left seen at asked = cc
 pub tells_ended : (old new : RequestStage) (seen left : List ℕ) (at : RequestStep)
     → AdvancesTo old seen left at new → (at ≡ step.More) ⊎ (at ≡ step.Continue)
     → TellsHead seen fault.Closed (known_head new)
-tells_ended old new seen left step.More (cut, at, asked) more =
-    tells_cut_off (was_asked old) new left seen (sym asked) cut at
-tells_ended old new seen left step.Continue (head, owed, at, asked) more =
+tells_ended old new seen left step.More (cut, at, lacks, asked) more =
+    tells_cut_off (was_asked old) new left seen (sym asked) cut at lacks
+tells_ended old new seen left step.Continue (head, owed, at, lacks, asked) more =
     tells_unanswered new left seen at asked
 tells_ended old new seen left (step.Whole request) h (inl more) = cc
 tells_ended old new seen left (step.Whole request) h (inr more) = cc

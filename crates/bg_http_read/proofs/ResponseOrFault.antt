@@ -81,7 +81,7 @@ response_body_or_fault named input body rest wrong.OutOfMemory h f = refl
 pub response_or_fault : (request : Request) (input : List ℕ) (response : Response)
     (e : ResponseFault) → ReadsResponse request response input → ResponseFails request input e
     → is_of_reading e ≡ true
-response_or_fault request input response e h fails = by_fault fails
+response_or_fault request input response e (end, h) fails = by_fault fails
   where
     a : List ℕ
     a = h.after
@@ -130,7 +130,7 @@ response_or_fault request input response e h fails = by_fault fails
         let both : Ok named ≡ Ok second =
         sym h.holds.3.0.judged ∙ ap (response_framing request) heads.0 ∙ final.0.judged in
         let framings : named ≡ second = cc in
-        response_body_or_fault named after response.body h.holds.4 e h.holds.5.body
+        response_body_or_fault named after response.body end e h.holds.4.body
         (subst (λ n. ResponseBodyFails n after e) (sym framings)
         (subst (λ l. ResponseBodyFails second l e) (sym heads.1) found))
     body b found (inr (inl interim)) = absurd (not_interim interim)
@@ -142,7 +142,7 @@ response_or_fault request input response e h fails = by_fault fails
         breaks f.after f.holds (in_order request h.count f.count input a f.after h.skips f.skips)
     by_fault (no_head f) =
         lacks f.after f.holds (in_order request h.count f.count input a f.after h.skips f.skips)
-    by_fault (many_interim is (end, skips)) =
-        absurd (not_interim (interim_earlier request h.count 17 input a end (omega (arith, h.few)) h.skips skips))
+    by_fault (many_interim is (next, skips)) =
+        absurd (not_interim (interim_earlier request h.count 17 input a next (omega (arith, h.few)) h.skips skips))
     by_fault (no_body f) =
         body f.after f.holds (in_order request h.count f.count input a f.after h.skips f.skips)

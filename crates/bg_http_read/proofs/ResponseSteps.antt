@@ -1,13 +1,16 @@
 -- The steps of a response's parser.
-use Rattle.std.proofs.Common.{◌≡◌, Bool, true, ℕ, List, [], sym, ◌∙◌, subst, Option, Some, None, Result, Ok, Err, IfNone, IfOk, IfSome, IsErrAnd}
+use Rattle.std.proofs.Common.{◌≡◌, Bool, true, false, ℕ, zero, suc, ◌≤◌, nat_eq, List, [], ◌∷◌, ◌++◌, length, drop, refl, sym, ◌∙◌, arith, subst, Option, Some, None, Result, Ok, Err, IfNone, IfOk, IsErrAnd}
+use Rattle.std.proofs.lemmas.Bool.Decides.{nat_tests}
 use Rattle.std.proofs.lemmas.List.{append-nil}
+use Rattle.bg_http.specs.Codings.{is_empty}
 use Rattle.bg_http.specs.declared.request.Request.{Request}
 use Rattle.bg_http.specs.declared.response.Response.{Response}
 use Rattle.bg_http.specs.declared.response_fault.ResponseFault.{ResponseFault}
 use Rattle.bg_http_read.specs.Responses.{ReadsResponse, ResponseFails}
 use Rattle.bg_http_read.specs.ResponsesFed.{Advances, AdvancesTo, IsSeen, IsFed, IsFedStage, IsOpen, IsOpenStage}
-use Rattle.bg_http_read.specs.ResponseStates.{IsRead, IsRefused, NeedsMore, ResponseState, asks_more}
+use Rattle.bg_http_read.specs.ResponseStates.{IsRead, IsReadThen, IsRefused, NeedsMore, ResponseState, asks_more}
 use Rattle.bg_http_read.specs.Streams.{waiting}
+use Rattle.bg_http_read.specs.declared.received_response.ReceivedResponse.{ReceivedResponse}
 use Rattle.bg_http_read.specs.declared.response_feed.ResponseFeed.{ResponseFeed}
 use Rattle.bg_http_read.specs.declared.response_progress.Advance.{Advance}
 use Rattle.bg_http_read.proofs.States.{response_state, same_response}
@@ -22,13 +25,27 @@ advances_err request seen bytes s (Ok advance) e is refused = absurd is
 advances_err request seen bytes s (Err f) e is refused =
     subst (λ f. IsRefused request f seen) (sym is) refused
 
--- what each part of an answer says
-pub advanced_response : (request : Request) (seen left : List ℕ) (s : ResponseStage)
-    (found : Option Response) → AdvancesTo request seen left found s
-    → IfSome found (λ response. IsRead request response seen)
-advanced_response request seen left s (Some response) h = h
-advanced_response request seen left s None h = tt
+-- a response that is read to its end, whatever follows it
+pub read_to_end : (request : Request) (response : Response) (seen left : List ℕ)
+    → IsReadThen request response seen left → IsRead request response seen
+read_to_end request response seen left h more = (left ++ more, h more)
 
+same_test : (one other : ℕ) → nat_eq (suc one) (suc other) ≡ nat_eq one other
+same_test one other = grind (arith, nat_tests)
+
+some_left : (count : ℕ) → nat_eq 0 (suc count) ≡ false
+some_left count = grind (arith, nat_tests)
+
+-- nothing is left if and only if all bytes were taken
+pub drained : (taken : ℕ) (bytes : List ℕ) → taken ≤ length bytes
+    → nat_eq taken (length bytes) ≡ is_empty (drop taken bytes)
+drained zero [] fits = refl
+drained zero (byte ∷ bytes) fits = some_left (length bytes)
+drained (suc taken) [] fits = absurd (omega (arith, fits))
+drained (suc taken) (byte ∷ bytes) fits =
+    same_test taken (length bytes) ∙ drained taken bytes (omega (arith, fits))
+
+-- what each part of an answer says
 pub advanced_none_at : (request : Request) (seen left : List ℕ) (parser : ResponseFeed)
     (found : Option Response) → parser.progress.request.now ≡ request
     → AdvancesTo request seen left found parser.progress.stage
@@ -58,13 +75,13 @@ refused_here request e seen h =
     subst (λ l. ResponseFails request l e) (append-nil seen) (h [])
 
 pub read_here : (request : Request) (response : Response) (seen : List ℕ)
-    → IsRead request response seen → ReadsResponse request response seen
-read_here request response seen h =
-    subst (ReadsResponse request response) (append-nil seen) (h [])
+    → (left : List ℕ) → IsReadThen request response seen left → ReadsResponse request response seen
+read_here request response seen left h =
+    subst (ReadsResponse request response) (append-nil seen) (read_to_end request response seen left h [])
 
 -- if more bytes are needed, only the bytes that came have changed
 pub fed_more : (state : ResponseState) (seen came : List ℕ)
-    (r : Result (Option Response) ResponseFault) (feed : ResponseFeed) (is_open : Bool)
+    (r : Result (Option ReceivedResponse) ResponseFault) (feed : ResponseFeed) (is_open : Bool)
     → came ≡ seen → is_open ≡ asks_more r → state.is_open ≡ true
     → IfOk r (λ found. IfNone found (IsFed feed state.request seen × NeedsMore state.request seen))
     → IfOk r (λ found. IfNone found
@@ -74,5 +91,5 @@ fed_more state seen came (Ok None) feed is_open same goes was h = (
   same_response feed.progress.request.now state.request came seen is_open state.is_open h.0.request_is same (goes ∙ sym was),
   h.1,
 )
-fed_more state seen came (Ok (Some response)) feed is_open same goes was h = tt
+fed_more state seen came (Ok (Some received)) feed is_open same goes was h = tt
 fed_more state seen came (Err e) feed is_open same goes was h = tt

@@ -3,6 +3,7 @@ use Rattle.std.proofs.Common.{◌≡◌, Bool, ℕ, List, [], ◌++◌, Option, 
 use Rattle.std.proofs.lemmas.List.{append-nil}
 use Rattle.bg_http.specs.declared.request.Request.{Request}
 use Rattle.bg_http_read.specs.RequestStates.{RequestState}
+use Rattle.bg_http_read.specs.RequestStreams.{StreamState}
 use Rattle.bg_http_read.specs.ResponseStates.{ResponseState}
 use Rattle.bg_http_read.specs.declared.refused_head.RefusedHead.{RefusedHead}
 
@@ -30,3 +31,10 @@ pub request_as_it_was : (state : RequestState)
 request_as_it_was state =
     same_request (state.seen ++ []) state.seen state.asked state.asked state.is_open state.is_open
     state.refused state.refused (append-nil state.seen) refl refl refl
+
+abbrev pub stream_state : List ℕ → Bool → Bool → StreamState
+stream_state since asked is_open = record { since = since; asked = asked; is_open = is_open }
+
+pub same_stream : (since all : List ℕ) (asked owed is_open was : Bool) → since ≡ all → asked ≡ owed
+    → is_open ≡ was → stream_state since asked is_open ≡ stream_state all owed was
+same_stream since all asked owed is_open was h k e = cc

@@ -1,6 +1,9 @@
+pub mod AnsweredRequests
+pub mod AnySize
 pub mod Bodies
 pub mod BodyFaults
 pub mod Chunks
+pub mod ForwardedRequests
 pub mod HeadEnds
 pub mod HeadFaults
 pub mod Laws
@@ -9,10 +12,12 @@ pub mod RefusedHeads
 pub mod RequestHeads
 pub mod RequestPieces
 pub mod RequestStates
+pub mod RequestStreams
 pub mod Requests
 pub mod RequestsFed
 pub mod ResponseHeads
 pub mod ResponseStates
 pub mod Responses
 pub mod ResponsesFed
+pub mod Sequences
 pub mod Streams

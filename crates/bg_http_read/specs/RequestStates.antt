@@ -35,6 +35,13 @@ FailsAsked asked input named =
 abbrev pub IsReadAsked : Bool → Request → List ℕ → Type 0
 IsReadAsked asked request seen = (more : List ℕ) → ReadsAsked asked request (seen ++ more)
 
+-- every continuation of the bytes is the request, and then `left` and the continuation: the request
+-- ends where `left` begins
+abbrev pub IsReadThen : Bool → Request → List ℕ → List ℕ → Type 0
+IsReadThen asked request seen left =
+    (more : List ℕ) → (reads : ReadsRequest (seen ++ more) request (left ++ more))
+    × (owes_continue reads.head reads.framing ≡ asked)
+
 -- every continuation of the bytes has this fault
 abbrev pub IsRefusedAsked : Bool → RequestFault → List ℕ → Type 0
 IsRefusedAsked asked named seen = (more : List ℕ) → FailsAsked asked (seen ++ more) named

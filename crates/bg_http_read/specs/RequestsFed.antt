@@ -1,5 +1,5 @@
 -- The bytes of a request that were fed, and those that are still to be read.
-use Rattle.std.specs.Prelude.{◌≡◌, Bool, true, false, ℕ, List, [], drop, Option, Some, None, Result, Ok, Err, ⊤}
+use Rattle.std.specs.Prelude.{◌≡◌, Bool, true, false, IsTrue, ℕ, List, [], drop, Option, Some, None, Result, Ok, Err, ⊤}
 use Rattle.httparse.specs.Grammar.{HasNoRequest}
 use Rattle.bg_http.specs.RequestRules.{owes_continue}
 use Rattle.bg_http.specs.declared.request.Request.{Request}
@@ -10,7 +10,7 @@ use Rattle.bg_http.specs.declared.request_rules.Framing.TheVariants as framing
 use Rattle.bg_http_read.specs.Bodies.{Follows, KeepsLimit}
 use Rattle.bg_http_read.specs.HeadEnds.{after_bytes, is_over}
 use Rattle.bg_http_read.specs.Requests.{JudgedHead, most_body}
-use Rattle.bg_http_read.specs.RequestStates.{FailsAsked, IsReadAsked, IsRefusedAsked, LacksRequest, OwesContinue, ReadsAsked}
+use Rattle.bg_http_read.specs.RequestStates.{FailsAsked, IsReadThen, IsRefusedAsked, LacksRequest, OwesContinue, ReadsAsked}
 use Rattle.bg_http_read.specs.Streams.{waiting}
 use Rattle.bg_http_read.specs.declared.head_end.HeadEnd.TheVariants as head_end
 use Rattle.bg_http_read.specs.declared.body.Body.{Body}
@@ -80,7 +80,6 @@ pub record IsAt (at : RequestStage) (waits seen : List ℕ) : Type 0 where
   pub fed : IsFedStage at waits seen
   pub ready : IsOpenStage at
   pub sees : IsSeen at waits
-  pub lacks : LacksHead at waits
 
 -- more bytes wait after those that wait for the end of the head
 abbrev pub stage_seen : RequestStage → List ℕ → RequestStage
@@ -120,15 +119,20 @@ head_after false at = known_head at
 abbrev pub IsFed : RequestFeed → List ℕ → Type 0
 IsFed feed seen = IsAt feed.progress.stage (waiting feed.intake) seen
 
+-- no complete head waits
+abbrev pub IsShort : RequestFeed → Type 0
+IsShort feed = LacksHead feed.progress.stage (waiting feed.intake)
+
 -- the result of bytes: a request; or a head to which `100 Continue` is owed; or more bytes are
 -- needed
 abbrev pub AdvancesTo
     : RequestStage → List ℕ → List ℕ → RequestStep → RequestStage → Type 0
-AdvancesTo old seen left (step.Whole request) new = IsReadAsked (was_asked old) request seen
+AdvancesTo old seen left (step.Whole request) new = IsReadThen (was_asked old) request seen left
 AdvancesTo old seen left step.Continue new =
-    (is_head old ≡ true) × OwesContinue seen × IsAt new left seen × (was_asked new ≡ true)
+    (is_head old ≡ true) × OwesContinue seen × IsAt new left seen × LacksHead new left
+    × (was_asked new ≡ true)
 AdvancesTo old seen left step.More new =
-    FailsAsked (was_asked old) seen fault.Closed × IsAt new left seen
+    FailsAsked (was_asked old) seen fault.Closed × IsAt new left seen × LacksHead new left
     × (was_asked new ≡ was_asked old)
 
 -- the same, or a fault
@@ -138,14 +142,19 @@ Advances old seen bytes (Ok advance) new =
     AdvancesTo old seen (drop advance.taken bytes) advance.step new
 Advances old seen bytes (Err named) new = IsRefusedAsked (was_asked old) named seen
 
--- the result of all bytes that were fed
-abbrev pub FedTo : Bool → List ℕ → Result RequestStep RequestFault → RequestFeed → Type 0
-FedTo asked seen (Ok (step.Whole request)) feed = IsReadAsked asked request seen
-FedTo asked seen (Ok step.Continue) feed =
-    (asked ≡ false) × OwesContinue seen × IsFed feed seen × (was_asked feed.progress.stage ≡ true)
-FedTo asked seen (Ok step.More) feed =
-    LacksRequest seen × IsFed feed seen × (was_asked feed.progress.stage ≡ asked)
-FedTo asked seen (Err named) feed = IsRefusedAsked asked named seen
+-- the result of all bytes that were fed; the bytes behind a request wait if they are kept
+abbrev pub FedTo
+    : Bool → Bool → List ℕ → Result RequestStep RequestFault → RequestFeed → Type 0
+FedTo keeps asked seen (Ok (step.Whole request)) feed =
+    (left : List ℕ) × IsReadThen asked request seen left
+    × (IsTrue keeps → waiting feed.intake ≡ left)
+FedTo keeps asked seen (Ok step.Continue) feed =
+    (asked ≡ false) × OwesContinue seen × IsFed feed seen × IsShort feed
+    × (was_asked feed.progress.stage ≡ true)
+FedTo keeps asked seen (Ok step.More) feed =
+    LacksRequest seen × IsFed feed seen × IsShort feed
+    × (was_asked feed.progress.stage ≡ asked)
+FedTo keeps asked seen (Err named) feed = IsRefusedAsked asked named seen
 
 -- the result of an input that ends
 abbrev pub EndsTo : Bool → List ℕ → Result Request RequestFault → Type 0

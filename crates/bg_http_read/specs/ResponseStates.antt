@@ -1,11 +1,13 @@
 -- The state of the parser of a response, and its answers.
 use Rattle.std.specs.Prelude.{◌≡◌, ◌⊎◌, Bool, true, false, ℕ, ◌≤◌, List, ◌++◌, length, Option, Some, None, Result, Ok, Err}
+use Rattle.bg_http.specs.Codings.{is_empty}
 use Rattle.bg_http.specs.declared.request.Request.{Request}
 use Rattle.bg_http.specs.declared.response.Response.{Response}
 use Rattle.bg_http.specs.declared.response_fault.ResponseFault.{ResponseFault}
 use Rattle.bg_http.specs.declared.response_fault.ResponseFault.TheVariants as fault
 use Rattle.bg_http.specs.declared.response_rules.ResponseFraming.TheVariants as framing
-use Rattle.bg_http_read.specs.Responses.{AfterInterim, FinalHeadThen, ReadsResponse, ResponseFails, most_response_body}
+use Rattle.bg_http_read.specs.Responses.{AfterInterim, FinalHeadThen, ReadsResponse, ReadsResponseThen, ResponseFails, most_response_body}
+use Rattle.bg_http_read.specs.declared.received_response.ReceivedResponse.{ReceivedResponse}
 
 -- the request whose response is read, all bytes that came, and whether more of the input, or its
 -- end, may come
@@ -17,6 +19,19 @@ pub record ResponseState : Type 0 where
 -- every continuation of the bytes begins with the response
 abbrev pub IsRead : Request → Response → List ℕ → Type 0
 IsRead request response seen = (more : List ℕ) → ReadsResponse request response (seen ++ more)
+
+-- every continuation of the bytes is the response, and then `left` and the continuation: the
+-- response ends where `left` begins
+abbrev pub IsReadThen : Request → Response → List ℕ → List ℕ → Type 0
+IsReadThen request response seen left =
+    (more : List ℕ) → ReadsResponseThen request (seen ++ more) response (left ++ more)
+
+-- every continuation of the bytes is the response, and then what is left and the continuation; the
+-- response is drained if and only if nothing is left
+abbrev pub IsReceived : Request → ReceivedResponse → List ℕ → Type 0
+IsReceived request received seen =
+    (left : List ℕ) × IsReadThen request received.response seen left
+    × (received.is_drained ≡ is_empty left)
 
 -- every continuation of the bytes has this fault
 abbrev pub IsRefused : Request → ResponseFault → List ℕ → Type 0
@@ -47,7 +62,7 @@ is_of_stream fault.Closed = true
 is_of_stream fault.OutOfMemory = false
 
 -- the parser has given neither an answer nor a fault
-abbrev pub asks_more : Result (Option Response) ResponseFault → Bool
+abbrev pub asks_more : {A : Type 0} → Result (Option A) ResponseFault → Bool
 asks_more (Ok None) = true
-asks_more (Ok (Some response)) = false
+asks_more (Ok (Some answer)) = false
 asks_more (Err named) = false

@@ -136,10 +136,14 @@ pub record IsResponse
   pub fields_are : response.fields ≡ head.fields
   pub length_is : response.length ≡ length_of_response named head response.body
 
--- the input begins with at most `MOST_INTERIM` interim responses and then the response
-abbrev pub ReadsResponse : Request → Response → List ℕ → Type 0
-ReadsResponse request response input =
+-- the input is at most `MOST_INTERIM` interim responses, the response, and then `rest`
+abbrev pub ReadsResponseThen : Request → List ℕ → Response → List ℕ → Type 0
+ReadsResponseThen request input response rest =
     AfterInterim request input
     (λ before. (head : ResponseHead) × (named : ResponseFraming) × (after : List ℕ)
-    × IsFinalHead request head named after before
-    × (rest : List ℕ) × IsResponse response head named after rest)
+    × IsFinalHead request head named after before × IsResponse response head named after rest)
+
+-- the input begins with them and the response
+abbrev pub ReadsResponse : Request → Response → List ℕ → Type 0
+ReadsResponse request response input =
+    (rest : List ℕ) × ReadsResponseThen request input response rest

@@ -8,7 +8,7 @@ use Rattle.bg_http.specs.declared.response_rules.ResponseFraming.{ResponseFramin
 use Rattle.bg_http.specs.declared.response_rules.ResponseFraming.TheVariants as framing
 use Rattle.bg_http_read.specs.Bodies.{Follows, KeepsLimit, can_end, is_whole}
 use Rattle.bg_http_read.specs.Responses.{AfterInterim, IsFinalHead, ResponseFails, SkipsInterim, length_of_response, most_response_body}
-use Rattle.bg_http_read.specs.ResponseStates.{IsRead, IsRefused}
+use Rattle.bg_http_read.specs.ResponseStates.{IsReadThen, IsRefused}
 use Rattle.bg_http_read.specs.Streams.{waiting}
 use Rattle.bg_http_read.specs.HeadEnds.{after_bytes, is_over}
 use Rattle.bg_http_read.specs.declared.head_end.HeadEnd.TheVariants as head_end
@@ -121,7 +121,7 @@ WantsStage request part.Done waits seen = ⊥
 -- the result of bytes: a response; or the bytes that were not taken wait, and more are needed
 abbrev pub AdvancesTo
     : Request → List ℕ → List ℕ → Option Response → ResponseStage → Type 0
-AdvancesTo request seen left (Some response) stage = IsRead request response seen
+AdvancesTo request seen left (Some response) stage = IsReadThen request response seen left
 AdvancesTo request seen left None stage =
     IsFedStage request stage left seen × WantsStage request stage left seen
 

@@ -2,6 +2,7 @@
 ghost use Rattle.std.specs.Prelude.{◌≡◌, ◌<◌, ◌≤◌, ◌++◌, [], IfSome, IsTrue, OnErr, OnOk};
 ghost use Rattle.std.specs.Prelude.{List, ℕ, drop, length, take};
 ghost use Rattle.std.specs.Io.KnownBytes.{Consumes, IsAtEnd, Keeps};
+ghost use Rattle.bg_http.specs.Codings.{is_empty};
 ghost use Rattle.bg_http_read.specs.Streams.{CameStraight, waiting};
 
 use crate::arrival::Straight;
@@ -128,7 +129,8 @@ impl Intake {
 
     /// Whether none wait.
     pub(crate) fn is_empty(&self) -> bool
-        ensures { IsTrue result → waiting self.now ≡ [] }
+        ensures none { IsTrue result → waiting self.now ≡ [] }
+        ensures told { result ≡ is_empty (waiting self.now) }
     {
         self.get().is_empty()
     }

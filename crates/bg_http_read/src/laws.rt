@@ -1,11 +1,19 @@
-//! The laws of the faults, for every input.
-ghost use Rattle.std.specs.Prelude.{List, ℕ};
+//! The laws of reading, for every input: of the faults, of the ends of messages, and of the messages
+//! of a connection.
+ghost use Rattle.std.specs.Prelude.{Bool, List, ℕ, [], ◌++◌};
 ghost use Rattle.bg_http.specs.declared.request.Request.{Request};
 ghost use Rattle.bg_http.specs.declared.request_fault.RequestFault.{RequestFault};
 ghost use Rattle.bg_http.specs.declared.response.Response.{Response};
 ghost use Rattle.bg_http.specs.declared.response_fault.ResponseFault.{ResponseFault};
+ghost use Rattle.bg_http_read.specs.AnsweredRequests.{Answering, AreReadAsAnswered};
+ghost use Rattle.bg_http_read.specs.ForwardedRequests.{AreReadAsForwarded, Forwarding};
 ghost use Rattle.bg_http_read.specs.Laws.{HasOneFault, HasOneResponseFault, StaysAtFault};
 ghost use Rattle.bg_http_read.specs.Laws.{RequestExcludesFaults, ResponseExcludesFaults};
+ghost use Rattle.bg_http_read.specs.Requests.{ReadsRequest};
+ghost use Rattle.bg_http_read.specs.Responses.{ReadsResponseThen};
+ghost use Rattle.bg_http_read.specs.Sequences.{AddsRequest, AddsResponse, AreRequestsOf, AreResponsesOf};
+ghost use Rattle.bg_http_read.specs.Sequences.{HasOneEnd, HasOneSequence, HasOneSequenceOfAnswers};
+ghost use Rattle.bg_http_read.specs.Sequences.{WaitsBehind};
 
 /// An input that begins with a request has no faults other than those of reading, writing and
 /// allocation.
@@ -42,3 +50,84 @@ pub fn a_response_has_one_fault()
     ensures { (request : Request) (input : List ℕ) (one other : ResponseFault)
         → HasOneResponseFault request input one other }
 {}
+
+/// An input begins with at most one request, and the request has one end.
+pub fn a_request_has_one_end()
+    ensures { (input : List ℕ) (one other : Request) (rest left : List ℕ)
+        → HasOneEnd ReadsRequest input one other rest left }
+{}
+
+/// An input begins with at most one response to a request, and the response has one end. Interim
+/// responses before it are a part of what is read.
+pub fn a_response_has_one_end()
+    ensures { (request : Request) (input : List ℕ) (one other : Response) (rest left : List ℕ)
+        → HasOneEnd (ReadsResponseThen request) input one other rest left }
+{}
+
+/// A connection has one sequence of requests, each from the byte after the end of the one before: of
+/// two sequences that its bytes begin with, the one that is not longer begins the other, and what is
+/// left behind it is the rest of the other. So two sequences that are as long as each other are
+/// equal, and so are the bytes behind them.
+pub fn a_connection_has_one_sequence()
+    ensures { (some all : List Request) (input rest left : List ℕ)
+        → HasOneSequence ReadsRequest some all input rest left }
+{}
+
+/// The requests that a `RequestStream` gives are the sequence of the bytes that came, in whatever
+/// pieces they came. This holds before the first byte; bytes that come keep it; and a request that
+/// the stream gives makes the sequence longer by one.
+pub fn a_stream_gives_the_sequence()
+    ensures first { AreRequestsOf [] [] [] }
+    ensures bytes { (requests : List Request) (came since more : List ℕ)
+        → AreRequestsOf requests came since → AreRequestsOf requests (came ++ more) (since ++ more) }
+    ensures request { (asked : Bool) (requests : List Request) (request : Request)
+        (came since left : List ℕ) → AddsRequest asked requests request came since left }
+{}
+
+/// What waits behind a request is an end of the bytes that came after the parser or stream last said
+/// that the request is not complete. So no more bytes wait than came since then.
+pub fn what_waits_came_since_more()
+    ensures { (asked : Bool) (request : Request) (before fresh left : List ℕ)
+        → WaitsBehind asked request before fresh left }
+{}
+
+/// The responses to a list of requests are a function of the bytes of their connection.
+pub fn a_connection_has_one_sequence_of_responses()
+    ensures { (requests : List Request) (one other : List Response) (input rest left : List ℕ)
+        → HasOneSequenceOfAnswers ReadsResponseThen requests one other input rest left }
+{}
+
+/// The responses that parsers give on a connection are the sequence of its bytes, if each parser but
+/// the first begins where nothing is left behind the response before
+/// (`ReceivedResponse::is_drained`).
+pub fn a_drained_connection_continues_its_sequence()
+    ensures first { AreResponsesOf [] [] [] [] }
+    ensures response { (requests : List Request) (request : Request) (responses : List Response)
+        (response : Response) (came seen left : List ℕ)
+        → AddsResponse requests request responses response came seen left }
+{}
+
+/// What is written to one connection of an endpoint for a list of requests (`write_request` of
+/// bg_http; on a connection that is kept, without the line `Connection: close`) is read, by the
+/// grammar and the rules, as exactly these requests as they are forwarded, in order. Each list of
+/// requests that it begins with is a front of them, and what is left behind the list is what was
+/// written for the others. So no byte of one request is read as a part of another one (RFC 9112
+/// section 11.2).
+pub fn an_endpoint_reads_the_requests_that_were_forwarded()
+    ensures { (port : ℕ) (forwardings : List Forwarding) (others : List Request) (rest : List ℕ)
+        → AreReadAsForwarded port forwardings others rest }
+{
+    bg_http::laws::only_one_length_goes_on();
+}
+
+/// What is written to one client for its requests (`write_response` and `write_refusal` of bg_http,
+/// with `100 Continue` before an answer or without it; on a connection that is kept, a response has
+/// no line `Connection: close`) is read, by the grammar and the rules, as exactly these answers, in
+/// order, and as no other list of responses to these requests; and nothing is left behind them. So no
+/// byte of one answer is read as a part of another one.
+pub fn a_client_reads_the_answers_that_were_written()
+    ensures { (answerings : List Answering) (others : List Response) (rest : List ℕ)
+        → AreReadAsAnswered answerings others rest }
+{
+    bg_http::laws::only_one_length_goes_on();
+}

@@ -1,11 +1,11 @@
 //! The progress of reading a request, with the bytes that wait.
-ghost use Rattle.std.specs.Prelude.{◌≡◌, ◌++◌, [], false, List, ℕ, IfErr, IfOk, IsFalse, None};
+ghost use Rattle.std.specs.Prelude.{◌≡◌, ◌++◌, [], Bool, false, List, ℕ, IfErr, IfOk, IsFalse, None};
 ghost use Rattle.std.specs.Io.KnownBytes.{Keeps};
 ghost use Rattle.bg_http.specs.declared.request_fault.RequestFault.TheVariants as request_fault;
 ghost use Rattle.bg_http_read.specs.RefusedHeads.{TellsHead};
 ghost use Rattle.bg_http_read.specs.RequestStates.{IfWhole, is_of_stream};
 ghost use Rattle.bg_http_read.specs.RequestsFed.{EndsTo, FedTo, IsFed, IsFedStage, IsOpenStage};
-ghost use Rattle.bg_http_read.specs.RequestsFed.{IsSeen, known_head, was_asked};
+ghost use Rattle.bg_http_read.specs.RequestsFed.{IsSeen, IsShort, known_head, was_asked};
 ghost use Rattle.bg_http_read.specs.Streams.{SeesStraight, waiting};
 
 use crate::arrival::Straight;
@@ -30,6 +30,7 @@ impl RequestFeed {
     /// The state before the first byte.
     pub(crate) fn new(alloc: Global) -> RequestFeed
         ensures fed { IsFed result [] }
+        ensures short { IsShort result }
         ensures asked { was_asked result.progress.stage ≡ false }
     {
         RequestFeed {
@@ -38,11 +39,17 @@ impl RequestFeed {
         }
     }
 
-    /// Adds bytes of the input, and gives the step that they lead to.
-    pub(crate) fn feed(&mut self, bytes: &[u8]) -> Result<RequestStep, RequestFault>
+    /// Adds bytes of the input, and gives the step that they lead to. The bytes behind a complete
+    /// request wait if they are kept.
+    pub(crate) fn feed(
+        &mut self,
+        bytes: &[u8],
+        keeps_rest: bool,
+    ) -> Result<RequestStep, RequestFault>
         requires { IsOpenStage self.old.progress.stage }
         ensures answer { (seen : List ℕ) → IsFed self.old seen
-            → FedTo (was_asked self.old.progress.stage) (seen ++ bytes.now) result self.new }
+            → FedTo keeps_rest (was_asked self.old.progress.stage) (seen ++ bytes.now) result
+            self.new }
         ensures head { (seen : List ℕ) → IsFed self.old seen
             → IfErr result (λ fault. TellsHead (seen ++ bytes.now) fault
             (known_head self.new.progress.stage)) }
@@ -51,7 +58,7 @@ impl RequestFeed {
         ensures fault { IfErr result (λ fault. IsFalse (is_of_stream fault)) }
     {
         if self.intake.is_empty() {
-            return self.feed_first(bytes);
+            return self.feed_first(bytes, keeps_rest);
         }
         match self.intake.add(bytes) {
             Ok(()) => self.look(bytes),
@@ -67,12 +74,29 @@ impl RequestFeed {
             (S.remaining stream.new) }
         ensures kept { Keeps (S.contents stream.old) (S.contents stream.new) }
         ensures fed { IsFed self.old seen.old.bytes → IsFed self.new seen.new.bytes }
+        ensures short { IsShort self.old → IsShort self.new }
         ensures asked { was_asked self.new.progress.stage ≡ was_asked self.old.progress.stage }
     {
         if !self.intake.is_empty() {
             return Straight::Unread;
         }
         self.progress.read_body(stream, seen)
+    }
+
+    /// After a complete request: the next request begins with the bytes that wait.
+    pub(crate) fn begin_next(&mut self)
+        ensures fed { IsFed self.new (waiting self.new.intake) }
+        ensures waits { waiting self.new.intake ≡ waiting self.old.intake }
+        ensures asked { was_asked self.new.progress.stage ≡ false }
+    {
+        self.progress.begin_with(self.intake.get());
+    }
+
+    /// The bytes that wait.
+    pub(crate) fn waiting(&self) -> &[u8]
+        ensures { result.now ≡ waiting self.now.intake }
+    {
+        self.intake.get()
     }
 
     /// The number of bytes that may come before they need to be parsed, if no line ends; 0 if any
@@ -86,11 +110,12 @@ impl RequestFeed {
     }
 
     /// Adds bytes when none wait, so that the bytes that can be taken are not copied a second time.
-    fn feed_first(&mut self, bytes: &[u8]) -> Result<RequestStep, RequestFault>
+    fn feed_first(&mut self, bytes: &[u8], keeps_rest: bool) -> Result<RequestStep, RequestFault>
         requires goes_on { IsOpenStage self.old.progress.stage }
         requires empty { waiting self.old.intake ≡ [] }
         ensures answer { (seen : List ℕ) → IsFed self.old seen
-            → FedTo (was_asked self.old.progress.stage) (seen ++ bytes.now) result self.new }
+            → FedTo keeps_rest (was_asked self.old.progress.stage) (seen ++ bytes.now) result
+            self.new }
         ensures head { (seen : List ℕ) → IsFed self.old seen
             → IfErr result (λ fault. TellsHead (seen ++ bytes.now) fault
             (known_head self.new.progress.stage)) }
@@ -99,7 +124,7 @@ impl RequestFeed {
         ensures fault { IfErr result (λ fault. IsFalse (is_of_stream fault)) }
     {
         let RequestAdvance { step, taken } = self.progress.advance(bytes)?;
-        if step.is_whole() {
+        if step.is_whole() && !keeps_rest {
             return Ok(step);
         }
         match self.intake.add(behind(bytes, taken)) {
@@ -111,10 +136,11 @@ impl RequestFeed {
     /// Parses the waiting bytes, to which `bytes` were added, if that is due.
     fn look(&mut self, bytes: &[u8]) -> Result<RequestStep, RequestFault>
         requires { IsOpenStage self.old.progress.stage }
-        ensures answer { (before seen : List ℕ) → IsSeen self.old.progress.stage before
+        ensures answer { (keeps : Bool) (before seen : List ℕ)
+            → IsSeen self.old.progress.stage before
             → waiting self.old.intake ≡ before ++ bytes.now
             → IsFedStage self.old.progress.stage (waiting self.old.intake) seen
-            → FedTo (was_asked self.old.progress.stage) seen result self.new }
+            → FedTo keeps (was_asked self.old.progress.stage) seen result self.new }
         ensures head { (seen : List ℕ)
             → IsFedStage self.old.progress.stage (waiting self.old.intake) seen
             → IfErr result (λ fault. TellsHead seen fault (known_head self.new.progress.stage)) }
@@ -134,7 +160,7 @@ impl RequestFeed {
     /// The request in an input that ends here. Nothing more is fed.
     pub(crate) fn end(&mut self) -> Result<Request, RequestFault>
         requires { IsOpenStage self.old.progress.stage }
-        ensures answer { (seen : List ℕ) → IsFed self.old seen
+        ensures answer { (seen : List ℕ) → IsFed self.old seen → IsShort self.old
             → EndsTo (was_asked self.old.progress.stage) seen result }
         ensures head { (seen : List ℕ) → IsFed self.old seen
             → IfErr result (λ fault. TellsHead seen fault (known_head self.new.progress.stage)) }

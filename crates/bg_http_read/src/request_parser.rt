@@ -54,7 +54,7 @@ impl Model for RequestParser {
 
     ghost Value = { RequestState };
 
-    ghost use Rattle.bg_http_read.specs.RequestsFed.{IsFed, head_after, was_asked};
+    ghost use Rattle.bg_http_read.specs.RequestsFed.{IsFed, IsShort, head_after, was_asked};
 
     ghost view = { λ parser. record {
       seen = parser.seen.bytes;
@@ -63,7 +63,8 @@ impl Model for RequestParser {
       refused = head_after parser.is_open parser.feed.progress.stage;
     } };
 
-    ghost invariant = { λ parser. IsTrue parser.is_open → IsFed parser.feed parser.seen.bytes };
+    ghost invariant = { λ parser. IsTrue parser.is_open
+        → IsFed parser.feed parser.seen.bytes × IsShort parser.feed };
 }
 
 impl RequestParser {
@@ -104,7 +105,7 @@ impl RequestParser {
         ensures no_head { IfOk result (λ step. IfWhole step (λ request. self.new.refused ≡ None)) }
     {
         self.seen.add(bytes);
-        let answer = self.feed.feed(bytes);
+        let answer = self.feed.feed(bytes, false);
         self.is_open = goes_on(&answer);
         answer
     }

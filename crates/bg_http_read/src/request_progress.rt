@@ -6,7 +6,7 @@ ghost use Rattle.bg_http_read.specs.Bodies.{KeepsLimit};
 ghost use Rattle.bg_http_read.specs.RefusedHeads.{TellsHead};
 ghost use Rattle.bg_http_read.specs.RequestStates.{IfWhole, is_of_stream};
 ghost use Rattle.bg_http_read.specs.RequestsFed.{Advances, AwaitsHead, IsAt, IsFedBody, IsFedStage};
-ghost use Rattle.bg_http_read.specs.RequestsFed.{IsOpenStage, known_head, stage_seen, was_asked};
+ghost use Rattle.bg_http_read.specs.RequestsFed.{IsOpenStage, LacksHead, known_head, stage_seen, was_asked};
 ghost use Rattle.bg_http_read.specs.Streams.{SeesStraight};
 ghost use Rattle.bg_http.specs.RequestRules.{owes_continue as owed};
 ghost use Rattle.bg_http_read.specs.declared.head_end.HeadEnd.TheVariants as end;
@@ -56,12 +56,21 @@ impl RequestProgress {
     /// The state before the first byte.
     pub(crate) fn new(alloc: Global) -> RequestProgress
         ensures at { IsAt result.stage [] [] }
+        ensures lacks { LacksHead result.stage [] }
         ensures asked { was_asked result.stage ≡ false }
     {
         RequestProgress {
             alloc,
             stage: RequestStage::Head(HeadEnd::Blank),
         }
+    }
+
+    /// Begins a request of which these bytes wait.
+    pub(crate) fn begin_with(&mut self, waiting: &[u8])
+        ensures at { IsAt self.new.stage waiting.now waiting.now }
+        ensures asked { was_asked self.new.stage ≡ false }
+    {
+        self.stage = RequestStage::Head(HeadEnd::of(waiting));
     }
 
     /// More bytes wait.
@@ -100,6 +109,7 @@ impl RequestProgress {
             (S.remaining stream.new) }
         ensures kept { Keeps (S.contents stream.old) (S.contents stream.new) }
         ensures at { IsAt self.old.stage [] seen.old.bytes → IsAt self.new.stage [] seen.new.bytes }
+        ensures lacks { LacksHead self.old.stage [] → LacksHead self.new.stage [] }
         ensures asked { was_asked self.new.stage ≡ was_asked self.old.stage }
     {
         match &mut self.stage {

@@ -3,7 +3,7 @@ ghost use Rattle.std.specs.Prelude.{◌≡◌};
 
 use bg_http::Request;
 
-/// The step that the bytes fed to a `RequestParser` lead to.
+/// The step that the bytes fed to a `RequestParser` or a `RequestStream` lead to.
 #[derive(Drop)]
 pub enum RequestStep {
     /// More bytes are needed, or the end of the input.
@@ -12,7 +12,7 @@ pub enum RequestStep {
     /// 10.1.1). The body was not parsed yet. After the caller has written the interim response, it
     /// feeds the parser again; an empty slice is fine.
     Continue,
-    /// The request is complete. Bytes after it are dropped.
+    /// The request is complete. A `RequestParser` drops bytes after it; in a `RequestStream` they wait.
     Whole(Request),
 }
 

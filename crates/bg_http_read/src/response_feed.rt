@@ -5,13 +5,14 @@ ghost use Rattle.bg_http.specs.declared.request.Request.{Request as RequestValue
 ghost use Rattle.bg_http.specs.declared.response_fault.ResponseFault.TheVariants as response_fault;
 ghost use Rattle.bg_http_read.specs.Responses.{ReadsResponse, ResponseFails};
 ghost use Rattle.bg_http_read.specs.ResponsesFed.{IsFed, IsOpen};
-ghost use Rattle.bg_http_read.specs.ResponseStates.{IsRead};
+ghost use Rattle.bg_http_read.specs.ResponseStates.{IsReceived};
 ghost use Rattle.bg_http_read.specs.ResponsesFed.{IsOpenStage, IsSeen};
 ghost use Rattle.bg_http_read.specs.ResponseStates.{IsRefused, NeedsMore, is_of_stream};
 ghost use Rattle.bg_http_read.specs.Streams.{SeesStraight, waiting};
 
 use crate::arrival::Straight;
 use crate::intake::{Intake, behind};
+use crate::received_response::ReceivedResponse;
 use crate::response_progress::{Advance, ResponseProgress};
 use crate::seen::Seen;
 use bg_http::{Duplex, Request, Response, ResponseFault};
@@ -40,11 +41,11 @@ impl<'a> ResponseFeed<'a> {
 
     /// Adds bytes of the input, and gives the response if it is complete; `None` if more bytes or
     /// the end of the input are needed.
-    pub(crate) fn feed(&mut self, bytes: &[u8]) -> Result<Option<Response>, ResponseFault>
+    pub(crate) fn feed(&mut self, bytes: &[u8]) -> Result<Option<ReceivedResponse>, ResponseFault>
         requires { IsOpen self.old }
         ensures response { (request : RequestValue) (seen : List ℕ) → IsFed self.old request seen
-            → IfOk result (λ found. IfSome found (λ response.
-            IsRead request response (seen ++ bytes.now))) }
+            → IfOk result (λ found. IfSome found (λ received.
+            IsReceived request received (seen ++ bytes.now))) }
         ensures none_yet { (request : RequestValue) (seen : List ℕ) → IsFed self.old request seen
             → IfOk result (λ found. IfNone found
             (IsFed self.new request (seen ++ bytes.now) × NeedsMore request (seen ++ bytes.now))) }
@@ -91,12 +92,12 @@ impl<'a> ResponseFeed<'a> {
     }
 
     /// Adds bytes when none wait, so that the bytes that can be taken are not copied a second time.
-    fn feed_first(&mut self, bytes: &[u8]) -> Result<Option<Response>, ResponseFault>
+    fn feed_first(&mut self, bytes: &[u8]) -> Result<Option<ReceivedResponse>, ResponseFault>
         requires goes_on { IsOpen self.old }
         requires empty { waiting self.old.intake ≡ [] }
         ensures response { (request : RequestValue) (seen : List ℕ) → IsFed self.old request seen
-            → IfOk result (λ found. IfSome found (λ response.
-            IsRead request response (seen ++ bytes.now))) }
+            → IfOk result (λ found. IfSome found (λ received.
+            IsReceived request received (seen ++ bytes.now))) }
         ensures none_yet { (request : RequestValue) (seen : List ℕ) → IsFed self.old request seen
             → IfOk result (λ found. IfNone found
             (IsFed self.new request (seen ++ bytes.now) × NeedsMore request (seen ++ bytes.now))) }
@@ -107,7 +108,10 @@ impl<'a> ResponseFeed<'a> {
     {
         let Advance { response, taken } = self.progress.advance(bytes)?;
         match response {
-            Some(response) => Ok(Some(response)),
+            Some(response) => Ok(Some(ReceivedResponse {
+                response,
+                is_drained: taken == bytes.len(),
+            })),
             None => match self.intake.add(behind(bytes, taken)) {
                 Ok(()) => Ok(None),
                 Err(_) => Err(ResponseFault::OutOfMemory),
@@ -116,12 +120,13 @@ impl<'a> ResponseFeed<'a> {
     }
 
     /// Parses the waiting bytes, to which `bytes` were added, if that is due.
-    fn look(&mut self, bytes: &[u8]) -> Result<Option<Response>, ResponseFault>
+    fn look(&mut self, bytes: &[u8]) -> Result<Option<ReceivedResponse>, ResponseFault>
         requires goes_on { IsOpenStage self.old.progress.stage }
         requires seen { (before : List ℕ) × IsSeen self.old.progress.stage before
             × (waiting self.old.intake ≡ before ++ bytes.now) }
         ensures response { (request : RequestValue) (seen : List ℕ) → IsFed self.old request seen
-            → IfOk result (λ found. IfSome found (λ response. IsRead request response seen)) }
+            → IfOk result (λ found. IfSome found (λ received.
+            IsReceived request received seen)) }
         ensures none_yet { (request : RequestValue) (seen : List ℕ) → IsFed self.old request seen
             → IfOk result (λ found. IfNone found
             (IsFed self.new request seen × NeedsMore request seen)) }
@@ -136,7 +141,13 @@ impl<'a> ResponseFeed<'a> {
         }
         let Advance { response, taken } = self.progress.advance(self.intake.get())?;
         self.intake.skip(taken);
-        Ok(response)
+        match response {
+            Some(response) => Ok(Some(ReceivedResponse {
+                response,
+                is_drained: self.intake.is_empty(),
+            })),
+            None => Ok(None),
+        }
     }
 
     /// The response in an input that ends here. Nothing more is fed.

@@ -4,11 +4,13 @@ ghost use Rattle.std.specs.Prelude.{List, ℕ, length};
 ghost use Rattle.std.specs.Io.KnownBytes.{Keeps};
 ghost use Rattle.bg_http.specs.declared.response_fault.ResponseFault.TheVariants as response_fault;
 ghost use Rattle.bg_http_read.specs.Responses.{ReadsResponse, ResponseFails};
-ghost use Rattle.bg_http_read.specs.ResponseStates.{IsRead, IsRefused, NeedsMore, asks_more, is_of_stream};
+ghost use Rattle.bg_http_read.specs.ResponseStates.{IsRead, IsReceived, IsRefused, NeedsMore};
+ghost use Rattle.bg_http_read.specs.ResponseStates.{asks_more, is_of_stream};
 ghost use Rattle.bg_http_read.specs.Streams.{Arrives};
 
 use crate::arrival::{Arrival, Straight};
 use crate::intake::read_line_piece;
+use crate::received_response::ReceivedResponse;
 use crate::response_feed::ResponseFeed;
 use crate::seen::Seen;
 use bg_http::{Duplex, Request, Response, ResponseFault};
@@ -35,7 +37,7 @@ impl Drop for ResponseParser<'_> {
 }
 
 /// Whether the parser has given neither a response nor a fault.
-fn asks_more(answer: &Result<Option<Response>, ResponseFault>) -> bool
+fn asks_more(answer: &Result<Option<ReceivedResponse>, ResponseFault>) -> bool
     ensures { result ≡ asks_more answer.now }
 {
     match answer {
@@ -86,6 +88,25 @@ impl<'a> ResponseParser<'a> {
         requires { IsTrue self.old.is_open }
         ensures response { IfOk result (λ found. IfSome found (λ response.
             IsRead self.old.request response (self.old.seen ++ bytes.now))) }
+        ensures none_yet { IfOk result (λ found. IfNone found
+            ((self.new ≡ record self.old { seen = self.old.seen ++ bytes.now })
+            × NeedsMore self.old.request (self.old.seen ++ bytes.now))) }
+        ensures refused { IfErr result (λ fault.
+            IsRefused self.old.request fault (self.old.seen ++ bytes.now)) }
+        ensures fault { IfErr result (λ fault. IsFalse (is_of_stream fault)) }
+        ensures goes_on { self.new.is_open ≡ asks_more result }
+    {
+        match self.receive(bytes)? {
+            Some(received) => Ok(Some(received.response)),
+            None => Ok(None),
+        }
+    }
+
+    /// As `feed`, and tells whether bytes came behind the response.
+    pub fn receive(&mut self, bytes: &[u8]) -> Result<Option<ReceivedResponse>, ResponseFault>
+        requires { IsTrue self.old.is_open }
+        ensures response { IfOk result (λ found. IfSome found (λ received.
+            IsReceived self.old.request received (self.old.seen ++ bytes.now))) }
         ensures none_yet { IfOk result (λ found. IfNone found
             ((self.new ≡ record self.old { seen = self.old.seen ++ bytes.now })
             × NeedsMore self.old.request (self.old.seen ++ bytes.now))) }

@@ -8,7 +8,7 @@ pub returns-in-Ok-clause-answer : goal.returns-in-Ok-clause-answer
 returns-in-Ok-clause-answer c seen fed =
     let old = c.args.self.now in
     let bytes = c.args.bytes.now in
-    c.look.ensures.answer (waiting old.intake) (seen ++ bytes) fed.sees c.in-Ok.ensures.added
+    c.look.ensures.answer c.args.keeps_rest (waiting old.intake) (seen ++ bytes) fed.sees c.in-Ok.ensures.added
     (fed_added old.progress.stage (waiting old.intake) (waiting c.add.new.self) seen bytes fed.fed c.in-Ok.ensures.added)
 
 pub returns-in-Err-clause-answer : goal.returns-in-Err-clause-answer

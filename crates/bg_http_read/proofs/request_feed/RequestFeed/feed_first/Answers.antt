@@ -10,17 +10,17 @@ pub returns-in_err-step-clause-answer : goal.returns-in_err-step-clause-answer
 returns-in_err-step-clause-answer c seen fed =
     let old = c.args.self.now in
     let bytes = c.args.bytes.now in
-    fed_err _ (seen ++ bytes) _ _ c.in_err-step.field-0.0 c.from_residual.ensures.1
+    fed_err _ _ (seen ++ bytes) _ _ c.in_err-step.field-0.0 c.from_residual.ensures.1
     (c.in_err-step.ensures.answer (seen ++ bytes)
     (fed_first old.progress.stage (waiting old.intake) seen bytes fed.fed c.requires.empty))
 
-pub returns-then-is_whole-clause-answer : goal.returns-then-is_whole-clause-answer
-returns-then-is_whole-clause-answer c seen fed =
+pub returns-then-not-keeps_rest-clause-answer : goal.returns-then-not-keeps_rest-clause-answer
+returns-then-not-keeps_rest-clause-answer c seen fed =
     let old = c.args.self.now in
     let bytes = c.args.bytes.now in
-    advanced_whole old.progress.stage (seen ++ bytes) (drop c.in_ok-step.field-0.taken bytes) c.in_ok-step.field-0.step
+    advanced_whole c.args.keeps_rest old.progress.stage (seen ++ bytes) (drop c.in_ok-step.field-0.taken bytes) c.in_ok-step.field-0.step
     (record { intake = old.intake; progress = c.advance.new.self }) c.advance.new.self.stage
-    (sym c.is_whole.ensures ∙ c.if-is_whole.true)
+    (sym c.is_whole.ensures ∙ c.if-is_whole.true) c.if-not-keeps_rest.true
     (c.in_ok-step.ensures.answer (seen ++ bytes)
     (fed_first old.progress.stage (waiting old.intake) seen bytes fed.fed c.requires.empty))
 
@@ -28,7 +28,7 @@ pub returns-in-Ok-clause-answer : goal.returns-in-Ok-clause-answer
 returns-in-Ok-clause-answer c seen fed =
     let old = c.args.self.now in
     let bytes = c.args.bytes.now in
-    advanced old.progress.stage (seen ++ bytes) (drop c.in_ok-step.field-0.taken bytes) c.in_ok-step.field-0.step
+    advanced c.args.keeps_rest old.progress.stage (seen ++ bytes) (drop c.in_ok-step.field-0.taken bytes) c.in_ok-step.field-0.step
     (record { intake = c.add.new.self; progress = c.advance.new.self })
     (c.in-Ok.ensures.added ∙ ap (λ l. l ++ c.behind.result.now) c.requires.empty ∙ c.behind.ensures)
     (c.in_ok-step.ensures.answer (seen ++ bytes)
@@ -57,4 +57,4 @@ returns-in-Err-clause-head c seen fed =
     c.in_ok-step.field-0.step
     (c.in_ok-step.ensures.answer (seen ++ bytes)
     (fed_first old.progress.stage (waiting old.intake) seen bytes fed.fed c.requires.empty))
-    (sym c.is_whole.ensures ∙ c.if-is_whole.false)
+    c.in_ok-step.ensures.whole

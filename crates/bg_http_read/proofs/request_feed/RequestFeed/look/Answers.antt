@@ -13,7 +13,7 @@ advance-requires c =
     subst IsOpenStage (sym c.see.ensures) (open_seen old c.args.bytes.now c.requires)
 
 pub returns-then-not-is_due-clause-answer : goal.returns-then-not-is_due-clause-answer
-returns-then-not-is_due-clause-answer c before seen sees is fed =
+returns-then-not-is_due-clause-answer c keeps before seen sees is fed =
     let old = c.args.self.now.progress.stage in
     let bytes = c.args.bytes.now in
     let waits = waiting c.args.self.now.intake in
@@ -26,29 +26,29 @@ returns-then-not-is_due-clause-answer c before seen sees is fed =
         fed = stage;
         ready = subst IsOpenStage (sym c.see.ensures) (open_seen old bytes c.requires);
         sees = behind;
-        lacks = more.1;
       },
+      more.1,
       ap was_asked c.see.ensures ∙ asked_seen old bytes,
     )
 
 pub returns-in_err-step-clause-answer : goal.returns-in_err-step-clause-answer
-returns-in_err-step-clause-answer c before seen sees is fed =
+returns-in_err-step-clause-answer c keeps before seen sees is fed =
     let old = c.args.self.now.progress.stage in
     let waits = waiting c.args.self.now.intake in
     let stage = subst (λ s. IsFedStage s waits seen) (sym c.see.ensures) (fed_seen old waits seen c.args.bytes.now fed) in
-    fed_asked _ _ seen _ _ (ap was_asked c.see.ensures ∙ asked_seen old c.args.bytes.now)
-    (fed_err (was_asked c.see.new.self.stage) seen _ _ c.in_err-step.field-0.0 c.from_residual.ensures.1
+    fed_asked keeps _ _ seen _ _ (ap was_asked c.see.ensures ∙ asked_seen old c.args.bytes.now)
+    (fed_err keeps (was_asked c.see.new.self.stage) seen _ _ c.in_err-step.field-0.0 c.from_residual.ensures.1
     (c.in_err-step.ensures.answer seen (subst (λ w. IsFedStage c.see.new.self.stage w seen) (sym c.get-2.ensures) stage)))
 
 pub returns-clause-answer : goal.returns-clause-answer
-returns-clause-answer c before seen sees is fed =
+returns-clause-answer c keeps before seen sees is fed =
     let old = c.args.self.now.progress.stage in
     let waits = waiting c.args.self.now.intake in
     let stage = subst (λ s. IsFedStage s waits seen) (sym c.see.ensures) (fed_seen old waits seen c.args.bytes.now fed) in
     let now : RequestFeed = record { intake = c.skip.new.self; progress = c.advance.new.self } in
     let at = c.in_ok-step.field-0.step in
-    fed_asked _ _ seen (Ok at) now (ap was_asked c.see.ensures ∙ asked_seen old c.args.bytes.now)
-    (advanced c.see.new.self.stage seen (drop c.in_ok-step.field-0.taken c.get-2.result.now) at now
+    fed_asked keeps _ _ seen (Ok at) now (ap was_asked c.see.ensures ∙ asked_seen old c.args.bytes.now)
+    (advanced keeps c.see.new.self.stage seen (drop c.in_ok-step.field-0.taken c.get-2.result.now) at now
     (c.skip.ensures ∙ ap (drop c.in_ok-step.field-0.taken) (sym c.get-2.ensures))
     (c.in_ok-step.ensures.answer seen (subst (λ w. IsFedStage c.see.new.self.stage w seen) (sym c.get-2.ensures) stage)))
 

@@ -1,6 +1,6 @@
 use Rattle.std.proofs.Common.{drop, subst, sym, ◌∙◌}
 use Rattle.std.proofs.lemmas.List.{drop-drop}
-use Rattle.bg_http_read.specs.RequestStates.{IsRefusedAsked}
+use Rattle.bg_http_read.specs.RequestStates.{IsReadThen, IsRefusedAsked}
 use Rattle.bg_http_read.specs.RequestsFed.{IsFedBody, was_asked}
 use Rattle.bg_http_read.proofs.FedRequests.{fed_cannot_end, fed_cut_off, fed_refused, fed_taken, fed_whole}
 use Rattle.bg_http_read.proofs.request_progress.RequestProgress.advance_body.Goals as goal
@@ -17,8 +17,9 @@ returns-then-is_whole-clause-answer c old seen owes fed =
     let count = c.in-Ok.count in
     let next = fed_taken c.args.part c.take_from.new.self waits (drop count waits) seen fed
     (rw c.behind.ensures at c.in-Ok.ensures.taken) c.take_from.ensures.limit in
-    fed_whole (record c.args.part { body = c.take_from.new.self }) (drop count waits) seen c.into_request.result (was_asked old)
-    next c.take_from.ensures.within c.into_request.ensures (sym c.is_whole.ensures ∙ c.if-is_whole.true) owes
+    subst (IsReadThen (was_asked old) c.into_request.result seen) (drop-drop count c.args.at c.args.bytes.now)
+    (fed_whole (record c.args.part { body = c.take_from.new.self }) (drop count waits) seen c.into_request.result (was_asked old)
+    next c.take_from.ensures.within c.into_request.ensures (sym c.is_whole.ensures ∙ c.if-is_whole.true) owes)
 
 pub returns-clause-answer : goal.returns-clause-answer
 returns-clause-answer c old seen owes fed =
@@ -36,7 +37,7 @@ returns-clause-answer c old seen owes fed =
         fed = subst (λ l. IsFedBody part l seen) left next;
         ready = c.take_from.ensures.within;
         sees = tt;
-        lacks = tt;
       },
+      tt,
       owes,
     )

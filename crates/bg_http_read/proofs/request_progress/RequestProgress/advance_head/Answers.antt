@@ -59,8 +59,8 @@ returns-then-owes_continue-clause-answer c =
         fed = fed;
         ready = body_starts c.in-Ok.framing c.in-Ok-new.part.body c.in-Ok-new.ensures.body;
         sees = tt;
-        lacks = tt;
       },
+      tt,
       owed,
     )
 

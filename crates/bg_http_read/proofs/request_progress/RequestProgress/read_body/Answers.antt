@@ -12,5 +12,4 @@ returns-in-Body-clause-at g c at =
           (subst (λ s. IsFedStage s [] seen) c.in-Body.is at.fed) came.1 came.2 c.read_from.ensures.limit;
       ready = c.read_from.ensures.within;
       sees = tt;
-      lacks = tt;
     }

@@ -16,4 +16,4 @@ pub returns-in-Some-clause-response : goal.returns-in-Some-clause-response
 returns-in-Some-clause-response c request seen fed =
     let waits = subst (λ w. IsFedStage request c.args.self.now.progress.stage w seen) (sym c.get.ensures) fed.stage_is in
     let answer = rw c.in-Some.is at c.in_ok-response.ensures.answer request seen fed.request_is waits in
-    read_here request c.in-Some.response seen answer
+    read_here request c.in-Some.response seen _ answer

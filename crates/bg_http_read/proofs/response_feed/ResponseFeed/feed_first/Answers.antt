@@ -3,6 +3,7 @@ use Rattle.bg_http_read.specs.ResponsesFed.{IsFedStage, IsSeen}
 use Rattle.bg_http_read.specs.ResponseStates.{IsRefused}
 use Rattle.bg_http_read.specs.Streams.{waiting}
 use Rattle.bg_http_read.proofs.FedResponses.{fed_first, fed_needs_more}
+use Rattle.bg_http_read.proofs.ResponseSteps.{drained}
 use Rattle.bg_http_read.proofs.StreamFaults.{if_err_is}
 use Rattle.bg_http_read.proofs.InterimTaken.{memory_refuses}
 use Rattle.bg_http_read.proofs.response_feed.ResponseFeed.feed_first.Goals as goal
@@ -20,8 +21,12 @@ pub returns-in-Some-clause-response : goal.returns-in-Some-clause-response
 returns-in-Some-clause-response c request seen fed =
     let old = c.args.self.now in
     let bytes = c.args.bytes.now in
-    rw c.in-Some.is at c.in_ok-response.ensures.answer request (seen ++ bytes) fed.request_is
-    (fed_first request old.progress.stage (waiting old.intake) seen bytes fed.stage_is c.requires.empty)
+    let taken = c.in_ok-response.field-0.taken in (
+      drop taken bytes,
+      rw c.in-Some.is at c.in_ok-response.ensures.answer request (seen ++ bytes) fed.request_is
+          (fed_first request old.progress.stage (waiting old.intake) seen bytes fed.stage_is c.requires.empty),
+      drained taken bytes c.in_ok-response.ensures.fits,
+    )
 
 pub returns-in-Ok-clause-none_yet : goal.returns-in-Ok-clause-none_yet
 returns-in-Ok-clause-none_yet c request seen fed =

@@ -1,9 +1,10 @@
 use Rattle.std.proofs.Common.{drop, ap, subst, sym, ◌∙◌}
+use Rattle.bg_http.specs.Codings.{is_empty}
 use Rattle.bg_http_read.specs.ResponsesFed.{AwaitsHead, IsFedStage, IsOpenStage, IsSeen, stage_seen}
 use Rattle.bg_http_read.specs.ResponseStates.{IsRefused}
 use Rattle.bg_http_read.specs.Streams.{waiting}
 use Rattle.bg_http_read.proofs.FedResponses.{awaits_more, fed_seen, open_seen, seen_behind}
-use Rattle.bg_http_read.proofs.ResponseSteps.{advanced_none_at, advanced_open, advanced_response}
+use Rattle.bg_http_read.proofs.ResponseSteps.{advanced_none_at, advanced_open}
 use Rattle.bg_http_read.proofs.StreamFaults.{if_err_is}
 use Rattle.bg_http_read.proofs.response_feed.ResponseFeed.look.Goals as goal
 
@@ -49,33 +50,39 @@ returns-in_err-response-clause-refused c request seen fed =
     (c.in_err-response.ensures.answer request seen (c.see.ensures.request ∙ fed.request_is)
     (subst (λ w. IsFedStage request c.see.new.self.stage w seen) (sym c.get-2.ensures) stage))
 
-pub returns-clause-response : goal.returns-clause-response
-returns-clause-response c request seen fed =
+pub returns-in-Some-clause-response : goal.returns-in-Some-clause-response
+returns-in-Some-clause-response c request seen fed =
     let old = c.args.self.now.progress.stage in
     let waits = waiting c.args.self.now.intake in
     let stage = subst (λ t. IsFedStage request t waits seen) (sym c.see.ensures.stage)
     (fed_seen request old waits seen c.args.bytes.now fed.stage_is) in
-    advanced_response request seen _ c.advance.new.self.stage c.in_ok-response.field-0.response
-    (c.in_ok-response.ensures.answer request seen (c.see.ensures.request ∙ fed.request_is)
-    (subst (λ w. IsFedStage request c.see.new.self.stage w seen) (sym c.get-2.ensures) stage))
+    let taken = c.in_ok-response.field-0.taken in
+    let left = c.skip.ensures ∙ ap (drop taken) (sym c.get-2.ensures) in (
+      drop taken c.get-2.result.now,
+      rw c.in-Some.is at c.in_ok-response.ensures.answer request seen (c.see.ensures.request ∙ fed.request_is)
+          (subst (λ w. IsFedStage request c.see.new.self.stage w seen) (sym c.get-2.ensures) stage),
+      c.is_empty.ensures.told ∙ ap is_empty left,
+    )
 
-pub returns-clause-none_yet : goal.returns-clause-none_yet
-returns-clause-none_yet c request seen fed =
+pub returns-in-None-clause-none_yet : goal.returns-in-None-clause-none_yet
+returns-in-None-clause-none_yet c request seen fed =
     let old = c.args.self.now.progress.stage in
     let waits = waiting c.args.self.now.intake in
     let stage = subst (λ t. IsFedStage request t waits seen) (sym c.see.ensures.stage)
     (fed_seen request old waits seen c.args.bytes.now fed.stage_is) in
     let left = c.skip.ensures ∙ ap (drop c.in_ok-response.field-0.taken) (sym c.get-2.ensures) in
-    advanced_none_at request seen (drop c.in_ok-response.field-0.taken c.get-2.result.now)
+    let none_yet = advanced_none_at request seen (drop c.in_ok-response.field-0.taken c.get-2.result.now)
     (record { intake = c.skip.new.self; progress = c.advance.new.self }) c.in_ok-response.field-0.response
     (c.advance.ensures.request ∙ c.see.ensures.request ∙ fed.request_is)
     (c.in_ok-response.ensures.answer request seen (c.see.ensures.request ∙ fed.request_is)
     (subst (λ w. IsFedStage request c.see.new.self.stage w seen) (sym c.get-2.ensures) stage))
-    c.in_ok-response.ensures.goes_on left
+    c.in_ok-response.ensures.goes_on left in
+    rw c.in-None.is at none_yet
 
-pub returns-clause-goes_on : goal.returns-clause-goes_on
-returns-clause-goes_on c =
+pub returns-in-None-clause-goes_on : goal.returns-in-None-clause-goes_on
+returns-in-None-clause-goes_on c =
     let left = c.skip.ensures ∙ ap (drop c.in_ok-response.field-0.taken) (sym c.get-2.ensures) in
-    advanced_open (drop c.in_ok-response.field-0.taken c.get-2.result.now)
+    let goes_on = advanced_open (drop c.in_ok-response.field-0.taken c.get-2.result.now)
     (record { intake = c.skip.new.self; progress = c.advance.new.self }) c.in_ok-response.field-0.response
-    c.in_ok-response.ensures.goes_on c.in_ok-response.ensures.sees left
+    c.in_ok-response.ensures.goes_on c.in_ok-response.ensures.sees left in
+    rw c.in-None.is at goes_on

@@ -1,6 +1,7 @@
 use Rattle.std.proofs.Common.{drop, subst, sym, ◌∙◌}
 use Rattle.std.proofs.lemmas.List.{drop-drop}
 use Rattle.bg_http_read.specs.MessageFaults.{as_response}
+use Rattle.bg_http_read.specs.ResponseStates.{IsReadThen}
 use Rattle.bg_http_read.specs.ResponsesFed.{IsFedBody}
 use Rattle.bg_http_read.proofs.FedResponses.{fed_cut_off, fed_refused, fed_taken, fed_whole}
 use Rattle.bg_http_read.proofs.ResponseSteps.{advances_err}
@@ -40,8 +41,9 @@ returns-in-Ok-clause-answer c request seen same fed =
     let count = c.in_ok-taken.field-0 in
     let next = fed_taken request c.args.part c.take_from.new.self waits (drop count waits) seen fed
     (rw c.behind.ensures at c.in_ok-taken.ensures.taken) c.take_from.ensures.limit in
-    fed_whole request (record c.args.part { body = c.take_from.new.self }) (drop count waits) seen c.in-Ok.response
-    next c.take_from.ensures.within c.in-Ok.ensures (sym c.is_whole.ensures ∙ c.if-not-is_whole.false)
+    subst (IsReadThen request c.in-Ok.response seen) (drop-drop count c.args.at c.args.bytes.now)
+    (fed_whole request (record c.args.part { body = c.take_from.new.self }) (drop count waits) seen c.in-Ok.response
+    next c.take_from.ensures.within c.in-Ok.ensures (sym c.is_whole.ensures ∙ c.if-not-is_whole.false))
 
 pub returns-in-Err-clause-answer : goal.returns-in-Err-clause-answer
 returns-in-Err-clause-answer c request seen same fed = memory_refuses request seen

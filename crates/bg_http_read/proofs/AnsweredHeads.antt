@@ -1,0 +1,154 @@
+-- The head of an answer is read as it was written.
+use Rattle.std.proofs.Common.{◌≡◌, ℕ, ◌<◌, ◌≤◌, Bool, true, false, not, ◌==◌, List, [], ◌∷◌, ◌++◌, length, map, refl, ap, ap₂, sym, ◌∙◌, arith, append_assoc, Option, Some, None}
+use Rattle.std.specs.Prelude.{codes, flat_map, All, ⊤}
+use Rattle.std.specs.Char.{is_ascii_digit}
+use Rattle.std.specs.Fmt.{decimal}
+use Rattle.std.specs.Str.Parse.{AllDigits, digits_value}
+use Rattle.std.proofs.lemmas.Grind.{flat_map-append}
+use Rattle.std.proofs.lemmas.List.{append-nil}
+use Rattle.std.proofs.lemmas.List.Elements.{All-append, All-filter}
+use Rattle.httparse.specs.Ascii.{crlf_bytes}
+use Rattle.httparse.specs.Grammar as grammar
+use Rattle.httparse.specs.Grammar.{AllPass, crlf, is_value_byte, print_field, print_response}
+use Rattle.bg_http.specs.Elements.{Field}
+use Rattle.bg_http.specs.Removed.{is_removed, kept_in_response}
+use Rattle.bg_http.specs.ResponseRules.{digits_or_zero, has_no_body, is_bad_code, is_interim}
+use Rattle.bg_http.specs.Lengths.{without_zeros}
+use Rattle.bg_http.specs.Texts.{body_sent, field_line, length_line, status_line}
+use Rattle.bg_http.specs.declared.request.Request.{Request}
+use Rattle.bg_http.specs.declared.response.Response.{Response}
+use Rattle.bg_http.specs.declared.response.ResponseHead.{ResponseHead}
+use Rattle.bg_http_read.specs.AnsweredRequests.{kept_response_text, length_fields}
+use Rattle.bg_http_read.specs.ForwardedRequests.{closing_fields}
+use Rattle.bg_http_read.specs.ResponseHeads.{response_parts}
+use Rattle.bg_http_read.specs.Responses.{most_response_body}
+use Rattle.bg_http_read.proofs.FieldTexts.{IsGood, as_field, good_closing, good_length, goods_are_fields, goods_are_read, lines_are, nothing_good, one_good}
+use Rattle.bg_http_read.proofs.ForwardedHeads.{end_is, end_of}
+
+-- the length is a number
+abbrev pub IsNumber : Option (List ℕ) → Type 0
+IsNumber None = ⊤
+IsNumber (Some digits) = (0 < length digits) × AllDigits 10 digits
+
+-- the length is written as it is read
+abbrev pub IsTold : Option (List ℕ) → Type 0
+IsTold None = ⊤
+IsTold (Some digits) = digits_or_zero (without_zeros digits) ≡ digits
+
+-- a response that is read as it is written
+pub record IsWritable (request : Request) (response : Response) : Type 0 where
+  pub digits : (length (decimal response.code) ≡ 3) × AllPass is_ascii_digit (decimal response.code)
+  pub value : digits_value 10 (decimal response.code) ≡ response.code
+  pub reason : AllPass is_value_byte response.reason
+  pub fields : All IsGood response.fields
+  pub sound : is_bad_code response.code ≡ false
+  pub final : is_interim response.code ≡ false
+  pub number : IsNumber response.length
+  pub empty : has_no_body request response.code ≡ true → response.body ≡ []
+  pub told : has_no_body request response.code ≡ true → IsTold response.length
+  pub untold : (response.code == 204) ≡ true → response.length ≡ None
+  pub sized : has_no_body request response.code ≡ false
+      → (response.length ≡ Some (decimal (length response.body)))
+      × (length response.body ≤ most_response_body)
+
+abbrev pub fields_of : Bool → Response → List Field
+fields_of keeps response =
+    kept_in_response response.fields ++ (length_fields response.length ++ closing_fields keeps)
+
+good_given : (given : Option (List ℕ)) → IsNumber given → All IsGood (length_fields given)
+good_given None h = nothing_good
+good_given (Some digits) h = one_good (codes "Content-Length", digits) (good_length digits h.1)
+
+good_fields : (keeps : Bool) (request : Request) (response : Response) → IsWritable request response
+    → All IsGood (fields_of keeps response)
+good_fields keeps request response w =
+    All-append IsGood (kept_in_response response.fields) _
+    (All-filter (λ field. not (is_removed response.fields field)) IsGood response.fields w.fields)
+    (All-append IsGood (length_fields response.length) _ (good_given response.length w.number) (good_closing keeps))
+
+given_is : (given : Option (List ℕ)) → flat_map field_line (length_fields given) ≡ length_line given
+given_is None = refl
+given_is (Some digits) = append-nil (field_line (codes "Content-Length", digits))
+
+fields_text : (keeps : Bool) (response : Response)
+    → flat_map print_field (map as_field (fields_of keeps response))
+    ≡ flat_map field_line (kept_in_response response.fields)
+    ++ (length_line response.length ++ flat_map field_line (closing_fields keeps))
+fields_text keeps response =
+    lines_are (fields_of keeps response)
+    ∙ flat_map-append field_line (kept_in_response response.fields) _
+    ∙ ap (λ l. flat_map field_line (kept_in_response response.fields) ++ l)
+    (flat_map-append field_line (length_fields response.length) (closing_fields keeps)
+    ∙ ap (λ l. l ++ flat_map field_line (closing_fields keeps)) (given_is response.length))
+
+abbrev pub tree_of : Bool → Response → grammar.ResponseHead
+tree_of keeps response = record {
+  blank = [];
+  minor = 1;
+  digits = decimal response.code;
+  reason = Some response.reason;
+  line_end = crlf;
+  fields = map as_field (fields_of keeps response);
+  last = crlf;
+}
+
+regroup_of : (a s d r e k l c b : List ℕ)
+    → (a ++ s ++ d ++ s ++ r ++ e) ++ k ++ l ++ (c ++ e) ++ b
+    ≡ a ++ (s ++ d) ++ (s ++ r) ++ e ++ ((k ++ (l ++ c)) ++ e) ++ b
+regroup_of a s d r e k l c b = simp append_assoc
+
+text_ends : (keeps : Bool) (request : Request) (response : Response)
+    → kept_response_text keeps request response
+    ≡ status_line response ++ flat_map field_line (kept_in_response response.fields)
+    ++ length_line response.length ++ end_of keeps ++ body_sent request response
+text_ends true request response = refl
+text_ends false request response = refl
+
+text_is : (keeps : Bool) (request : Request) (response : Response)
+    → kept_response_text keeps request response
+    ≡ print_response (tree_of keeps response) ++ body_sent request response
+unfolding print_response
+text_is keeps request response =
+    text_ends keeps request response
+    ∙ ap (λ e. status_line response ++ flat_map field_line (kept_in_response response.fields)
+    ++ length_line response.length ++ e ++ body_sent request response) (sym (end_is keeps))
+    ∙ regroup_of (codes "HTTP/1.1") (32 ∷ []) (decimal response.code) response.reason crlf_bytes
+    (flat_map field_line (kept_in_response response.fields)) (length_line response.length)
+    (flat_map field_line (closing_fields keeps)) (body_sent request response)
+    ∙ ap (λ l. codes "HTTP/1.1" ++ 32 ∷ decimal response.code ++ 32 ∷ response.reason ++ crlf_bytes ++ (l ++ crlf_bytes) ++ body_sent request response)
+    (sym (fields_text keeps response))
+
+-- the head that is written
+abbrev pub answered_head : Bool → Response → ResponseHead
+answered_head keeps response = record {
+  minor = 1;
+  code = response.code;
+  reason = response.reason;
+  fields = fields_of keeps response;
+}
+
+-- whatever follows an answer, its text begins with this head, behind which is its body
+pub one_head_is_answered : (keeps : Bool) (request : Request) (response : Response) (more : List ℕ)
+    → IsWritable request response
+    → (tree : grammar.ResponseHead)
+    × grammar.ReadsResponse (kept_response_text keeps request response ++ more) tree (body_sent request response ++ more)
+    × (answered_head keeps response ≡ response_parts tree)
+one_head_is_answered keeps request response more w =
+    let goods = good_fields keeps request response w in (
+      tree_of keeps response,
+      (
+        record {
+          minor = omega arith;
+          digits = w.digits;
+          reason = w.reason;
+          fields = goods_are_fields (fields_of keeps response) goods;
+        },
+        ap (λ l. l ++ more) (text_is keeps request response)
+            ∙ append_assoc (print_response (tree_of keeps response)) (body_sent request response) more,
+      ),
+      ap₂ (head_with response) (sym w.value) (sym (goods_are_read (fields_of keeps response) goods)),
+    )
+  where
+    head_with : Response → ℕ → List Field → ResponseHead
+    head_with response code fields =
+        record { minor = 1; code = code; reason = response.reason; fields = fields }

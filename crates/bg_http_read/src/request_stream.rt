@@ -1,0 +1,104 @@
+//! The requests of a connection, one after the other.
+ghost use Rattle.std.specs.Prelude.{◌≡◌, ◌++◌, [], false, true, is_ok, IfErr, IfOk, IsFalse, IsTrue};
+ghost use Rattle.bg_http_read.specs.RequestStates.{IfWhole, IsReadThen, IsRefusedAsked, LacksRequest};
+ghost use Rattle.bg_http_read.specs.RequestStates.{OnContinue, OnMore, OwesContinue, is_of_stream};
+
+use crate::request_feed::RequestFeed;
+use crate::request_step::RequestStep;
+use crate::seen::Seen;
+use bg_http::RequestFault;
+use std::alloc::Global;
+use std::marker::Model;
+
+/// The requests of a connection, one after the other (RFC 9112 section 9.3). It is fed the bytes of
+/// the connection as they arrive. The first request begins at the first byte, and each other one at
+/// the byte after the end of the one before. The requests do not depend on how the bytes are cut into
+/// pieces (`laws::a_stream_gives_the_sequence`).
+pub struct RequestStream {
+    feed: RequestFeed,
+    seen: Seen,
+    is_open: bool,
+}
+
+impl Drop for RequestStream {
+    /// Drops the fields by one call, so that the proofs of what owns a value are short (CONTRIBUTING.md, "What a check costs").
+    fn drop(self) {
+        let RequestStream {
+            feed: _,
+            seen: _,
+            is_open: _,
+        } = self;
+    }
+}
+
+impl Model for RequestStream {
+    ghost use Rattle.std.specs.Prelude.{IsTrue};
+    ghost use Rattle.bg_http_read.specs.RequestsFed.{IsFed, was_asked};
+    ghost use Rattle.bg_http_read.specs.RequestStreams.{StreamState};
+
+    ghost Value = { StreamState };
+
+    ghost view = { λ stream. record {
+      since = stream.seen.bytes;
+      asked = was_asked stream.feed.progress.stage;
+      is_open = stream.is_open;
+    } };
+
+    ghost invariant = { λ stream. IsTrue stream.is_open → IsFed stream.feed stream.seen.bytes };
+}
+
+impl RequestStream {
+    /// A stream before the first byte of its connection.
+    pub fn new(alloc: Global) -> RequestStream
+        ensures { result ≡ record { since = []; asked = false; is_open = true } }
+    {
+        RequestStream {
+            feed: RequestFeed::new(alloc),
+            seen: Seen::new(),
+            is_open: true,
+        }
+    }
+
+    /// Adds bytes of the connection, and gives the step that they lead to, as `RequestParser::feed`
+    /// does. After a request, the bytes behind it wait, and the next call goes on with them; an empty
+    /// slice is fine.
+    ///
+    /// The bytes that wait behind a request are an end of those that came after the stream last asked
+    /// for more (`laws::what_waits_came_since_more`). So a caller that feeds a piece only after `More`
+    /// lets at most the bytes of one piece wait.
+    ///
+    /// The faults are those of `RequestParser::feed`. After a fault, nothing marks where another
+    /// request would begin, so the caller feeds no more.
+    pub fn feed(&mut self, bytes: &[u8]) -> Result<RequestStep, RequestFault>
+        requires { IsTrue self.old.is_open }
+        ensures whole { IfOk result (λ step. IfWhole step (λ request.
+            IsReadThen self.old.asked request (self.old.since ++ bytes.now) self.new.since)) }
+        ensures next { IfOk result (λ step. IfWhole step (λ request. self.new.asked ≡ false)) }
+        ensures owed { IfOk result (λ step. OnContinue step ((self.old.asked ≡ false)
+            × (self.new ≡ record self.old { since = self.old.since ++ bytes.now; asked = true })
+            × OwesContinue (self.old.since ++ bytes.now))) }
+        ensures none_yet { IfOk result (λ step. OnMore step
+            ((self.new ≡ record self.old { since = self.old.since ++ bytes.now })
+            × LacksRequest (self.old.since ++ bytes.now))) }
+        ensures refused { IfErr result (λ fault.
+            IsRefusedAsked self.old.asked fault (self.old.since ++ bytes.now)) }
+        ensures fault { IfErr result (λ fault. IsFalse (is_of_stream fault)) }
+        ensures goes_on { self.new.is_open ≡ is_ok result }
+    {
+        self.seen.add(bytes);
+        match self.feed.feed(bytes, true) {
+            Ok(RequestStep::Whole(request)) => {
+                self.feed.begin_next();
+                self.seen = Seen::new();
+                self.seen.add(self.feed.waiting());
+                Ok(RequestStep::Whole(request))
+            }
+            Ok(RequestStep::Continue) => Ok(RequestStep::Continue),
+            Ok(RequestStep::More) => Ok(RequestStep::More),
+            Err(fault) => {
+                self.is_open = false;
+                Err(fault)
+            }
+        }
+    }
+}
