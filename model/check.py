@@ -56,7 +56,7 @@ class Check:
         ]
 
 
-FORMULAS = {"LTL_4": "rule 4", "LTL_6": "rule 6", "LTL_MISSING": "missing"}
+FORMULAS = {"LTL_4": "rule 4", "LTL_6": "rule 6", "LTL_8": "rule 8", "LTL_MISSING": "missing"}
 NONE = "CRASHES=0 CUTS=0 EXPIRIES=0 FAILURES=0 ABORTS=0"
 ONE = f"NM=2 PLANS=1 {NONE}"
 TWO = f"NM=2 PLANS=2 {NONE}"
@@ -131,6 +131,18 @@ PLANTED = (
         "rule 6",
         formula="LTL_6",
     ),
+    Check(
+        "order-not-compared",
+        f"{bounded(ONE, ABORTS=1)} NO_ORDER_COMPARE",
+        "rule 7",
+        "abort_order!=seen_id",
+    ),
+    Check(
+        "plan-first",
+        f"{bounded(ONE, ABORTS=1, SPOILS=1)} PLAN_FIRST",
+        "rule 8",
+        formula="LTL_8",
+    ),
     Check("strict-rule-2", f"{bounded(ONE, ABORTS=1)} STRICT", "rule 2", "aborted[att[i]]"),
 )
 SMALL = (
@@ -157,6 +169,12 @@ SMALL = (
         f"{bounded(ONE, NM=3, CUTS=1, MAX_MISSING=1)} NEVER_MENDS",
         formula="LTL_MISSING",
     ),
+    Check("small-plan-spoiled", "NM=2 PLANS=2 CRASHES=0 CUTS=0 FAILURES=0 EXPIRIES=0 SPOILS=1"),
+    Check(
+        "small-plan-spoiled-ends",
+        f"{bounded(ONE, CUTS=1, FAILURES=1, ABORTS=1, SPOILS=1)} NEVER_MENDS",
+        formula="LTL_8",
+    ),
     Check("small-back", f"{bounded(ONE, CUTS=2, FAILURES=1)} NEVER_MENDS", formula="LTL_6"),
 )
 LARGE = (
@@ -174,6 +192,12 @@ LARGE = (
         "NM=3 PLANS=1 CRASHES=0 EXPIRIES=0 ABORTS=0 REMOVALS=1 ADDITIONS=1",
     ),
     Check("three-machines-missing", "NM=3 PLANS=1 CRASHES=0 EXPIRIES=0 ABORTS=0 MAX_MISSING=1"),
+    Check("two-machines-plan-spoiled", "NM=2 CRASHES=0 CUTS=0 SPOILS=1"),
+    Check(
+        "two-machines-plan-spoiled-ends",
+        "NM=2 PLANS=1 CRASHES=0 SPOILS=1 NEVER_MENDS",
+        formula="LTL_8",
+    ),
     Check("leader-not-compared-rule-2", "NM=2 CRASHES=0 NO_LEADER_COMPARE RULE=2"),
     Check("agree-two-machines-crash", "NM=2 CUTS=0", formula="LTL_4"),
     Check("agree-two-machines-cut", "NM=2 CRASHES=0", formula="LTL_4"),

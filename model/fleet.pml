@@ -45,6 +45,9 @@
 #ifndef MAX_MISSING     /* members that may be away while the attempt goes on */
 #define MAX_MISSING 0
 #endif
+#ifndef SPOILS          /* values of the plan's key that can't be read; each stands until the next plan is put, if one is */
+#define SPOILS 0
+#endif
 #ifndef BY_HAND         /* 1: `promoting` is written only if a person ordered it for this attempt */
 #define BY_HAND 0
 #endif
@@ -58,6 +61,7 @@
 #define RULE_2(x) assert((x) || (RULE != 0 && RULE != 2))
 #define RULE_3(x) assert((x) || (RULE != 0 && RULE != 3))
 #define RULE_6(x) assert((x) || (RULE != 0 && RULE != 6))
+#define RULE_7(x) assert((x) || (RULE != 0 && RULE != 7))
 
 /* the stages of an attempt */
 #define DEPLOYING 1
@@ -88,6 +92,16 @@
 byte plan = 0;                                   /* its mod revision; plan P names revision P */
 byte id = 0, stage = SUCCESSFUL, stable = 0;     /* the record */
 byte abort_order = 0, promote_order = 0;         /* the attempt that a person's order is for */
+#if SPOILS
+bit spoiled = 0;                                 /* the plan's key has no plan that can be read, or is gone */
+byte spoils = 0;
+byte overdue = 0;                                /* the attempt that was promoting for longer than the plan that it began with allows */
+#define SPOILED spoiled
+#define OVERDUE (stage == PROMOTING && overdue == id)
+#else
+#define SPOILED 0
+#define OVERDUE false
+#endif
 byte rep[NM];                                    /* machines/HOST */
 bit member[NM];
 byte holder = 0, epoch = 0;                      /* the leader's key, and its create revision */
@@ -277,11 +291,17 @@ proctype Machine(byte i) {
 #else
 #define IS_ORDERED (promote_order == id)
 #endif
+#ifdef PLAN_FIRST
+#define IS_DECIDED (!SPOILED)
+#else
+#define IS_DECIDED true
+#endif
 #define IS_OVER (stage == SUCCESSFUL || stage == ABORTED)
-#define WANT (IS_OVER -> (plan != id -> BEGIN : 0) : \
-    ((plan != id || abort_order == id || ANY_FAILED) -> ABORT : \
+#define HAS_OTHER_PLAN (plan != id && !SPOILED)
+#define WANT (!IS_DECIDED -> 0 : (IS_OVER -> (HAS_OTHER_PLAN -> BEGIN : 0) : \
+    ((HAS_OTHER_PLAN || abort_order == id || ANY_FAILED) -> ABORT : \
     ((stage == DEPLOYING && ALL_READY && (!BY_HAND || IS_ORDERED)) -> PROMOTE : \
-    ((stage == PROMOTING && ALL_PASSED) -> SUCCEED : 0))))
+    ((stage == PROMOTING && ALL_PASSED) -> SUCCEED : (OVERDUE -> ABORT : 0))))))
 
 /* what its transaction compares */
 #ifdef NO_LEADER_COMPARE
@@ -297,7 +317,12 @@ proctype Machine(byte i) {
 #ifdef NO_PLAN_COMPARE
 #define SAME_PLAN true
 #else
-#define SAME_PLAN (plan == seen_plan)
+#define SAME_PLAN (plan == seen_plan && SPOILED == seen_spoiled)
+#endif
+#ifdef NO_ORDER_COMPARE
+#define SAME_ORDER true
+#else
+#define SAME_ORDER (aborts == seen_aborts)
 #endif
 #if defined(NO_REPORT_COMPARE) || defined(MAJORITY_READY) || defined(MAJORITY_PASSED) || defined(NO_ATTEMPT_COMPARE)
 #define SAME_REPORTS true
@@ -309,7 +334,7 @@ proctype Machine(byte i) {
 #else
 #define SAME_MEMBERS (additions == seen_additions)
 #endif
-#define UNCHANGED (SAME_ATTEMPT && SAME_PLAN && SAME_REPORTS && SAME_MEMBERS)
+#define UNCHANGED (SAME_ATTEMPT && SAME_PLAN && SAME_REPORTS && SAME_MEMBERS && SAME_ORDER)
 
 /* reports of other attempts decide nothing */
 #if NM == 3
@@ -321,7 +346,8 @@ proctype Machine(byte i) {
 proctype Leader(byte me) {
     byte mine = 0;      /* the create revision of its key */
     bit leads = 0;      /* whether it believes so */
-    byte want = 0, seen_id = 0, seen_stage = 0, seen_plan = 0, seen_additions = 0;
+    byte want = 0, seen_id = 0, seen_stage = 0, seen_plan = 0, seen_additions = 0, seen_aborts = 0;
+    bit seen_spoiled = 0;
     byte counted = 0;   /* the machines whose reports the decision counts, a bit for each */
 #if MAX_MISSING
     byte j;
@@ -330,7 +356,8 @@ proctype Leader(byte me) {
     :: atomic { !leads && holder == 0 && (me == 1 || epoch > 0) -> epoch++; holder = me; mine = epoch; leads = 1 }
     /* one read of all keys, and a decision */
     :: atomic { leads && want == 0 && WANT != 0 ->
-        want = WANT; seen_id = id; seen_stage = stage; seen_plan = plan; seen_additions = additions;
+        want = WANT; seen_id = id; seen_stage = stage; seen_plan = plan; seen_additions = additions; seen_aborts = aborts;
+        seen_spoiled = SPOILED;
         if :: want == PROMOTE || want == SUCCEED -> counted = COUNTED :: else fi }
     /* the transaction */
     :: atomic { want != 0 ->
@@ -355,7 +382,8 @@ proctype Leader(byte me) {
                 RULE_1(LACKING(READY) <= MAX_MISSING);
                 RULE_1(!BY_HAND || ordered[seen_id]);
                 RULE_2(!aborted[seen_id]);
-                RULE_3(plan == seen_id);
+                RULE_3(SPOILED || plan == seen_id);
+                RULE_7(abort_order != seen_id);
 #if MAX_MISSING
                 j = 0;
                 do :: j < NM -> no_vote[j] = member[j] && !(counted & (1 << j)); j++ :: else -> break od;
@@ -365,11 +393,13 @@ proctype Leader(byte me) {
             :: want == SUCCEED ->
                 RULE_2(!aborted[seen_id]);
                 RULE_6(LACKING(OK) <= MAX_MISSING);
+                RULE_7(abort_order != seen_id);
                 id = seen_id; stage = SUCCESSFUL
             :: want == ABORT -> id = seen_id; stage = ABORTED; aborted[seen_id] = 1
             fi
         fi;
-        want = 0; seen_id = 0; seen_stage = 0; seen_plan = 0; seen_additions = 0; counted = 0 }
+        want = 0; seen_id = 0; seen_stage = 0; seen_plan = 0; seen_additions = 0; seen_aborts = 0; seen_spoiled = 0;
+        counted = 0 }
     /* it learns that its lease has ended */
     :: atomic { leads && want == 0 && (holder != me || epoch != mine) -> leads = 0; mine = 0 }
     od
@@ -379,7 +409,13 @@ proctype Leader(byte me) {
 
 proctype World() {
     do
+#if SPOILS
+    :: atomic { plan < PLANS -> plan++; spoiled = 0 }
+    :: atomic { plan > 0 && !spoiled && spoils < SPOILS -> spoils++; spoiled = 1 }
+    :: atomic { stage == PROMOTING && overdue != id -> overdue = id }
+#else
     :: atomic { plan < PLANS -> plan++ }
+#endif
     :: atomic { expiries < EXPIRIES && holder != 0 -> expiries++; holder = 0 }
     :: atomic { aborts < ABORTS && !IS_OVER && abort_order != id -> aborts++; abort_order = id }
 #if BY_HAND
@@ -432,6 +468,9 @@ ltl rule_4 { <>[] AGREE }
 #endif
 #ifdef LTL_MISSING      /* with NEVER_MENDS: the others go on without machine 0 */
 ltl missing { <>[] OTHERS_AGREE }
+#endif
+#ifdef LTL_8            /* whatever the plan's key holds: no attempt stays promoting, and one whose abort was ordered ends */
+ltl rule_8 { <>[] (stage != PROMOTING && (abort_order != id || IS_OVER)) }
 #endif
 #ifdef LTL_6
 ltl rule_6 { <>[] NONE_FAILED }

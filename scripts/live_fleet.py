@@ -1,5 +1,5 @@
 """A fleet of three machines with etcd, nginx and HAProxy, in a session with each kind of fault
-once: what becomes of each attempt, and the six rules of a fleet on what was recorded."""
+once: what becomes of each attempt, and the rules of a fleet on what was recorded."""
 import os
 import pathlib
 import shutil
@@ -10,14 +10,16 @@ import time
 from collections.abc import Callable
 
 from support.checks import COUNTS, check, comes, fail, run_part
-from support.fleet.lab import Lab, missing_programs, name_of
+from support.fleet.etcd_client import EtcdClient
+from support.fleet.lab import FLEET, Lab, missing_programs, name_of
 from support.fleet.recording import Recording
-from support.fleet.rules import broken_rules, figures
+from support.fleet.rules import RULES, broken_rules, figures
 from support.fleet.session import Session
 from support.pace import at_the_limit
 
 LONGEST = 400  # seconds for all of it on a machine that has no other work, where it takes about two minutes
 AWAY = 20.0  # seconds until a lease of 10 seconds has ended, also where etcd has begun it anew
+ANSWERED = 20.0  # seconds in which an order is answered, and an attempt of four seconds ends
 NO_ANSWER = 4  # the exit status of bin/fleet where etcd gives no answer
 PACKAGES = "apt-get install etcd-server haproxy nginx"
 LAST_LINES = 150  # of a log that is shown where a check has failed
@@ -260,7 +262,11 @@ def person_promotes(session: Session) -> None:
 
 def person_aborts(session: Session) -> None:
     session.deploy(17, by_hand=True)
-    check("a person aborts", session.give("abort"), True)
+    run = session.try_once("abort", "--wait", "--timeout", f"{ANSWERED:g}")
+    check("a person aborts", run.status, 0)
+    check(
+        "and is told how the attempt has ended", "web-17: aborted, ordered by" in run.printed, True
+    )
     check_end(session, "a person aborts", 17, "aborted")
 
 
@@ -276,6 +282,29 @@ def undo(session: Session) -> None:
     """The stable revision before is 16: 17 and 18 were aborted."""
     check("a person undoes it", session.give("undo"), True)
     check_end(session, "an undo", 16, "successful")
+
+
+def plan_that_is_none(session: Session) -> None:
+    """What stands is no plan, and then there is none: an attempt ends by its time, and by an
+    order."""
+    client = EtcdClient(session.lab.network, FLEET)
+    with session.lab.held_analysis("b", "post", 21):
+        session.deploy(21, promoting_seconds=4)
+        check("it is promoting", session.is_at(21, "promoting"), True)
+        client.put("plan", "{")
+        ended = session.is_at(21, "aborted", longest=ANSWERED) and session.all_select(session.live)
+        check("an attempt ends by its time while what stands is no plan", ended, True)
+        told = session.try_once("status").printed
+        check("and status tells it", "problem: no attempt begins: the plan is wrong" in told, True)
+    with session.lab.held_analysis("b", "pre", 22):
+        session.deploy(22)
+        client.delete("plan")
+        run = session.try_once("abort", "--wait", "--timeout", f"{ANSWERED:g}")
+        is_told = "web-22: aborted, ordered by" in run.printed
+        check("a person aborts while there is no plan", (run.status, is_told), (0, True))
+    session.put(session.live)
+    settled = session.until(lambda seen: seen.is_settled) and session.all_select(session.live)
+    check("the next plan goes on", settled, True)
 
 
 DRILLS: tuple[Callable[[Session], None], ...] = (
@@ -296,13 +325,14 @@ DRILLS: tuple[Callable[[Session], None], ...] = (
     person_aborts,
     another_plan,
     undo,
+    plan_that_is_none,
 )
 
 
 def check_recording(recording: Recording) -> None:
     """The rules hold, and the recording has what they are judged by."""
     broken = broken_rules(recording)
-    for rule in range(1, 7):
+    for rule in range(1, len(RULES) + 1):
         check(f"rule {rule}", [text for number, text in broken if number == rule], [])
     check(
         "requests were made",

@@ -410,10 +410,8 @@ def strangers_hold_up_nobody() -> None:
         for caller in callers:
             caller.start()
         check("others call", comes(lambda: turned_away(switch) > STRANGERS), True)
-        orders, of_new = ([], []), (
-            [],
-            [],
-        )  # type: tuple[list[float], list[float]], tuple[list[float], list[float]]
+        orders: tuple[list[float], list[float]] = ([], [])
+        of_new: tuple[list[float], list[float]] = ([], [])
         for moment in range(2, 2 + ORDERS):
             for each, operator, waits, waits_of_new in zip(both, operators, orders, of_new):
                 start = time.monotonic()

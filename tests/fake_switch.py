@@ -39,9 +39,8 @@ class FakeBook:
         ] | None = (
             None  # what the line `down` has named; None for a switch that does not know the line
         )
-        self.refusals: dict[
-            str, str
-        ] = {}  # by the first word: what a test wants each line of it to be refused with
+        # by the first word: what a test wants each line of it to be refused with
+        self.refusals: dict[str, str] = {}
         self.active = self.stable = self.newest = 1
 
     def answer(self, line: str) -> Sequence[str] | None:

@@ -8,12 +8,13 @@ import dataclasses
 from unittest import mock
 
 from bg_switch_tools.fleet import leader, next_line
+from bg_switch_tools.fleet.candidate import Candidate
 from bg_switch_tools.fleet.fleet_lines import FleetLines
 from bg_switch_tools.fleet.fleet_plan import FleetPlan
-from bg_switch_tools.fleet.leader import Decision, Votes
+from bg_switch_tools.fleet.leader import Decision, Votes, Waited, Write
 from bg_switch_tools.fleet.machine import Machine
 from bg_switch_tools.fleet.next_line import Known
-from bg_switch_tools.fleet.record import PLAN, Record, View
+from bg_switch_tools.fleet.record import PLAN, MachineReport, Record, View
 from bg_switch_tools.fleet.store import Compare
 from bg_switch_tools.switch.reports import Report
 
@@ -126,3 +127,31 @@ def after_the_end() -> Patch:
         return begin(view, plan, record)
 
     return mock.patch.object(leader, "_begin", again)
+
+
+def silent_about_orders() -> Patch:
+    """A leader that drops orders without a word."""
+
+    def nothing(self: Candidate, write: Write) -> None:
+        return None
+
+    return mock.patch.object(Candidate, "_tell_dropped", nothing)
+
+
+def plan_first() -> Patch:
+    """A leader that decides nothing while what stands is no plan."""
+    decision_of = leader.decision_of
+
+    def or_nothing(view: View, waited: Waited) -> Decision | None:
+        return decision_of(view, waited) if view.standing_plan else None
+
+    return mock.patch.object(leader, "decision_of", or_nothing)
+
+
+def votes_for_any_leader() -> Patch:
+    """A leader that counts reports which were written for the one before."""
+
+    def is_current(self: View, report: MachineReport) -> bool:
+        return True
+
+    return mock.patch.object(View, "is_current", is_current)

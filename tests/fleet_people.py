@@ -144,6 +144,7 @@ class WithFleet(unittest.TestCase):
             "stable": record.fleet_stable.name if record else "web-v1",
             "newest": "web-v2",
             "available": 2,
+            "leader": self.view.leader,
             **values,
         }
         for host in hosts or HOSTS:

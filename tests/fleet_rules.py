@@ -32,16 +32,23 @@ class Selection(NamedTuple):
     revision: str
 
 
+class Said(NamedTuple):
+    """A line of an agent's log, after so many changes of the store."""
+
+    changes: int
+    text: str
+
+
 @dataclasses.dataclass
 class Trace:
     """What a history has left."""
 
     changes: list[Change]
+    said: list[Said] = dataclasses.field(default_factory=list)
     promotes: list[Promote] = dataclasses.field(default_factory=list)
     selections: list[Selection] = dataclasses.field(default_factory=list)
-    broken: list[str] = dataclasses.field(
-        default_factory=list
-    )  # rules 4, 5 and 6, which are looked at as the history goes on
+    # rules 4, 5 and 6, which are looked at as the history goes on
+    broken: list[str] = dataclasses.field(default_factory=list)
 
 
 Told = dict[str, Any]
@@ -58,9 +65,8 @@ class Replay:
     def __init__(self, changes: list[Change]) -> None:
         self.changes = changes
         self.keys: dict[str, Change] = {}
-        self.newest: dict[
-            str, int
-        ] = {}  # by name: the revision of its latest change, also where that was a deletion
+        # by name: the revision of its latest change, also where that was a deletion
+        self.newest: dict[str, int] = {}
 
     def go(self) -> Iterator[Change]:
         for change in self.changes:
@@ -79,9 +85,18 @@ class Replay:
     def members(self) -> list[str]:
         return sorted(name.split("/")[1] for name in self.keys if name.startswith("members/"))
 
-    def max_missing(self) -> int:
-        plan = self.value("plan")
-        most: int = (plan or {}).get("fleet", {}).get("max_missing", 0)
+    def max_missing(self, record: Told) -> int:
+        """By the plan that an attempt began with: the one at the revision that is its id."""
+        text = next(
+            (
+                each.value
+                for each in self.changes
+                if (each.name, each.revision) == ("plan", record["id"])
+            ),
+            None,
+        )
+        plan = json.loads(text) if text else {}
+        most: int = plan.get("fleet", {}).get("max_missing", 0)
         return most
 
 
@@ -98,11 +113,14 @@ def vote_faults(replay: Replay, record: Told) -> Iterator[str]:
             without.add(host)
         elif (report["attempt"], report["state"]) != (record["id"], needed):
             yield f"{host} reports {report['state']} for {report['attempt']}"
+        elif report["leader"] != record["by"]:
+            yield f"the report of {host} is for an earlier leader"
         else:
             count += 1
     without &= set(replay.members())
-    if len(without) > replay.max_missing():
-        yield f"{sorted(without)} have no vote, and at most {replay.max_missing()} may"
+    most = replay.max_missing(record)
+    if len(without) > most:
+        yield f"{sorted(without)} have no vote, and at most {most} may"
     if not count:
         yield "no member has voted"
 
@@ -153,6 +171,41 @@ def broken_by_writes(trace: Trace) -> Iterator[str]:
             yield f"rule 2: attempt {record['id']} was aborted, and {record['stage']} was written after"
 
 
+def title_of(order: Told) -> str:
+    """An order, as a log names it."""
+    return f"the order {order['order']} for attempt {order['attempt']}, by {order['by']}"
+
+
+def broken_by_orders(trace: Trace) -> Iterator[str]:
+    """Rule 7: an attempt whose abort stands in the store does not go on, and an order goes only
+    where the record has carried it out, or with a line of a log that names it and says why."""
+    replay, aborts = Replay(trace.changes), set[int]()
+    carried_out = {"abort": "aborted", "promote": "promoting"}
+    done: dict[int, Told] = {}  # by the revision: the record that was written
+    for change in trace.changes:
+        if change.name == "attempt" and change.value:
+            done[change.revision] = json.loads(change.value)
+    for number, change in enumerate(replay.go()):
+        told = json.loads(change.value or "{}") if change.name in ("attempt", "order") else {}
+        if change.name == "attempt" and told.get("stage") in ("promoting", "successful"):
+            if told["id"] in aborts:
+                yield f"rule 7: {told['stage']} was written for attempt {told['id']}, whose abort was ordered before"
+        elif change.name == "order" and told:
+            aborts |= {told["attempt"]} if told["order"] == "abort" else set()
+        elif change.name == "order" and (order := replay.value("order")):
+            record = done.get(change.revision, {})
+            is_done = (record.get("id"), record.get("stage")) == (
+                order["attempt"],
+                carried_out[order["order"]],
+            )
+            put = trace.changes.index(replay.keys["order"])
+            if not is_done and not any(
+                put < said.changes <= number and f"drops {title_of(order)}: " in said.text
+                for said in trace.said
+            ):
+                yield f"rule 7: {title_of(order)}, went without a word"
+
+
 def broken_by_selections(trace: Trace) -> Iterator[str]:
     """Rule 1, by what the services select: a revision is active once `promoting` was written for
     it, and stable once the fleet has succeeded with it. The revision that the fleet began with may
@@ -194,6 +247,7 @@ def broken(trace: Trace) -> list[str]:
     """What breaks a rule, a text each that begins with the rule."""
     return [
         *broken_by_writes(trace),
+        *broken_by_orders(trace),
         *broken_by_selections(trace),
         *broken_by_promotes(trace),
         *trace.broken,

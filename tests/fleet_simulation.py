@@ -26,13 +26,19 @@ from bg_switch_tools.fleet.record import FOLLOWS, PersonOrder, View
 from bg_switch_tools.fleet.store import Compare
 from bg_switch_tools.switch.lines import was_carried_out
 from bg_switch_tools.switch.reports import RUNNING, Report, Revision
-from tests.fleet_rules import Promote, Selection, Trace
+from tests.fleet_rules import Promote, Said, Selection, Trace
 from tests.memory_store import Keys, MemoryStore
 
 LEASE = 3  # seconds
 SETTINGS = MachineSettings(8082, {"smoke": ("smoke",), "errors": ("errors",)})
 LONGEST_REST = 400  # passes without a fault until the machines have to agree
 PASS = 0.25  # seconds of such a pass
+PROMOTING_SECONDS = 30
+SPOILED = 0.1  # how probable it is that what is put is no plan
+# Seconds in which an attempt ends that is promoting, or whose abort is ordered: a lease of a leader
+# that is gone may come first.
+ENDING = {"promoting": PROMOTING_SECONDS + LEASE + 2.0, "abort": LEASE + 2.0}
+AIMED = 0.1  # how probable it is that a person aborts between a leader's read and its write
 
 
 class SimulatedSwitch:
@@ -251,9 +257,17 @@ class Host:
             return
         if self.pending is None:
             self.pending = self.candidate.look()
+            if self.is_about_to_go_on:
+                self.world.order_in_time()
         else:
             self.candidate.send(self.pending)
             self.pending = None
+
+    @property
+    def is_about_to_go_on(self) -> bool:
+        """Whether the candidate has decided that an attempt goes on, and has not written it."""
+        record = self.pending.write.record if self.pending else None
+        return record is not None and record.stage in ("promoting", "successful")
 
     def do_round(self, machine: Machine) -> None:
         """A round as a controller has it."""
@@ -360,12 +374,12 @@ class World:
         self.trace = Trace(self.keys.changes)
         self.lines: list[str] = []
         self.logged = 0
+        self.is_resting = False  # whether the faults have ended
         self.selected: dict[tuple[str, str], str] = {}  # by host and service: the revision
         self.records: list[tuple[int, str]] = []  # each text of the record, by its revision
         self.person = MemoryStore(self.keys, "person")
-        self.failing = self.chance.choice(
-            (0.0, 0.1, 0.5)
-        )  # how probable it is that an analysis fails
+        # how probable it is that an analysis fails
+        self.failing = self.chance.choice((0.0, 0.1, 0.5))
         self.count = self.chance.choice((2, 3, 3, 4))
         self.hosts = [Host(f"h{number}", self) for number in range(1, self.count + 1)]
         self.names = ["v1"]
@@ -383,7 +397,9 @@ class World:
         return self.time
 
     def say(self, event: str, text: str) -> None:
+        """A line of an agent's log."""
         self.log(f"{event}: {text}")
+        self.trace.said.append(Said(len(self.keys.changes), text))
 
     def log(self, text: str) -> None:
         self.lines.append(f"{self.time:8.2f}  {text}")
@@ -424,7 +440,7 @@ class World:
         analyses: dict[str, object] = {"post": "errors"}
         if self.has_pre:
             analyses["pre"] = "smoke"
-        fleet = dict(self.settings, promoting_seconds=30)
+        fleet = dict(self.settings, promoting_seconds=PROMOTING_SECONDS)
         plan = {
             "revisions": revisions,
             "analyses": analyses,
@@ -436,21 +452,40 @@ class World:
 
     def put_some_plan(self) -> None:
         what = self.chance.random()
-        if len(self.names) < 8 and what < 0.65:
+        if what < SPOILED:
+            self.spoil_plan()
+        elif len(self.names) < 8 and what < 0.65:
             self.names.append(f"v{len(self.names) + 1}")
             self.put_plan(self.names[-1])
         else:
             self.put_plan(self.names[-1] if what < 0.85 else self.chance.choice(self.names))
 
+    def spoil_plan(self) -> None:
+        """Somebody puts what is no plan, or deletes the plan."""
+        text = self.chance.choice(("{", '{"revisions": [], "newer": 1}', "revisions: v1", ""))
+        self.person.write([], {"plan": text} if text else {}, [] if text else ["plan"])
+        self.log("person: a plan that is none")
+
+    @property
+    def has_plan(self) -> bool:
+        key = self.keys.keys.get("plan")
+        return key is not None and '"analyses"' in key.value
+
     def order(self, what: str) -> None:
+        """An order, which takes the place of no abort."""
         view = View(self.person.read())
-        record = view.record
-        if record and record.is_running:
+        record, standing = view.record, view.order
+        is_held = record and standing and (standing.order, standing.attempt) == ("abort", record.id)
+        if record and record.is_running and not is_held:
             text = PersonOrder(what, record.id, "somebody").text()
-            self.person.write(
-                [Compare("attempt", "changed", view.changed("attempt"))], {"order": text}
-            )
+            compares = [Compare(key, "changed", view.changed(key)) for key in ("attempt", "order")]
+            self.person.write(compares, {"order": text})
             self.log(f"person: {what}")
+
+    def order_in_time(self) -> None:
+        """A person may abort between a leader's read and its write."""
+        if not self.is_resting and self.chance.random() < AIMED:
+            self.order("abort")
 
     def change_members(self, host: Host) -> None:
         name = f"members/{host.name}"
@@ -537,9 +572,9 @@ class World:
             self.fault(host)
         elif what < 0.96:
             self.mend(self.chance.choice(self.hosts))
-        elif what < 0.972:
+        elif what < 0.977:
             self.put_some_plan()
-        elif what < 0.98:
+        elif what < 0.985:
             self.order(chance.choice(("promote", "promote", "abort")))
         elif what < 0.995:
             self.change_members(host)
@@ -573,20 +608,16 @@ class World:
     def rest(self) -> None:
         """The time without faults: everything goes on in turn."""
         self.log("the faults end")
+        self.is_resting = True
         for host in self.hosts:
             host.store.loses = host.leader_store.loses = 0.0
             host.frozen_until = 0.0
             self.mend(host)
+        if not self.has_plan:
+            self.end_without_a_plan()
+            self.put_plan(self.names[-1])
         for _ in range(LONGEST_REST):
-            self.time += PASS
-            for host in self.hosts:
-                for step in (host.go_on, host.go_on, host.go_on, host.lead):
-                    step()
-                if host.switch and host.switch.phase:
-                    host.switch.endpoints_come_up()
-                    host.switch.scale_down()
-                    host.end_analysis("successful")
-                    self.note_selection(host)
+            self.rest_pass()
             if "order" not in self.keys.keys and "a person's promote" in awaited_of(
                 self.person.read()
             ):
@@ -596,6 +627,44 @@ class World:
         self.trace.broken.append(
             f"rule 4: the machines do not agree after {LONGEST_REST * PASS:g} seconds: {self.states()}"
         )
+
+    def rest_pass(self, ends_analyses: bool = True) -> None:
+        """All goes on in turn."""
+        self.time += PASS
+        for host in self.hosts:
+            for step in (host.go_on, host.go_on, host.go_on, host.lead):
+                step()
+            if host.switch and host.switch.phase:
+                host.switch.endpoints_come_up()
+                host.switch.scale_down()
+                if ends_analyses:
+                    host.end_analysis("successful")
+                self.note_selection(host)
+
+    def end_without_a_plan(self) -> None:
+        """Rule 8: no analysis ends any more, so an attempt that is promoting ends by its time. One
+        that is deploying is aborted by a person."""
+        for what in ("promoting", "abort"):
+            begun = self.time
+            while self.stage == "promoting" if what == "promoting" else self.runs:
+                if self.time > begun + ENDING[what]:
+                    self.trace.broken.append(
+                        f"rule 8: the attempt is {self.stage} {ENDING[what]:g} seconds later ({what}), and what stands is no plan"
+                    )
+                    return
+                if what == "abort":
+                    self.order("abort")
+                self.rest_pass(ends_analyses=False)
+
+    @property
+    def stage(self) -> str:
+        """The stage of the record; empty where there is none."""
+        change = self.keys.keys.get("attempt")
+        return str(json.loads(change.value)["stage"]) if change else ""
+
+    @property
+    def runs(self) -> bool:
+        return self.stage in ("deploying", "promoting")
 
     def agrees(self) -> bool:
         view = View(self.person.read())

@@ -109,6 +109,7 @@ class SyntheticFleet:
             stable,
             newest,
             2,
+            self.keys.keys[LEADER].created if LEADER in self.keys.keys else 0,
         )
         self.put(**{MACHINES + host: told.text()})
 

@@ -7,8 +7,8 @@ from unittest import mock
 
 from bg_switch_tools.controller.plan import PlannedRevision
 from bg_switch_tools.fleet.agent import FleetAgent
-from bg_switch_tools.fleet.candidate import Candidate, Clocks
-from bg_switch_tools.fleet.fleet_plan import MachineSettings
+from bg_switch_tools.fleet.candidate import Candidate, Clocks, Pending
+from bg_switch_tools.fleet.fleet_plan import MachineSettings, read_stored_plan
 from bg_switch_tools.fleet.machine import FRESH, RETRY, Machine
 from bg_switch_tools.fleet.machine_state import MachineState
 from bg_switch_tools.fleet.next_line import Joined
@@ -242,7 +242,7 @@ class Kept(FleetCase):
             (self.agent.machine.plan(), self.kept.record),
             (before, Record(self.plan_id, V2, V1, ABORTED)),
         )
-        self.assertIn("the plan is wrong, so the one before is used", self.said[-1])
+        self.assertIn("the plan before is used: the plan is wrong: it is not JSON", self.said[-1])
 
     def test_a_record_of_another_version_is_not_acted_on(self) -> None:
         self.join(self.agent)
@@ -280,13 +280,50 @@ class KnowsNothing(FleetCase):
     def test_without_a_read(self) -> None:
         self.check(self.machine())
 
-    def test_with_a_plan_or_a_record_alone(self) -> None:
-        for name in ("plan", "attempt"):
-            self.setUp()
-            self.person.write([], {}, [name])
+    def test_with_a_plan_alone(self) -> None:
+        self.person.write([], {}, ["attempt"])
+        machine = self.machine()
+        machine.take_read(self.person.read(), self.time)
+        self.check(machine)
+
+    def test_with_a_record_alone(self) -> None:
+        """A record of the version before keeps no plan: the machine waits for one."""
+        self.person.write([], {}, ["plan"])
+        machine = self.machine()
+        machine.take_read(self.person.read(), self.time)
+        self.assertEqual((machine.plan(), machine.to_open()), (None, V1))
+        self.assertEqual(machine.fault, "the plan before is used: there is no plan")
+
+    def test_with_a_record_that_keeps_its_plan(self) -> None:
+        """A machine without files goes on by the plan of the attempt, whatever the plan's key
+        holds."""
+        record = View(self.person.read()).record
+        assert record is not None
+        kept = read_stored_plan(plan_text(fleet={"promoting_seconds": 7}))
+        for value in ("{", ""):
+            for stage in (PROMOTING, ABORTED):
+                text = dataclasses.replace(record, stage=stage, plan=kept).text()
+                self.person.write([], {"attempt": text, "plan": value})
+                if not value:
+                    self.person.write([], {}, ["plan"])
+                machine = self.machine()
+                machine.take_read(self.person.read(), self.time)
+                self.assertEqual(machine.fleet_plan, kept)
+                self.assertTrue(machine.is_fresh(self.time))
+                self.assertIn("the plan before is used: ", machine.fault)
+
+    def test_the_plan_of_an_attempt_that_runs_goes_before_another_one(self) -> None:
+        """A plan that was put meanwhile may name other analyses, and those are not of this
+        attempt."""
+        record = View(self.person.read()).record
+        assert record is not None
+        kept = read_stored_plan(plan_text(analyses={"post": "smoke"}))
+        for stage, plan in ((PROMOTING, kept), (ABORTED, read_stored_plan(plan_text()))):
+            text = dataclasses.replace(record, stage=stage, plan=kept).text()
+            self.person.write([], {"attempt": text})
             machine = self.machine()
             machine.take_read(self.person.read(), self.time)
-            self.check(machine)
+            self.assertEqual(machine.fleet_plan, plan)
 
     def test_what_is_read_is_known(self) -> None:
         machine = self.machine()
@@ -535,24 +572,98 @@ class TwoOfOneHost(FleetCase):
 
 
 class Leading(FleetCase):
+    """The machine of `a` has passed, and reports to each lead at once."""
+
     def setUp(self) -> None:
         super().setUp()
-        self.person.write(
-            [], {"members/a": "", "machines/a": MachineReport("m1", self.plan_id, "passed").text()}
-        )
+        self.state = "passed"
+        self.person.write([], {"members/a": ""})
+        self.tell_leader("passed")
 
     def candidate(self, host: str) -> Candidate:
-        return Candidate(
+        made = Candidate(
             host,
             MemoryStore(self.keys, host),
             lambda _, text: self.said.append(text),
             Clocks(lambda: self.time, lambda: 5.0),
         )
+        send = made.send
+
+        def send_and_hear(pending: Pending) -> bool:
+            is_written = send(pending)
+            if is_written and "leader" in pending.write.puts and self.state:
+                self.tell_leader(self.state)
+            return is_written
+
+        setattr(made, "send", send_and_hear)
+        return made
+
+    def tell_leader(self, state: str = "passed") -> None:
+        """The machine reports to the one that leads now."""
+        report = MachineReport("m1", self.plan_id, state, leader=View(self.person.read()).leader)
+        self.person.write([], {"machines/a": report.text()})
 
     def record(self) -> Record:
         record = View(self.person.read()).record
         assert record is not None
         return record
+
+    def test_reports_of_before_an_outage_are_no_votes(self) -> None:
+        """etcd lets leases last longer once it is back, so the machine may be gone by then: an
+        attempt does not go on before it has reported to a lead that began after the outage."""
+        first = self.candidate("a")
+        self.state = ""
+        first.do_round()
+        before = View(self.person.read()).leader
+        self.tell_leader("testing")
+        first.do_round()
+        first.store.is_cut = True  # type: ignore[attr-defined]
+        first.do_round()
+        self.tell_leader("passed")  # the last word of a machine that is gone when etcd is back
+        first.store.is_cut = False  # type: ignore[attr-defined]
+        for _ in range(6):
+            first.do_round()
+        self.assertTrue(first.leads)
+        self.assertGreater(View(self.person.read()).leader, before)
+        self.assertIn("a leads no longer: reads have failed, so another lead begins", self.said)
+        self.assertEqual(self.record().stage, PROMOTING)
+        self.tell_leader("passed")
+        first.do_round()
+        self.assertEqual(self.record().stage, SUCCESSFUL)
+
+    def test_the_seconds_of_readiness_begin_anew_after_an_outage(self) -> None:
+        self.plan_id = self.person.write([], {"plan": plan_text(fleet={"seconds": 25})}) or 0
+        self.put(DEPLOYING)
+        self.state = "ready"
+        first = self.candidate("a")
+        first.do_round()
+        first.do_round()
+        self.time += 24
+        first.store.is_cut = True  # type: ignore[attr-defined]
+        first.do_round()
+        self.time += 20
+        first.store.is_cut = False  # type: ignore[attr-defined]
+        for _ in range(6):
+            first.do_round()
+        for seconds in (0.0, 8.0, 8.0, 8.0):
+            self.time += seconds
+            first.do_round()
+            self.assertEqual(self.record().stage, DEPLOYING)
+        self.time += 2
+        first.do_round()
+        self.assertEqual(self.record().stage, PROMOTING)
+
+    def test_a_machine_reports_to_each_lead(self) -> None:
+        agent = self.agent
+        agent.read()
+        agent.tell(PAUSED)
+        first = self.candidate("a")
+        first.do_round()
+        agent.read()
+        agent.tell(PAUSED)
+        view = View(self.person.read())
+        report = view.machine(agent.machine.host)
+        self.assertEqual(report and report.leader, view.leader)
 
     def test_the_first_one_leads_and_decides(self) -> None:
         first, second = self.candidate("a"), self.candidate("b")
@@ -691,11 +802,9 @@ class Leading(FleetCase):
         self.assertEqual((first.leads, self.said[-1]), (False, "a leads no longer: b leads"))
 
     def test_a_new_leader_waits_anew(self) -> None:
-        self.person.write([], {"plan": plan_text(fleet={"seconds": 5})})
-        self.put(DEPLOYING, self.keys.revision)
-        self.person.write(
-            [], {"machines/a": MachineReport("m1", self.keys.keys["plan"].changed, READY).text()}
-        )
+        self.plan_id = self.person.write([], {"plan": plan_text(fleet={"seconds": 5})}) or 0
+        self.put(DEPLOYING)
+        self.state = READY
         first = self.candidate("a")
         first.do_round()
         self.assertIsNone(first.look())
@@ -711,20 +820,18 @@ class Leading(FleetCase):
     def test_what_can_not_be_read_is_told_once(self) -> None:
         first = self.candidate("a")
         first.do_round()
-        for _ in range(2):
+        for count in (1, 2):
             self.person.write([], {"plan": "{"})
-            self.assertEqual((first.do_round(), first.do_round()), (False, False))
+            for _ in range(3):
+                first.do_round()
             self.person.write([], {"plan": plan_text()})
             first.do_round()
-        self.assertEqual(
-            len([text for text in self.said if "nothing is decided: the plan is wrong" in text]), 2
-        )
-        self.said.clear()
-        self.person.write([], {"plan": "{"})
+            told = [text for text in self.said if "no attempt begins: the plan is wrong" in text]
+            self.assertEqual(len(told), count)
+        self.person.write([], {"attempt": json.dumps({"version": 2})})
         self.assertEqual((first.do_round(), first.do_round()), (False, False))
-        self.assertEqual(
-            len([text for text in self.said if "nothing is decided: the plan is wrong" in text]), 1
-        )
+        told = [text for text in self.said if "nothing is decided: the record of" in text]
+        self.assertEqual(len(told), 1)
 
 
 class InMemory(unittest.TestCase):

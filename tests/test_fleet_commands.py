@@ -250,7 +250,14 @@ def check_whole_session(case: unittest.TestCase, fleet: "Person", agents: "Agent
             f"the order promote for {attempt}, by NAME, stands already; no leader has answered it"
         ),
     )
-    check("abort", f"abort is ordered for {attempt}\n")
+    check(
+        "abort",
+        f"abort is ordered for {attempt}\n",
+        0,
+        agents.told_by(
+            f"it takes the place of the order promote for attempt {agents.plan_id}, by NAME"
+        ),
+    )
     agents.put("aborted", V2, V1)
     check(
         "wait web-v2=successful",
@@ -317,18 +324,19 @@ class Agents:
 
     def put(self, stage: str, revision: object, stable: object, state: str = "") -> None:
         """The record of the plan that stands, and the reports of both machines."""
-        self.plan_id = View(self.store.read()).changed(PLAN)
+        self.store.write([], {LEADER: "web-1"})
+        view = View(self.store.read())
+        self.plan_id = view.changed(PLAN)
         record = Record(self.plan_id, revision, stable, stage)  # type: ignore[arg-type]
         state = state or ("working" if record.is_running else "follows")
         name = record.stable.name
         report = MachineReport(
-            "m", self.plan_id, state, "", "steady", name, name, name, name, 2
+            "m", self.plan_id, state, "", "steady", name, name, name, name, 2, view.leader
         ).text()
         self.store.write(
             [],
             {
                 ATTEMPT: record.text(),
-                LEADER: "web-1",
                 MACHINES + "web-1": report,
                 MACHINES + "web-2": report,
             },
@@ -366,7 +374,10 @@ class WithAllMembers(WithCluster):
         store.write(
             [],
             {
-                MACHINES + host: MachineReport("m", plan_id, "ready", stable="web-v1").text()
+                MACHINES
+                + host: MachineReport(
+                    "m", plan_id, "ready", stable="web-v1", leader=leader.created
+                ).text()
                 for host in hosts
             },
         )

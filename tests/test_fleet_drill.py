@@ -37,7 +37,7 @@ from support.fleet.random_drill import (
 from support.fleet.random_faults import Fault, Faults, next_fault
 from support.fleet.programs import Programs
 from support.fleet.recording import Answered, Event, Promote
-from support.fleet.rules import Broken, Run
+from support.fleet.rules import RULES, Broken, Run
 from support.fleet.seen import Seen
 from support.fleet.verdict import Mix, mix_of, rule_lines, table, verdict
 from tests.test_fleet_rules import SECOND, good, record
@@ -173,7 +173,8 @@ class Plans(unittest.TestCase):
         self.assertTrue(all(plan.kind == GOOD for plan in plans if plan.is_aimed))
         self.assertGreater(sum(plan.is_aimed for plan in plans), len(plans) / 10)
         self.assertEqual(
-            {key for plan in plans for key in plan.fleet}, {"by_hand", "seconds", "max_missing"}
+            {key for plan in plans for key in plan.fleet},
+            {"by_hand", "seconds", "max_missing", "promoting_seconds"},
         )
 
     def test_the_next_one_awaits_the_end(self) -> None:
@@ -326,8 +327,11 @@ class Verdicts(unittest.TestCase):
     def test_the_lines(self) -> None:
         lines, holds = verdict(self.outcome())
         self.assertEqual(
-            lines[:7],
-            [*(f"rule {number}: holds" for number in range(1, 7)), "no program has failed"],
+            lines[: len(RULES) + 1],
+            [
+                *(f"rule {number + 1}: holds" for number in range(len(RULES))),
+                "no program has failed",
+            ],
         )
         self.assertFalse(holds)  # its attempts are too few
         lines, _ = verdict(
@@ -379,11 +383,14 @@ class PlantedFaults(unittest.TestCase):
                 "without-compares",
                 "no-catch-up",
                 "old-reads",
+                "order-not-compared",
+                "silent-about-orders",
+                "plan-first",
                 "changes",
                 "back-by-permission",
             ],
         )
-        self.assertEqual({planted.rule for planted in PLANTED.values()}, {1, 2, 3, 4, 6})
+        self.assertEqual({planted.rule for planted in PLANTED.values()}, {1, 2, 3, 4, 6, 7, 8})
 
     def test_it_is_found_by_its_own_rule_alone(self) -> None:
         planted = PLANTED["old-reads"]
@@ -411,9 +418,11 @@ class PlantedFaults(unittest.TestCase):
                     (Machine, "next_line"),
                     (Machine, "is_fresh"),
                     (leader, "compares_of"),
+                    (leader, "decision_of"),
                     (next_line, "_catch_up"),
                     (FleetLines, "may_hand_in"),
                     (Candidate, "send"),
+                    (Candidate, "_tell_dropped"),
                 )
             ]
 

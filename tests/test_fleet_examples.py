@@ -146,6 +146,7 @@ class Json(unittest.TestCase):
             ("control", "control-socket"),
         ):
             self.assertIn(f" --{word} {machine[key]} ", start)
+        self.assertIn("\nStartLimitIntervalSec=0\n", text("bg-fleet.service").split("[Service]")[0])
         self.assertIn(" /etc/bg/fleet.json agent", text("bg-fleet.service"))
 
     def test_an_undo_of_the_last_plan_is_a_plan(self) -> None:

@@ -2,9 +2,10 @@
 import dataclasses
 import json
 import unittest
-from collections.abc import Mapping
+from collections.abc import Iterator, Mapping
 
 from bg_switch_tools.controller.plan import PlannedRevision
+from bg_switch_tools.fleet.fleet_plan import FleetPlan, read_stored_plan
 from bg_switch_tools.fleet.leader import (
     Decision,
     StageClock,
@@ -13,6 +14,7 @@ from bg_switch_tools.fleet.leader import (
     awaited_of,
     decide,
     decision_of,
+    votes_of,
 )
 from bg_switch_tools.fleet.record import (
     ABORT,
@@ -50,7 +52,7 @@ def plan_text(*names: str, progress: Mapping[str, object] | None = None, **fleet
 def told(
     state: str, attempt: int = PLAN_ID, reason: str = "", stable: str = "web-v1"
 ) -> MachineReport:
-    return MachineReport("m", attempt, state, reason, stable=stable)
+    return MachineReport("m", attempt, state, reason, stable=stable, leader=CREATED)
 
 
 class Decisions(unittest.TestCase):
@@ -77,6 +79,12 @@ class Decisions(unittest.TestCase):
         if self.order:
             keys["order"] = Key(self.order.text(), 50, 50, 0)
         return Snapshot(60, "c1", keys)
+
+    @property
+    def kept(self) -> FleetPlan:
+        """The plan as the record of an attempt keeps it that begins now."""
+        assert self.plan is not None
+        return read_stored_plan(self.plan)
 
     def decision(self, waited: Waited = Waited()) -> Decision | None:
         return decision_of(View(self.snapshot()), waited)
@@ -109,7 +117,10 @@ class Begins(Decisions):
             self.reports = {host: told(WORKING, 0, stable=stable) for host in self.members}
             self.assertEqual(
                 self.decision(),
-                Decision(Record(0, live, live, SUCCESSFUL, "the fleet begins with it"), ("a", "b")),
+                Decision(
+                    Record(0, live, live, SUCCESSFUL, "the fleet begins with it", plan=self.kept),
+                    ("a", "b"),
+                ),
             )
 
     def test_the_first_record_of_machines_that_differ(self) -> None:
@@ -143,19 +154,22 @@ class Begins(Decisions):
 
     def test_another_plan_begins_an_attempt(self) -> None:
         for stage in (ABORTED, SUCCESSFUL):
-            for plan_id in (
-                PLAN_ID + 1,
-                PLAN_ID - 1,
-            ):  # an etcd that was filled from a backup counts from a lower revision
+            # an etcd that was filled from a backup counts from a lower revision
+            for plan_id in (PLAN_ID + 1, PLAN_ID - 1):
                 self.record, self.plan_id = Record(PLAN_ID, V1, V1, stage), plan_id
-                self.assertEqual(self.decision(), Decision(Record(plan_id, V2, V1, DEPLOYING)))
+                self.assertEqual(
+                    self.decision(), Decision(Record(plan_id, V2, V1, DEPLOYING, plan=self.kept))
+                )
 
     def test_a_plan_of_the_stable_revision_moves_nothing(self) -> None:
         self.plan_id, same = PLAN_ID + 1, "the plan names the stable revision"
         self.record = self.put(SUCCESSFUL)
-        self.assertEqual(self.decision(), Decision(Record(PLAN_ID + 1, V2, V2, SUCCESSFUL, same)))
-        self.record, self.plan = self.put(ABORTED), plan_text("web-v2", "web-v1")
-        self.assertEqual(self.decision(), Decision(Record(PLAN_ID + 1, V1, V1, SUCCESSFUL, same)))
+        for stable in (V2, V1):
+            self.assertEqual(
+                self.decision(),
+                Decision(Record(PLAN_ID + 1, stable, stable, SUCCESSFUL, same, plan=self.kept)),
+            )
+            self.record, self.plan = self.put(ABORTED), plan_text("web-v2", "web-v1")
 
     def test_after_an_undo_the_attempt_goes_back(self) -> None:
         self.record, self.plan, self.plan_id = (
@@ -163,7 +177,9 @@ class Begins(Decisions):
             plan_text("web-v2", "web-v1"),
             PLAN_ID + 1,
         )
-        self.assertEqual(self.decision(), Decision(Record(PLAN_ID + 1, V1, V2, DEPLOYING)))
+        self.assertEqual(
+            self.decision(), Decision(Record(PLAN_ID + 1, V1, V2, DEPLOYING, plan=self.kept))
+        )
 
     def test_an_attempt_of_the_same_plan_is_over(self) -> None:
         for stage in (ABORTED, SUCCESSFUL):
@@ -218,6 +234,142 @@ class Promotes(Decisions):
         self.order = PersonOrder(PROMOTE, PLAN_ID, "ann")
         self.report(a=READY, b=TESTING)
         self.assertIsNone(self.decision(LONG))
+
+
+class WithoutAPlan(Decisions):
+    """What stands in the plan's key is no plan, or there is no such key: an attempt is decided by
+    the plan that it began with."""
+
+    def each(self) -> Iterator[None]:
+        """The attempt runs, and the plan's key has one value after the other that is no plan."""
+        for plan in ("{", '{"revisions": [], "newer": 1}', "revisions: web-v3", None):
+            self.record = Record(
+                PLAN_ID,
+                V2,
+                V1,
+                DEPLOYING,
+                by=3,
+                plan=read_stored_plan(plan_text(progress=None, **self.fleet)),
+            )
+            self.plan, self.plan_id, self.order = plan, PLAN_ID + 5, None
+            yield
+
+    fleet: Mapping[str, object] = {"promoting_seconds": 40}
+
+    def stage_of(self, waited: Waited = Waited()) -> tuple[str, str] | None:
+        decision = self.decision(waited)
+        record = decision.record if decision else None
+        return (record.stage, record.reason) if record else None
+
+    def go_to(self, stage: str) -> None:
+        assert self.record is not None
+        self.record = dataclasses.replace(self.record, stage=stage)
+
+    def test_it_goes_on(self) -> None:
+        for _ in self.each():
+            self.report(a=READY, b=READY)
+            self.assertEqual(self.stage_of(), (PROMOTING, ""))
+            self.go_to(PROMOTING)
+            self.report(a=PASSED, b=PASSED)
+            self.assertEqual(self.stage_of(), (SUCCESSFUL, ""))
+
+    def test_a_failed_vote_ends_it(self) -> None:
+        for _ in self.each():
+            for stage in (DEPLOYING, PROMOTING):
+                self.go_to(stage)
+                self.report(a=PASSED, b=FAILED)
+                self.assertEqual(self.stage_of(), (ABORTED, "b: why"))
+
+    def test_an_abort_ends_it(self) -> None:
+        for _ in self.each():
+            for stage in (DEPLOYING, PROMOTING):
+                self.go_to(stage)
+                self.order = PersonOrder(ABORT, PLAN_ID, "ann")
+                self.assertEqual(self.stage_of(), (ABORTED, "ordered by ann"))
+
+    def test_its_promoting_seconds_end_it(self) -> None:
+        for _ in self.each():
+            self.go_to(PROMOTING)
+            self.report(a=PASSED, b=TESTING)
+            self.assertIsNone(self.stage_of(Waited(0, 0, 39.9)))
+            late = (ABORTED, "it was promoting for 40 seconds: b")
+            self.assertEqual(self.stage_of(Waited(0, 0, 40)), late)
+
+    def test_its_time_is_measured(self) -> None:
+        for _ in self.each():
+            self.go_to(PROMOTING)
+            clock = StageClock()
+            clock.look(self.snapshot(), 100.0)
+            self.assertEqual(clock.look(self.snapshot(), 130.0).stage, 30.0)
+
+    def test_it_blocks_nothing_but_the_next_attempt(self) -> None:
+        for _ in self.each():
+            for stage in (ABORTED, SUCCESSFUL):
+                self.go_to(stage)
+                self.report(a=READY, b=READY)
+                self.assertIsNone(self.decision(LONG))
+        self.plan = plan_text()
+        self.assertEqual(self.stage_of(), (SUCCESSFUL, "the plan names the stable revision"))
+
+    def test_a_plan_of_the_next_attempt_decides_nothing_of_this_one(self) -> None:
+        """The plan that the attempt began with has `by_hand`, and what stands has not."""
+        self.fleet = {"by_hand": True}
+        for _ in self.each():
+            self.report(a=READY, b=READY)
+            self.assertIsNone(self.stage_of(LONG))
+
+    def test_a_record_of_the_version_before(self) -> None:
+        """It keeps no plan: nothing goes on without a person, and it ends."""
+        for _ in self.each():
+            self.record = self.put(DEPLOYING)
+            self.report(a=READY, b=READY)
+            self.assertIsNone(self.stage_of(LONG))
+            self.order = PersonOrder(PROMOTE, PLAN_ID, "ann")
+            self.assertEqual(self.stage_of(), (PROMOTING, "ordered by ann"))
+            self.record, self.order = self.put(PROMOTING), None
+            self.report(a=PASSED, b=TESTING)
+            late = (ABORTED, "it was promoting for 1200 seconds: b")
+            self.assertEqual(self.stage_of(Waited(0, 0, 1200)), late)
+        self.record, self.plan, self.plan_id = self.put(DEPLOYING), plan_text(), PLAN_ID
+        self.report(a=READY, b=READY)
+        self.assertEqual(self.stage_of(), (PROMOTING, ""))
+
+    def test_the_first_record_waits_for_a_plan(self) -> None:
+        for _ in self.each():
+            self.record = None
+            self.reports = {host: told(WORKING, 0) for host in self.members}
+            self.assertIsNone(self.decision())
+            what = "a plan" if self.plan is None else "a plan that can be read"
+            self.assertEqual(awaited_of(self.snapshot()), [what])
+
+
+class OfAnEarlierLeader(Decisions):
+    """A report that was written for another leader is no vote, since its machine may be gone."""
+
+    def report(self, **states: str) -> None:
+        super().report(**states)
+        self.reports["b"] = dataclasses.replace(self.reports["b"], leader=CREATED - 1)
+
+    def test_nothing_goes_on_by_it(self) -> None:
+        for stage, state in ((DEPLOYING, READY), (PROMOTING, PASSED)):
+            self.record = self.put(stage)
+            self.report(a=state, b=state)
+            self.assertIsNone(self.decision(Waited(1e9, 0, 0)))
+            self.assertEqual(
+                awaited_of(self.snapshot()), [f"b: {state}, as an earlier leader was told"]
+            )
+
+    def test_a_machine_that_has_failed_counts(self) -> None:
+        self.report(a=READY, b=FAILED)
+        self.assertEqual(self.decision(), Decision(self.put(ABORTED, "b: why"), ("b",)))
+
+    def test_without_a_leader_a_person_sees_it_as_a_vote(self) -> None:
+        self.report(a=READY, b=READY)
+        snapshot = self.snapshot()
+        keys = {name: key for name, key in snapshot.keys.items() if name != "leader"}
+        view = View(snapshot._replace(keys=keys))
+        assert self.record is not None
+        self.assertEqual(votes_of(view, self.record).given, ("a", "b"))
 
 
 class Succeeds(Decisions):
@@ -350,14 +502,19 @@ class Ends(Decisions):
         self.report(a=READY, b=READY)
         for order in (PROMOTE, ABORT):
             self.order = PersonOrder(order, PLAN_ID - 1, "ann")
-            self.assertEqual(self.decision(), Decision(None, drops_order=True))
-        for stage in (ABORTED, SUCCESSFUL):
-            self.record, self.order = self.put(stage), PersonOrder(ABORT, PLAN_ID, "ann")
-            self.assertEqual(self.decision(), Decision(None, drops_order=True))
+            self.check_dropped(f"the attempt of the fleet is {PLAN_ID} now")
+        for stage, reason, told_reason in ((ABORTED, "b: why", ", b: why"), (SUCCESSFUL, "", "")):
+            self.record, self.order = self.put(stage, reason), PersonOrder(ABORT, PLAN_ID, "ann")
+            self.check_dropped(f"the attempt is {stage}{told_reason}")
+
+    def check_dropped(self, why: str) -> None:
+        """The order is removed, and what is told of it names it, who gave it, and why."""
+        self.assertEqual(self.decision(), Decision(None, takes_order=True, why_dropped=why))
+        self.assertEqual(self.written().dropped, f"drops {self.order and self.order.title}: {why}")
 
     def test_an_order_to_promote_what_is_promoting_is_dropped(self) -> None:
         self.record, self.order = self.put(PROMOTING), PersonOrder(PROMOTE, PLAN_ID, "ann")
-        self.assertEqual(self.decision(), Decision(None, drops_order=True))
+        self.check_dropped("the attempt is promoting already")
 
 
 class Writes(Decisions):
@@ -374,16 +531,31 @@ class Writes(Decisions):
         self.assertEqual(
             set(self.written().compares),
             self.ALWAYS
-            | {Compare("machines/a", "changed", 40), Compare("machines/b", "changed", 0)},
+            | {
+                Compare("machines/a", "changed", 40),
+                Compare("machines/b", "changed", 0),
+                Compare("order", "changed", 0),
+            },
         )
         self.report(a=READY, b=FAILED)
         self.assertEqual(
-            set(self.written().compares), self.ALWAYS | {Compare("machines/b", "changed", 41)}
+            set(self.written().compares),
+            self.ALWAYS | {Compare("machines/b", "changed", 41), Compare("order", "changed", 0)},
         )
         self.order = PersonOrder(ABORT, PLAN_ID, "ann")
         self.assertEqual(
             set(self.written().compares), self.ALWAYS | {Compare("order", "changed", 50)}
         )
+
+    def test_an_abort_that_comes_after_the_read_is_not_passed_over(self) -> None:
+        """Each write compares the key of the order, also where no order stood."""
+        self.report(a=READY, b=READY)
+        for stage, state in ((DEPLOYING, READY), (PROMOTING, PASSED)):
+            self.record = self.put(stage)
+            self.report(a=state, b=state)
+            self.assertIn(Compare("order", "changed", 0), self.written().compares)
+        self.record, self.plan_id = self.put(ABORTED), PLAN_ID + 1
+        self.assertIn(Compare("order", "changed", 0), self.written().compares)
 
     def test_what_is_written(self) -> None:
         self.report(a=READY, b=READY)
@@ -406,10 +578,6 @@ class Writes(Decisions):
         )
 
     def test_what_can_not_be_read_decides_nothing(self) -> None:
-        self.plan = "{"
-        with self.assertRaisesRegex(Unreadable, "the plan is wrong"):
-            decide(self.snapshot(), CREATED, LONG)
-        self.plan = plan_text()
         snapshot = self.snapshot()
         newer = json.dumps({**json.loads(snapshot.keys["attempt"].value), "version": 2})
         with self.assertRaisesRegex(Unreadable, "version is 2"):
@@ -462,7 +630,23 @@ class Clocks(Decisions):
         self.assertEqual(self.look(clock, 110, a=READY, b=READY), Waited(0, 0, 0))
         self.assertEqual(self.look(clock, 112, a=READY, b=READY), Waited(0, 2, 2))
         clock.forget()
-        self.assertEqual(self.look(clock, 113, a=READY, b=READY), Waited(0, 0, 0))
+        self.assertEqual(self.look(clock, 113, a=READY, b=READY), Waited(0, 0, 3))
+
+    def test_a_stage_lasts_also_while_another_one_leads(self) -> None:
+        clock = StageClock()
+        self.record = self.put(PROMOTING)
+        clock.see(self.record, 100)
+        clock.see(self.record, 108)
+        self.assertEqual(self.look(clock, 109, a=PASSED, b=TESTING), Waited(0, 0, 9))
+
+    def test_the_time_of_an_outage_does_not_count(self) -> None:
+        clock = StageClock()
+        self.record = self.put(PROMOTING)
+        self.look(clock, 100, a=PASSED, b=TESTING)
+        self.look(clock, 103, a=PASSED, b=TESTING)
+        clock.lose()
+        self.assertEqual(self.look(clock, 203, a=PASSED, b=TESTING).stage, 3)
+        self.assertEqual(self.look(clock, 205, a=PASSED, b=TESTING).stage, 5)
 
     def test_nothing_is_waited_for_between_attempts(self) -> None:
         clock = StageClock()
@@ -470,8 +654,6 @@ class Clocks(Decisions):
         self.assertEqual(self.look(clock, 100, a=READY, b=READY), Waited())
         self.record = None
         self.assertEqual(self.look(clock, 101, a=READY, b=READY), Waited())
-        self.record, self.plan = self.put(DEPLOYING), None
-        self.assertEqual(self.look(clock, 102, a=READY, b=READY), Waited())
 
 
 class Awaited(Decisions):

@@ -213,6 +213,19 @@ class CatchingUp(Row):
     def test_the_verdict_is_handed_in_once_it_has_passed(self) -> None:
         self.both("verdict post successful", ["postAnalysis"], "web-v2", has_passed=True)
 
+    def test_a_verdict_of_another_revision_or_etcd_is_not_handed_in(self) -> None:
+        """As a state file has it that is older than what the switch runs: the analysis runs
+        again."""
+        self.check(
+            None,
+            ["postAnalysis"],
+            "web-v1",
+            "web-v2",
+            known(SUCCESSFUL, OTHER, revision="web-v1", has_passed=True),
+            known(SUCCESSFUL, revision="web-v3", has_passed=True),
+            known(SUCCESSFUL, cluster="c2", has_passed=True),
+        )
+
     def test_what_has_failed_here_begins_again_after_a_while(self) -> None:
         self.both(None, ["aborted"], "web-v2")
         self.both("retry", ["aborted"], "web-v2", may_retry=True)

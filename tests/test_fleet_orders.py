@@ -3,10 +3,13 @@ races with others."""
 import unittest
 
 from bg_switch_tools.fleet.candidate import Candidate, Clocks
-from bg_switch_tools.fleet.person_orders import MOVED_ON
+from bg_switch_tools.fleet.person_orders import MOVED_ON, TRIES
 from bg_switch_tools.fleet.record import ABORT, LEADER, MEMBERS, ORDER, PROMOTE, PersonOrder
 from tests.fleet_people import HOSTS, V1, V2, V3, WithFleet
 from tests.memory_store import MemoryStore
+
+
+WAITS = "; waits for web-1: ready, web-2: ready, web-3: ready"  # what is awaited after the end
 
 
 class Orders(WithFleet):
@@ -211,13 +214,43 @@ class Races(Orders):
         self.assertEqual(self.fleet(order), ("", f"fleet: {MOVED_ON}\n", 1))
         self.assertEqual(self.store.writes, 1)
 
+    def check_aborted(self, told: str = "") -> None:
+        """An abort is put at the second try."""
+        self.assertEqual(
+            self.fleet("abort"), ("abort is ordered for attempt 7 of web-v2\n", told, 0)
+        )
+        self.assertEqual(self.store.writes, 2)
+        self.check_put(ABORT)
+
     def test_the_attempt_moves_on(self) -> None:
-        for order in (PROMOTE, ABORT):
-            self.store.writes = 0
-            self.begin(state="ready")
-            self.store.before_writes = [lambda: self.put_record("promoting")]
-            self.check_race(order)
-            self.assertIsNone(self.view.order)
+        self.begin(state="ready")
+        self.store.before_writes = [lambda: self.put_record("promoting")]
+        self.check_race(PROMOTE)
+        self.assertIsNone(self.view.order)
+
+    def test_an_abort_is_tried_again_while_the_attempt_moves_on(self) -> None:
+        self.begin(state="ready")
+        self.store.before_writes = [lambda: self.put_record("promoting")]
+        self.check_aborted()
+
+    def test_an_abort_is_for_the_attempt_of_its_first_read(self) -> None:
+        self.begin(state="ready")
+        self.store.before_writes = [lambda: self.put_record("deploying", id=9)]
+        self.assertEqual(
+            self.fleet("abort"),
+            (
+                "",
+                "fleet: attempt 7 is not that of the fleet now: attempt 9 of web-v2 is deploying\n",
+                1,
+            ),
+        )
+        self.assertIsNone(self.view.order)
+
+    def test_an_abort_that_finds_no_moment(self) -> None:
+        self.begin(state="ready")
+        self.store.before_writes = [lambda: self.put_record("promoting")] * TRIES
+        self.assertEqual(self.fleet("abort"), ("", f"fleet: {MOVED_ON}\n", 1))
+        self.assertEqual(self.store.writes, TRIES)
 
     def test_another_attempt_of_the_same_revision(self) -> None:
         self.begin(state="ready")
@@ -230,20 +263,62 @@ class Races(Orders):
         self.check_race(PROMOTE)
 
     def test_two_orders(self) -> None:
-        for first, second in ((PROMOTE, ABORT), (ABORT, PROMOTE)):
-            self.store.writes = 0
-            self.delete(ORDER)
-            self.begin(state="ready")
-            self.store.before_writes = [lambda first=first: self.put_order(first)]  # type: ignore[misc]
-            self.check_race(second)
-            self.check_put(first, "bob")
+        self.begin(state="ready")
+        self.store.before_writes = [lambda: self.put_order(ABORT)]
+        self.check_race(PROMOTE)
+        self.check_put(ABORT, "bob")
+
+    def test_a_promote_before_an_abort(self) -> None:
+        self.begin(state="ready")
+        self.store.before_writes = [lambda: self.put_order(PROMOTE)]
+        self.check_aborted("fleet: it takes the place of the order promote for attempt 7, by bob\n")
 
     def test_an_order_that_a_leader_answers_meanwhile(self) -> None:
         self.begin(state="ready")
         self.put_order(PROMOTE)
         self.store.before_writes = [lambda: self.delete(ORDER)]
-        self.check_race(ABORT)
-        self.assertIsNone(self.view.order)
+        self.check_aborted()
+
+
+class Waits(Orders):
+    """`--wait` tells how the attempt has ended."""
+
+    def check_end(
+        self, order: str, stage: str, reason: str, ended: str, status: int, **others: object
+    ) -> None:
+        self.begin(state="ready")
+        self.store.during_waits = [lambda: self.put_record(stage, reason=reason, **others)]  # type: ignore[arg-type]
+        run = self.fleet(order, "--wait", "--timeout", "9")
+        self.assertEqual(run.status, status, run)
+        self.assertEqual(
+            (run.printed + run.told.splitlines()[-1]).splitlines()[-1 if status else 1], ended
+        )
+        self.delete(ORDER)
+
+    def test_an_abort(self) -> None:
+        ended = "attempt 7 of web-v2: aborted, ordered by alice"
+        self.check_end(ABORT, "aborted", "ordered by alice", f"{ended}{WAITS}", 0)
+
+    def test_an_abort_of_an_attempt_that_another_plan_has_ended(self) -> None:
+        ended = "attempt 7 of web-v2: aborted, another plan was put"
+        self.check_end(ABORT, "aborted", "another plan was put", f"{ended}{WAITS}", 0)
+
+    def test_a_promote(self) -> None:
+        self.check_end(PROMOTE, "successful", "", f"attempt 7 of web-v2: successful{WAITS}", 0)
+
+    def test_a_promote_that_is_not_carried_out(self) -> None:
+        ended = "fleet: attempt 7=successful cannot come any more: attempt 7 of web-v2 has ended otherwise: aborted, web-2: why"
+        self.check_end(PROMOTE, "aborted", "web-2: why", ended, 1)
+
+    def test_an_attempt_that_was_followed_by_another_one(self) -> None:
+        ended = "fleet: attempt 7=aborted cannot come any more: how it has ended is not known: attempt 9 of web-v2 is deploying"
+        self.check_end(ABORT, "deploying", "", ended, 1, id=9)
+
+    def test_a_time_that_is_over(self) -> None:
+        self.begin(state="ready")
+        run = self.fleet(ABORT, "--wait", "--timeout", "0.1")
+        self.assertEqual(run.status, 4)
+        self.assertIn("attempt 7=aborted does not hold after 0.1 seconds", run.told)
 
 
 class Asked(Orders):

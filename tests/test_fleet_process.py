@@ -1,6 +1,8 @@
 """The process of an agent, over a store in memory: its threads, and a store that is away or
 silent."""
 import dataclasses
+import io
+import json
 import threading
 import time
 import unittest
@@ -8,6 +10,7 @@ from collections.abc import Sequence
 from unittest import mock
 
 from bg_switch_tools.fleet import agent_process
+from bg_switch_tools.fleet.agent_process import PlainLog
 from bg_switch_tools.fleet.agent_rounds import ANSWER, CONNECT
 from bg_switch_tools.fleet.agent_status import STALE, read_agent_status
 from bg_switch_tools.fleet.machine import FRESH
@@ -39,6 +42,16 @@ class Rollouts(FleetProcessCase):
         ):
             self.assertIn(text, self.out.getvalue())
         self.assertNotIn("the plan's first revision", self.out.getvalue())
+
+    def test_what_others_have_written_makes_no_lines(self) -> None:
+        """Texts of a report go into the log of the leader, which people read at a terminal."""
+        out = io.StringIO()
+        PlainLog(out, False).say("leader", "web-2: \x1b[2J\nattempt 9 of web-v9: successful")
+        self.assertEqual(out.getvalue().count("\n"), 1)
+        self.assertIn("web-2: ?[2J?attempt 9", out.getvalue())
+        out = io.StringIO()
+        PlainLog(out, True).say("leader", "\x1b[2J")
+        self.assertEqual(json.loads(out.getvalue())["text"], "?[2J")
 
     def test_a_bad_one_comes_back(self) -> None:
         self.begun()

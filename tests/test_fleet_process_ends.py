@@ -1,7 +1,9 @@
 """How the process of an agent begins and ends, over a store in memory: its files, a second agent of
 its host, and unfit machines."""
+import dataclasses
 import json
 import pathlib
+import shutil
 import subprocess
 import sys
 import threading
@@ -25,8 +27,8 @@ from bg_switch_tools.fleet.etcd_gateway import EtcdSettings
 from bg_switch_tools.fleet.fleet_file import FleetFile
 from bg_switch_tools.fleet.fleet_plan import MachineSettings
 from bg_switch_tools.fleet.machine_state import MachineState
-from bg_switch_tools.fleet.store import Store
-from tests.fleet_processes import FIT, LEASE, FleetProcessCase
+from bg_switch_tools.fleet.store import Snapshot, Store
+from tests.fleet_processes import FIT, LEASE, FleetProcessCase, SharedStore
 from tests.tool_runs import WAIT, comes
 
 
@@ -117,6 +119,9 @@ class Ends(FleetProcessCase):
         self.assertTrue(process.has_fault)
 
 
+LATE = 0.7  # seconds that a read of a slow store takes
+
+
 class TwoOfOneHost(FleetProcessCase):
     def test_the_second_one_is_refused(self) -> None:
         self.begun()
@@ -135,6 +140,13 @@ class TwoOfOneHost(FleetProcessCase):
         )
         self.put(self.v1, self.v2)
         self.await_stage("web-v2 successful")
+
+    def test_one_with_a_copy_of_the_files_is_refused_too(self) -> None:
+        self.begun()
+        shutil.copytree(self.folder / "state", self.folder / "copy")
+        second = self.started("copy")
+        self.await_that(second.stopping.is_set, "the second one ends")
+        self.assertIn("another machine reports as a", second.refusal)
 
     def test_it_may_once_the_lease_of_the_first_one_ends(self) -> None:
         """As after a restart of the system."""
@@ -267,6 +279,57 @@ class Starts(unittest.TestCase):
         self.assertLess(abs(clock() - time.clock_gettime(time.CLOCK_BOOTTIME)), 1)
 
 
+class ComesBack(FleetProcessCase):
+    """A machine whose files name web-v1, and web-v2 was successful while it was down."""
+
+    def go(self) -> None:
+        """The agent and the switch end, and the fleet goes on."""
+        process = self.begun()
+        record = self.record()
+        assert record is not None
+        process.stop()
+        port = self.switch.port
+        self.switch.kill()
+        self.put(self.v1, self.v2)
+        told = dataclasses.replace(
+            record, id=self.keys_of("plan"), revision=self.v2, stable=self.v1, plan=None
+        )
+        self.person.write([], {"attempt": told.text()})
+        self.switch.port = port
+        self.switch.lines.clear()
+        self.switch.start()
+
+    def keys_of(self, name: str) -> int:
+        return self.person.read().keys[name].changed
+
+    def test_it_waits_for_a_read_before_it_opens_its_switch(self) -> None:
+        self.go()
+        read = SharedStore.read
+
+        def late(store: SharedStore) -> Snapshot:
+            time.sleep(LATE)
+            return read(store)
+
+        with mock.patch.object(SharedStore, "read", late):
+            self.started()
+            self.await_that(lambda: self.own_lines(), "the switch is opened")
+            self.assertEqual(self.own_lines()[0], f"open {self.v2.words}")
+
+    def test_it_opens_by_its_files_while_the_store_is_away(self) -> None:
+        for silence in (0.0, 60.0):
+            with self.subTest(silence):
+                self.go()
+                self.network.silence, begun = silence, time.monotonic()
+                self.started()
+                self.await_that(lambda: self.own_lines(), "the switch is opened")
+                self.assertGreaterEqual(time.monotonic() - begun, EtcdSettings(()).timeout)
+                self.assertEqual(self.own_lines()[0], f"open {self.v1.words}")
+            self.network.silence = None
+            self.network.has_ended.set()
+            self.stack.close()
+            self.setUp()
+
+
 class Files(FleetProcessCase):
     def test_an_id_is_kept_and_is_that_of_one_folder(self) -> None:
         said: list[str] = []
@@ -279,6 +342,13 @@ class Files(FleetProcessCase):
         self.assertNotEqual(
             machine_id(str(self.folder / "x"), lambda _, text: said.append(text)), made[0]
         )
+
+    def test_a_copy_of_the_files_has_another_id(self) -> None:
+        """Also where the copy is used on the same kernel, as by a container."""
+        made = machine_id(str(self.folder / "x"), lambda *_: None)
+        copied = pathlib.Path(shutil.copy2(self.folder / "x.id", self.folder / "y.id"))
+        self.assertEqual(copied.read_text(), (self.folder / "x.id").read_text())
+        self.assertNotEqual(machine_id(str(self.folder / "y"), lambda *_: None), made)
 
     def test_a_folder_that_takes_no_file_is_told_once(self) -> None:
         said: list[str] = []

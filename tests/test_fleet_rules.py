@@ -13,6 +13,7 @@ from support.fleet.recording import (
     REQUESTS,
     VERDICTS,
     Answered,
+    Dropped,
     Event,
     Look,
     Outage,
@@ -29,10 +30,8 @@ from support.fleet.rules import broken_rules, figures
 HOSTS = ("a", "b", "c")
 PORTS = {"web-1": [9010, 9011], "web-2": [9020, 9021], "web-3": [9030, 9031]}
 LEADER = 5  # the revision that made the leader's key
-FIRST, SECOND = (
-    20,
-    40,
-)  # the revisions of the plans of web-2, which succeeds, and of web-3, which is aborted
+# the revisions of the plans of web-2, which succeeds, and of web-3, which is aborted
+FIRST, SECOND = (20, 40)
 
 
 def record(attempt: int, name: str, stable: str, stage: str, **others: object) -> str:
@@ -177,12 +176,27 @@ class Good(unittest.TestCase):
 
     def test_an_ordered_promotion(self) -> None:
         run = good()
-        order = json.dumps({"version": 1, "order": "promote", "attempt": FIRST, "by": "somebody"})
-        events = with_event(run.events, 20, plan("web-2", by_hand=True)) + [
-            Event(24, "order", order, 24),
+        events = ordered(
+            with_event(run.events, 20, plan("web-2", by_hand=True)),
+            Event(24, "order", order("promote", FIRST), 24),
             Event(25, "order", None),
-        ]
+        )
         self.assertEqual(broken_rules(run._replace(events=events)), [])
+
+    def test_orders_that_are_answered(self) -> None:
+        """An abort that takes the place of a promote and is carried out, and one that is dropped
+        with a word."""
+        run = good()
+        events = ordered(
+            run.events,
+            Event(45, "order", order("promote", SECOND), 45),
+            Event(46, "order", order("abort", SECOND), 45),
+            Event(47, "order", None),
+            Event(50, "order", order("abort", SECOND), 50),
+            Event(51, "order", None),
+        )
+        dropped = [Dropped("a", 51.0, "abort", SECOND, "somebody")]
+        self.assertEqual(broken_rules(run._replace(events=events, dropped=dropped)), [])
 
 
 def with_event(events: Sequence[Event], revision: int, value: str) -> list[Event]:
@@ -212,12 +226,93 @@ def added(field: str, value: object) -> Callable[[Recording], Recording]:
     return lambda run: run._replace(**{field: [*getattr(run, field), value]})  # type: ignore[arg-type]
 
 
+def order(what: str, attempt: int) -> str:
+    return json.dumps({"version": 1, "order": what, "attempt": attempt, "by": "somebody"})
+
+
+def ordered(events: Sequence[Event], *orders: Event) -> list[Event]:
+    """These events and further ones, by their revisions."""
+    return sorted([*events, *orders], key=lambda event: event.revision)
+
+
 # By its name: the rule that is broken, a part of what is said, and the violation.
 PLANTED: dict[str, tuple[int, str, Callable[[Recording], Recording]]] = {
     "promoting without one member": (
         1,
         "while c reported (20, 'working')",
         events_changed(24, report(FIRST, "working", "web-1")),
+    ),
+    "promoting for too long": (
+        8,
+        "attempt 40 was promoting 33.0 seconds after it was promoting",
+        lambda run: run._replace(
+            events=[
+                event._replace(revision=event.revision + 32) if event.revision >= 47 else event
+                for event in with_event(
+                    run.events,
+                    45,
+                    record(
+                        SECOND,
+                        "web-3",
+                        "web-2",
+                        "promoting",
+                        plan={"fleet": {"promoting_seconds": 9}},
+                    ),
+                )
+            ],
+            polls=[Poll(moment, moment + 0.01, moment) for moment in range(100)],
+        ),
+    ),
+    "an abort that does not end its attempt": (
+        8,
+        "attempt 40 was promoting 32.0 seconds after its abort was ordered",
+        lambda run: run._replace(
+            events=ordered(
+                [
+                    event._replace(revision=event.revision + 32) if event.revision >= 47 else event
+                    for event in run.events
+                ],
+                Event(46, "order", order("abort", SECOND), 46),
+            ),
+            polls=[Poll(moment, moment + 0.01, moment) for moment in range(100)],
+        ),
+    ),
+    "promoting after an abort": (
+        7,
+        "revision 25: promoting of attempt 20, whose abort was ordered before",
+        lambda run: run._replace(
+            events=ordered(run.events, Event(24, "order", order("abort", FIRST), 24))
+        ),
+    ),
+    "success after an abort": (
+        7,
+        "revision 29: successful of attempt 20, whose abort was ordered before",
+        lambda run: run._replace(
+            events=ordered(run.events, Event(28, "order", order("abort", FIRST), 28))
+        ),
+    ),
+    "an order that goes without a word": (
+        7,
+        "revision 31: the order abort for attempt 20, by somebody, went without a word",
+        lambda run: run._replace(
+            events=ordered(
+                run.events,
+                Event(30, "order", order("abort", FIRST), 30),
+                Event(31, "order", None),
+            )
+        ),
+    ),
+    "a word that is of another order": (
+        7,
+        "revision 31: the order abort for attempt 20, by somebody, went without a word",
+        lambda run: run._replace(
+            events=ordered(
+                run.events,
+                Event(30, "order", order("abort", FIRST), 30),
+                Event(31, "order", None),
+            ),
+            dropped=[Dropped("a", 31.0, "abort", SECOND, "somebody")],
+        ),
     ),
     "promoting by a report of another attempt": (
         1,
@@ -375,12 +470,15 @@ class Planted(unittest.TestCase):
                 )
 
     def test_each_rule_has_one(self) -> None:
-        self.assertEqual({rule for rule, _, _ in PLANTED.values()}, {1, 2, 3, 4, 5, 6})
+        self.assertEqual({rule for rule, _, _ in PLANTED.values()}, {1, 2, 3, 4, 5, 6, 7, 8})
 
 
 class Files(unittest.TestCase):
     def test_what_was_written_is_read(self) -> None:
-        run = good()._replace(outages=[Outage("link", "a", 1.0, 2.0)])
+        run = good()._replace(
+            outages=[Outage("link", "a", 1.0, 2.0)],
+            dropped=[Dropped("b", 51.0, "abort", SECOND, "a person, by name")],
+        )
         with tempfile.TemporaryDirectory() as folder:
             self.write(pathlib.Path(folder), run)
             found = read_recording(pathlib.Path(folder), HOSTS)
@@ -395,7 +493,7 @@ class Files(unittest.TestCase):
             )
             self.assertEqual(
                 read_recording(path, HOSTS),
-                Recording([], [Poll(1, 2, 3)], {host: [] for host in HOSTS}, [], [], [], []),
+                Recording([], [Poll(1, 2, 3)], {host: [] for host in HOSTS}, [], [], [], [], []),
             )
 
     def write(self, folder: pathlib.Path, run: Recording) -> None:
@@ -420,6 +518,15 @@ class Files(unittest.TestCase):
                         "line": text.format(each.revision, each.attempt, each.age),
                     }
                     for each in run.promotes
+                    if each.host == host
+                ]
+                + [
+                    {
+                        "moment": each.moment,
+                        "line": f"2026-11-25T18:03:12+01:00: drops the order {each.order} for attempt {each.attempt}, "
+                        f"by {each.by}: the attempt is aborted, b: why",
+                    }
+                    for each in run.dropped
                     if each.host == host
                 ],
             )

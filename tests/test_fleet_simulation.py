@@ -11,7 +11,7 @@ from collections.abc import Callable, Iterator
 from unittest import mock
 
 from bg_switch_tools.fleet import machine
-from bg_switch_tools.fleet.record import ATTEMPT, LEADER, MACHINES, MEMBERS, PLAN
+from bg_switch_tools.fleet.record import ATTEMPT, LEADER, MACHINES, MEMBERS, ORDER, PLAN
 from tests.fleet_faults import (
     Patch,
     after_the_end,
@@ -20,7 +20,10 @@ from tests.fleet_faults import (
     no_catch_up,
     on_changes,
     on_reads_of_any_age,
+    plan_first,
+    silent_about_orders,
     verdict_at_once,
+    votes_for_any_leader,
     without_compares,
     without_one_member,
     without_the_id,
@@ -145,6 +148,18 @@ class PlantedFaults(unittest.TestCase):
 
     def test_a_leader_without_the_compare_of_the_members(self) -> None:
         self.check(lambda: without_compares(MEMBERS), "rule 3")
+
+    def test_votes_for_an_earlier_leader(self) -> None:
+        self.check(votes_for_any_leader, "rule 1: ")
+
+    def test_a_leader_without_the_compare_of_the_order(self) -> None:
+        self.check(lambda: without_compares(ORDER), "rule 7: ")
+
+    def test_a_leader_that_drops_orders_without_a_word(self) -> None:
+        self.check(silent_about_orders, "rule 7: the order")
+
+    def test_a_leader_that_decides_nothing_without_a_plan(self) -> None:
+        self.check(plan_first, "rule 8")
 
     def test_no_catch_up(self) -> None:
         self.check(no_catch_up, "rule 4")

@@ -4,10 +4,10 @@ import unittest
 from unittest import mock
 
 from bg_switch_tools.fleet import watch as watching
-from bg_switch_tools.fleet.record import ATTEMPT, LEADER, MACHINES, MEMBERS, ORDER, PLAN
+from bg_switch_tools.fleet.record import ATTEMPT, LEADER, MACHINES, MEMBERS, ORDER, PLAN, View
 from bg_switch_tools.fleet.status import status_of
 from bg_switch_tools.fleet.status_text import draw, in_one_line
-from tests.fleet_people import HOSTS, MOMENT, V2, V3, WithFleet
+from tests.fleet_people import HOSTS, MOMENT, V1, V2, V3, WithFleet
 
 NOT_BEGUN = """\
 fleet web: led by web-1
@@ -171,6 +171,24 @@ class Texts(Status):
         self.assertEqual((run.told, run.status), ("", 1))
         self.put(PLAN, "[]")
         self.assertIn("the plan is wrong: ", self.fleet("status").printed)
+
+    def test_a_plan_that_is_none_blocks_no_attempt_and_is_said(self) -> None:
+        """What is awaited is still told, since the attempt goes on by the plan that it began
+        with."""
+        for text, problem in (
+            ("{", "problem: no attempt begins: the plan is wrong: it is not JSON"),
+            ("", "problem: no attempt begins: there is no plan"),
+        ):
+            self.put_plan(V1, V2)
+            kept = View(self.others.read()).plan
+            self.put_record("promoting", plan=kept)
+            self.report("testing")
+            self.put(PLAN, text) if text else self.delete(PLAN)
+            printed = self.fleet("status").printed
+            self.assertIn(problem, printed)
+            self.assertIn("waits for web-1: testing; web-2: testing; web-3: testing", printed)
+            self.assertNotIn("waits for a leader", printed)
+            self.assertNotIn("no plan was put", printed)
 
     def test_no_text_from_the_store_moves_the_cursor(self) -> None:
         self.put_record("aborted", reason="\x1b[2J\nweb-1 follows")

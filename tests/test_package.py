@@ -15,9 +15,8 @@ from tests.tool_runs import TOP, WAIT
 
 BUILD = TOP / "packaging" / "build.sh"
 EXECUTABLE = "usr/libexec/bg-switch/bg_switch"  # the program, which the command bg_switch starts
-EXAMPLES = {
-    "bg-fleet": "fleet"
-}  # by unit: the folder of examples that has it; production for the others
+# by unit: the folder of examples that has it; production for the others
+EXAMPLES = {"bg-fleet": "fleet"}
 EXAMPLE = TOP / "examples" / "production"
 UNITS = ("bg-switch", "bg-controller", "bg-fleet", "bg-dashboard")
 SOURCE = TOP / "crates" / "bg_command_line" / "src" / "command_line.rt"

@@ -203,9 +203,8 @@ class Launched:
             folder,
         )
         self.controller = Program([str(TOP / "bin" / "controller"), self.plan.path], "", "", folder)
-        self.outages: list[
-            tuple[float, float]
-        ] = []  # from when to when the switch could not answer
+        # from when to when the switch could not answer
+        self.outages: list[tuple[float, float]] = []
 
     def name_last(self, name: str) -> None:
         """Puts a plan in place whose last revision this is."""

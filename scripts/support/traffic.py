@@ -39,9 +39,8 @@ class Traffic:
         self.port = port
         self.pause = pause
         self.answered: collections.Counter[str] = collections.Counter()
-        self.errors: collections.Counter[
-            str
-        ] = collections.Counter()  # statuses from 500 on that a revision answered
+        # statuses from 500 on that a revision answered
+        self.errors: collections.Counter[str] = collections.Counter()
         self.failed = 0
         self.lock = threading.Lock()
         self.ended = threading.Event()

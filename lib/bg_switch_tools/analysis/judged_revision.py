@@ -11,11 +11,8 @@ from bg_switch_tools.switch.reports import NoReport, Report, read_report
 
 FIRST_WAIT = 10.0  # seconds for the switch to answer at the begin
 WAIT = 1.0  # seconds for it to answer later
-NAME, NUMBER, CONTROL = (
-    "BG_REVISION",
-    "BG_REVISION_NUMBER",
-    "BG_CONTROL",
-)  # variables of the controller
+# variables of the controller
+NAME, NUMBER, CONTROL = ("BG_REVISION", "BG_REVISION_NUMBER", "BG_CONTROL")
 
 
 class JudgedRevision:

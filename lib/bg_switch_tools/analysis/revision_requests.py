@@ -55,9 +55,8 @@ class ByNeighbours:
     that began later tells: a long one can end after the service has moved."""
 
     def __init__(self) -> None:
-        self.latest: dict[
-            str, tuple[float, int]
-        ] = {}  # by the service: when its latest request began, and its revision
+        # by the service: when its latest request began, and its revision
+        self.latest: dict[str, tuple[float, int]] = {}
         # before the first request
         self.held: dict[str, list[LogEntry]] = {service: [] for service in CLIENT_SERVICES}
 

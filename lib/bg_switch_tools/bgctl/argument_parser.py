@@ -31,9 +31,8 @@ class Parser(argparse.ArgumentParser):
     """A parser that says of an option that is none which one was probably meant, or which commands
     have it."""
 
-    owners: Mapping[
-        str, Sequence[str]
-    ] = {}  # by the long options of all commands: the commands that have it
+    # by the long options of all commands: the commands that have it
+    owners: Mapping[str, Sequence[str]] = {}
     valued: Collection[str] = OF_TARGET  # the options that take a value
 
     def error(self, message: str) -> NoReturn:

@@ -121,9 +121,8 @@ class CommandRun:
         return DONE
 
     def check(self) -> int:
-        from bg_switch_tools.controller import (
-            cli as controller_cli,
-        )  # here, since few commands need it and its HTTP
+        # here, since few commands need it and its HTTP
+        from bg_switch_tools.controller import cli as controller_cli
 
         return controller_cli.check(self.plan_path("a plan is judged"), self.given.rollout)
 

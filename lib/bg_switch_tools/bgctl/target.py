@@ -9,10 +9,8 @@ from bg_switch_tools.controller.plan_reader import WrongPlan
 from bg_switch_tools.switch.arguments import control_of
 from bg_switch_tools.switch.control import Control
 
-CONTROL, PLAN = (
-    "BG_CONTROL",
-    "BG_PLAN",
-)  # variables of the environment; one that is empty counts as not set
+# variables of the environment; one that is empty counts as not set
+CONTROL, PLAN = ("BG_CONTROL", "BG_PLAN")
 
 BEFORE = "before_"  # begins the names of the options that stand before the command
 

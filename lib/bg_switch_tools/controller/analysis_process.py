@@ -19,10 +19,8 @@ from bg_switch_tools.controller.process_groups import Group, ProcessId
 from bg_switch_tools.switch.control import Control
 from bg_switch_tools.switch.reports import Revision
 
-ANALYSIS_OF_PHASE = {
-    "preAnalysis": "pre",
-    "postAnalysis": "post",
-}  # by the phase: the analysis that it waits for
+# by the phase: the analysis that it waits for
+ANALYSIS_OF_PHASE = {"preAnalysis": "pre", "postAnalysis": "post"}
 VERDICTS = {0: SUCCESSFUL, 1: FAILED}  # by the exit status; any other is an error
 SETTLE = 0.5  # seconds for the last lines of the commands of a phase that have ended
 HOW = {FAILED: "has failed", ERROR: "has ended in an error"}  # of a result that decides

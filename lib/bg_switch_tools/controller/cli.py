@@ -69,10 +69,8 @@ editors: share/plan.schema.json. docs/OPERATING.md says what each line of the lo
 Exit status: 0 after SIGTERM or ctrl-C, and for a plan in which `check` finds nothing wrong; 1 if the plan is wrong when it starts,
 by `check` or after `deploy`, if the switch can't be opened with it, or if another controller runs it; 2 if the words are wrong.
 """
-CONNECT, ANSWER = (
-    1.0,
-    10.0,
-)  # seconds within which a connection is taken, and for the answers of a round
+# seconds within which a connection is taken, and for the answers of a round
+CONNECT, ANSWER = (1.0, 10.0)
 RETRY = 0.2  # seconds between two tries where the switch gives no answer
 MINUTE = 60.0
 LOOK = 0.05  # seconds between two looks at whether a signal has come

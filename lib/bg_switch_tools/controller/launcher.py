@@ -77,9 +77,8 @@ class Launcher:
         self.probes = probes
         self.former = FormerSwitches(memory)
         self.endpoints: dict[Key, Endpoint] = {}
-        self.held: set[
-            Key
-        ] = set()  # those of which it was told that another revision has their port
+        # those of which it was told that another revision has their port
+        self.held: set[Key] = set()
         left = [command for command in memory.state.commands if is_running(command)]
         self.leftovers = [begin_end(command, GRACE) for command in left]
         self.endings: list[threading.Thread] = []

@@ -27,9 +27,8 @@ class Log:
         self.moment: int | None = None
         self.lock = threading.Lock()  # of `out`
         self.telling = threading.Lock()  # of `tell`, since several threads of an agent write lines
-        self.tell: Callable[
-            [dict[str, object]], None
-        ] | None = None  # is given each line as an object
+        # is given each line as an object
+        self.tell: Callable[[dict[str, object]], None] | None = None
 
     def say(self, event: str, text: str) -> None:
         """Writes a line. `event` is its kind, which only JSON shows: plan, switch, state, change,

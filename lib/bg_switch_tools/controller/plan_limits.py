@@ -11,10 +11,8 @@ from bg_switch_tools.switch.json_values import Judge
 
 # bin/analysis, `bgctl analysis`, the word of the tools as one file; and that of the package
 TOOLS = ("analysis", "bg-analysis")
-EVERY, EVERY_SECONDS = (
-    "--every",
-    "--interval",
-), 5.0  # the option for the seconds between two measurements, and how many they are else
+# the option for the seconds between two measurements, and how many they are else
+EVERY, EVERY_SECONDS = ("--every", "--interval"), 5.0
 
 
 def option(words: Sequence[str], *names: str) -> float | None:

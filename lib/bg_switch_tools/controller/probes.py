@@ -36,12 +36,10 @@ class Probes:
     def __init__(self) -> None:
         self.health = Health()
         self.failed: dict[int, int] = {}  # by port: failures in a row, once a probe has ended
-        self.failing_since: dict[
-            int, float
-        ] = {}  # by port: when the first of the failures in a row was seen
-        self.generation: dict[
-            int, int
-        ] = {}  # by port: how often what was known of it was forgotten
+        # by port: when the first of the failures in a row was seen
+        self.failing_since: dict[int, float] = {}
+        # by port: how often what was known of it was forgotten
+        self.generation: dict[int, int] = {}
         self.tasks: dict[int, asyncio.Task[None]] = {}
         self.watched: frozenset[int] = frozenset()
         self.loop = asyncio.new_event_loop()

@@ -19,10 +19,8 @@ GREATEST_MOMENT = 1 << 53
 GREATEST_TIME = 1 << 40  # seconds of Unix time, and above each number and start of a process
 MOST_STARTED = 1000  # revisions, and commands that run at a time
 TOUCH = 1.0  # seconds between two touches of the lock's file
-LONGEST_LOOK, LOCK_PAUSE = (
-    0.5,
-    0.02,
-)  # seconds for which the lock is tried for, and between two tries
+# seconds for which the lock is tried for, and between two tries
+LONGEST_LOOK, LOCK_PAUSE = (0.5, 0.02)
 LONGEST_REASON = 1000  # characters
 MISSING = "is not there"  # what is the matter with a file that does not exist
 NEEDED = ("moment", "stable", "deployed", "attempt")

@@ -49,9 +49,8 @@ class Board:
         self.controller: ControllerView | None = (
             None  # from the first look on, where there is a plan
         )
-        self.session = secrets.token_hex(
-            8
-        )  # by which a page notices that another dashboard has taken the place
+        # by which a page notices that another dashboard has taken the place
+        self.session = secrets.token_hex(8)
         self.report: Report | None = None
         self.earlier: Report | None = None  # of the same book, before the last one
         self.has_asked = False  # whether the switch has answered before

@@ -41,9 +41,8 @@ class FleetPages:
         while True:
             try:
                 await self.look()
-            except (
-                Exception
-            ) as error:  # none is expected; without the reads that follow, the page would show what is long past
+            # none is expected; without the reads that follow, the page would show what is long past
+            except Exception as error:
                 take_fault(self.board, error, self.tell)
             await asyncio.sleep(PAUSE)
 

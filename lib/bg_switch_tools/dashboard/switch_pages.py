@@ -64,9 +64,8 @@ class SwitchPages:
                 if self.results:
                     self.board.results = await asyncio.to_thread(self.results.read)
                 self.take(*seen, is_counted)
-            except (
-                Exception
-            ) as error:  # none is expected; without the looks that follow, the page would show what is long past
+            # none is expected; without the looks that follow, the page would show what is long past
+            except Exception as error:
                 take_fault(self.board, error, self.tell)
             with contextlib.suppress(TimeoutError):
                 await asyncio.wait_for(

@@ -28,15 +28,22 @@ def path_of(file: FleetFile, state: pathlib.Path | None) -> str:
 
 
 def machine_id(path: str, say: Say) -> str:
-    """The id of a machine: one that is kept beside this path, and that of the system's boot. An
-    agent that is started again has the same one. An agent with files of its own has another one,
-    and so has one on a copy of the machine, with a copy of the files.
+    """The id of a machine: one that is kept in a file beside this path, that of the system's boot,
+    and the device and the number (inode) of the file. An agent that is started again has the same
+    one. An agent with files of its own has another one, and so has one with a copy of the files, on
+    a copy of the machine or on the same kernel.
     """
     try:
         boot = BOOT.read_text(encoding="ascii").strip()
     except (OSError, ValueError):
         boot = "unknown"
-    return f"{_kept_id(pathlib.Path(path + ID), say)}.{boot}"
+    file = pathlib.Path(path + ID)
+    kept = _kept_id(file, say)
+    try:
+        status = file.stat()
+    except OSError:
+        return f"{kept}.{boot}"
+    return f"{kept}.{boot}.{status.st_dev:x}.{status.st_ino:x}"
 
 
 def _kept_id(path: pathlib.Path, say: Say) -> str:

@@ -8,7 +8,7 @@ import signal
 import sys
 import threading
 import time
-from collections.abc import Callable
+from collections.abc import Callable, Mapping
 from types import FrameType
 
 from bg_switch_tools.controller.controller import ROUND, ControllerFiles
@@ -26,6 +26,7 @@ from bg_switch_tools.fleet.fleet_plan import MachineSettings
 from bg_switch_tools.fleet.handover import Handover
 from bg_switch_tools.fleet.machine import FRESH, Machine
 from bg_switch_tools.fleet.rollout_settings import RolloutFile
+from bg_switch_tools.fleet.status_text import plain
 from bg_switch_tools.fleet.store import Store, StoreFault
 from bg_switch_tools.fleet.store_threads import Leading, StoreTurns, Watch
 from bg_switch_tools.fleet.time_limit import TimeLimit
@@ -127,6 +128,7 @@ class AgentProcess:
     def _run_rounds(self) -> None:
         """Rounds at the switch, until the agent is stopped. They wait for no call of the store."""
         pause = 0.0
+        self._await_first_read()
         while not self.stopping.is_set():
             for read in self.handover.await_reads(pause):
                 self._take(read)
@@ -137,6 +139,17 @@ class AgentProcess:
             self.status.keep(self.read_at, self.lost_at)
         self.rounds.end()
         self.status.remove()
+
+    def _await_first_read(self) -> None:
+        """Waits for a read, but not longer than a call of the store may take: what the files of
+        this machine say may be old, and a switch is not to be opened by it while the store
+        answers."""
+        limit = TimeLimit(self.timeout)
+        while not (self.stopping.is_set() or self.read_at) and (left := limit.rest()):
+            for read in self.handover.await_reads(left):
+                self._take(read)
+            if not self.read_at:
+                self.handover.finish(None)
 
     def _take(self, read: Read) -> None:
         self.agent.take(read)
@@ -179,9 +192,8 @@ class AgentProcess:
             self.rounds.end_at_once()
         self.rounds.probes.stop()
         limit = TimeLimit(LONGEST_CALLS)
-        for (
-            thread
-        ) in self.writing_threads:  # a call that ends after the lease would begin another one
+        # a call that ends after the lease would begin another one
+        for thread in self.writing_threads:
             thread.join(limit.rest())
         self._revoke()
 
@@ -197,6 +209,14 @@ class AgentProcess:
                     f"the others learn of the end when the leases end, since the store gives no answer: {fault}",
                 )
                 return
+
+
+class PlainLog(Log):
+    """A log in which a text of another machine, of a person or of a plan moves no cursor, and makes
+    no line of its own."""
+
+    def _object(self, event: str, text: str, told: Mapping[str, object]) -> dict[str, object]:
+        return super()._object(event, plain(text), told)
 
 
 def tell(text: str) -> None:
@@ -253,7 +273,7 @@ def _run_locked(file: FleetFile, settings: MachineSettings, arguments: AgentArgu
 
     for number in (signal.SIGTERM, signal.SIGINT):
         signal.signal(number, note)
-    log = Log(sys.stdout, arguments.as_json)
+    log = PlainLog(sys.stdout, arguments.as_json)
     for problem in missing_files(file):
         log.say("plan", problem)
     process = AgentProcess(

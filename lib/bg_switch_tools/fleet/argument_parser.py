@@ -13,10 +13,8 @@ from bg_switch_tools.switch.lines import REFUSALS
 
 LONGEST_ID = 19  # digits of a revision of etcd
 DESCRIPTION = "Rolls one plan out over the machines of a fleet, which agree by etcd."
-LEAST_ROUND, LONGEST_ROUND = (
-    0.05,
-    0.9,
-)  # seconds: no line goes forward by a read that is older than a second
+# seconds: no line goes forward by a read that is older than a second
+LEAST_ROUND, LONGEST_ROUND = (0.05, 0.9)
 
 
 class FleetCommand(NamedTuple):
@@ -50,7 +48,7 @@ FLEET_COMMANDS = (
     FleetCommand(
         "abort",
         "orders the abort of an attempt that runs: all machines go back",
-        "It may take the place of a promote that no " "leader has answered yet.",
+        "It may take the place of a promote that no leader has answered yet.",
     ),
     FleetCommand("retry", "begins an attempt again that was aborted"),
     FleetCommand("undo", "deploys the revision again that was stable before the newest one"),
@@ -139,7 +137,23 @@ def _order(to: argparse.ArgumentParser) -> None:
         metavar="ID",
         help="the attempt that was seen: another one is refused",
     )
+    to.add_argument(
+        "--wait",
+        action="store_true",
+        help="waits for the end of the attempt, which gives the exit status",
+    )
+    _timeout(to, "--wait")
     _yes(to)
+
+
+def _timeout(to: argparse.ArgumentParser, of: str) -> None:
+    to.add_argument(
+        "--timeout",
+        type=seconds_of,
+        default=600.0,
+        metavar="SECONDS",
+        help=f"how long {of} waits (600)",
+    )
 
 
 def _undo(to: argparse.ArgumentParser) -> None:
@@ -165,13 +179,7 @@ def _members(to: argparse.ArgumentParser) -> None:
 
 def _wait(to: argparse.ArgumentParser) -> None:
     to.add_argument("conditions", metavar="CONDITION", nargs="+", help=CONDITION_SYNTAX)
-    to.add_argument(
-        "--timeout",
-        type=seconds_of,
-        default=600.0,
-        metavar="SECONDS",
-        help="how long it waits (600)",
-    )
+    _timeout(to, "it")
     _json(to)
 
 

@@ -5,7 +5,7 @@ from typing import NamedTuple
 
 from bg_switch_tools.fleet.agent import LEASE, Clock, Lease, Say, Trouble
 from bg_switch_tools.fleet.leader import StageClock, Write, decide
-from bg_switch_tools.fleet.record import LEADER, Unreadable, View
+from bg_switch_tools.fleet.record import LEADER, ORDER, PLAN, Unreadable, View
 from bg_switch_tools.fleet.store import Compare, Snapshot, Store, StoreFault
 
 
@@ -38,8 +38,13 @@ class Candidate:
         self.unix_time = clocks.unix_time
         self.lease = Lease(store, now, seconds)
         self.created = 0  # the `created` revision of the leader's key while this one leads
+        # Whether a read has failed since this one leads. What was reported before may be of machines
+        # that are gone, since an etcd that is back lets leases last longer: so the lead is given up,
+        # and each machine reports to the next leader, which may be this one.
+        self.has_lost = False
         self.clock = StageClock()
         self.told_fault = ""
+        self.told_dropped: tuple[str, int] = ("", 0)  # with the `changed` revision of its order
         self.silence = Trouble(
             lambda text: say("leader", text), now, "the store gives no answer to the candidate"
         )
@@ -68,46 +73,74 @@ class Candidate:
             snapshot = self.store.read()
         except StoreFault as fault:
             self.silence.begin(str(fault))
+            self.clock.lose()
+            self.has_lost = self.created != 0
             return None
         self.silence.end("the store answers the candidate again")
+        self._see(snapshot)
         key = View(snapshot).key(LEADER)
         if key is None:
-            self._stop_leading("its key is gone")
+            self._stop_leading(
+                "reads have failed, so another lead begins" if self.has_lost else "its key is gone"
+            )
             write = Write((Compare(LEADER, "created", 0),), {LEADER: self.host}, (), None)
             return Pending(write, self.lease.number)
-        if (
-            key.lease != self.lease.number
-        ):  # of another one, or of a lease of this host before, which ends by itself
+        # of another one, or of a lease of this host before, which ends by itself
+        if key.lease != self.lease.number:
             self._stop_leading(f"{key.value} leads")
             return None
+        if self.has_lost and self.created == key.created:
+            return Pending(Write((Compare(LEADER, "created", key.created),), {}, (LEADER,), None))
         if self.created != key.created:
             self.say("leader", f"{self.host} leads")
-            self.created = key.created
+            self.created, self.has_lost = key.created, False
             self.clock.forget()
         return self._decide(snapshot)
 
+    def _see(self, snapshot: Snapshot) -> None:
+        """Notes since when the stage lasts, whoever leads."""
+        try:
+            self.clock.see(View(snapshot).record, self.now())
+        except Unreadable:  # which is told where this one leads
+            return
+
     def _decide(self, snapshot: Snapshot) -> Pending | None:
+        view = View(snapshot)
         try:
             waited = self.clock.look(snapshot, self.now())
             write = decide(snapshot, self.created, waited, int(self.unix_time()))
         except Unreadable as reason:
-            if str(reason) != self.told_fault:
-                self.told_fault = str(reason)
-                self.say("leader", f"nothing is decided: {reason}")
+            self._tell_fault(f"nothing is decided: {reason}")
             return None
-        self.told_fault = ""
+        is_wrong = view.key(PLAN) is not None and view.standing_plan is None
+        self._tell_fault(f"no attempt begins: {view.plan_fault}" if is_wrong else "")
         return Pending(write) if write else None
+
+    def _tell_fault(self, fault: str) -> None:
+        """Tells why less is decided than could be, once; empty where that is over."""
+        if fault and fault != self.told_fault:
+            self.say("leader", fault)
+        self.told_fault = fault
 
     def _stop_leading(self, why: str) -> None:
         if self.created:
             self.say("leader", f"{self.host} leads no longer: {why}")
-        self.created = 0
+        self.created, self.has_lost = 0, False
         self.clock.forget()
+
+    def _tell_dropped(self, write: Write) -> None:
+        """Tells of an order that is dropped, once. It is told before the write, so that no order
+        goes without a line, also where this process ends meanwhile."""
+        order = next((compare.value for compare in write.compares if compare.name == ORDER), 0)
+        if write.dropped and (write.dropped, order) != self.told_dropped:
+            self.told_dropped = (write.dropped, order)
+            self.say("leader", write.dropped)
 
     def send(self, pending: Pending) -> bool:
         """Writes what was decided. Gives whether it was written: not where something has changed
         since the read."""
         write = pending.write
+        self._tell_dropped(write)
         try:
             revision = self.store.write(write.compares, write.puts, write.deletes, pending.lease)
         except StoreFault as fault:

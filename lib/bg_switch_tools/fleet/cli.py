@@ -11,7 +11,7 @@ from bg_switch_tools.controller.plan_author import login_name
 from bg_switch_tools.controller.plan_reader import WrongPlan
 from bg_switch_tools.fleet import person_members, person_orders, person_plans
 from bg_switch_tools.fleet.argument_parser import FLEET_COMMAND_NAMES, parser
-from bg_switch_tools.fleet.conditions import FleetConditions
+from bg_switch_tools.fleet.conditions import Conditions, FleetConditions, OrderIsCarriedOut
 from bg_switch_tools.fleet.etcd import EtcdStore
 from bg_switch_tools.fleet.exit_statuses import DONE, NO_ANSWER, REFUSED, WRONG_WORDS
 from bg_switch_tools.fleet.fleet_file import FleetFile, WrongFleetFile, read_whole_fleet_file
@@ -63,10 +63,8 @@ class FleetRun:
         )
 
     def agent(self) -> int:
-        from bg_switch_tools.fleet.agent_process import (
-            AgentArguments,
-            run_agent,
-        )  # here, since no other command needs its parts
+        # here, since no other command needs its parts
+        from bg_switch_tools.fleet.agent_process import AgentArguments, run_agent
 
         arguments = AgentArguments(
             None if self.given.state is None else pathlib.Path(self.given.state),
@@ -104,8 +102,13 @@ class FleetRun:
         return self._order()
 
     def _order(self) -> int:
-        print(person_orders.give_order(self.person(), self.given.command, self.given.attempt))
-        return DONE
+        """Puts an order. With `--wait` the end of its attempt is awaited, and told."""
+        person, order = self.person(), self.given.command
+        ordered = person_orders.give_order(person, order, self.given.attempt)
+        print(ordered.told, flush=True)
+        if not self.given.wait:
+            return DONE
+        return self._await(person, OrderIsCarriedOut(order, ordered.attempt), False)
 
     def retry(self) -> int:
         print(person_plans.retry(self.person()))
@@ -127,9 +130,12 @@ class FleetRun:
         return DONE
 
     def wait(self) -> int:
+        return self._await(self.person(), FleetConditions(self.given.conditions), self.given.json)
+
+    def _await(self, person: Person, conditions: Conditions, as_json: bool) -> int:
         """Waits. Each change meanwhile, and a store that gives no answer, is told on standard
         error."""
-        person, changes = self.person(), Changes()
+        changes = Changes()
 
         def see(snapshot: Snapshot) -> None:
             changes.tell(in_one_line(status_of(person.fleet, snapshot)))
@@ -137,11 +143,9 @@ class FleetRun:
         def lose(fault: StoreFault) -> None:
             changes.tell(str(fault))
 
-        result = wait_for(
-            person.store, FleetConditions(self.given.conditions), self.given.timeout, see, lose
-        )
+        result = wait_for(person.store, conditions, self.given.timeout, see, lose)
         status = status_of(person.fleet, result.snapshot) if result.snapshot else None
-        if self.given.json:
+        if as_json:
             print(
                 json.dumps(
                     {

@@ -7,8 +7,11 @@ from typing import Protocol
 
 from bg_switch_tools.fleet.leader import votes_of
 from bg_switch_tools.fleet.record import (
+    ABORT,
+    ABORTED,
     DEPLOYING,
     PLAN,
+    PROMOTE,
     PROMOTING,
     READY,
     STAGES,
@@ -16,18 +19,17 @@ from bg_switch_tools.fleet.record import (
     Record,
     Unreadable,
     View,
+    plan_of_attempt,
 )
 from bg_switch_tools.fleet.status_text import attempt_title
 from bg_switch_tools.fleet.store import Snapshot
 from bg_switch_tools.operator.conditions import HOLDS, MAY_COME, Outlook, WrongCondition
 from bg_switch_tools.switch.json_values import NAME
 
-AWAITED_STAGES = (
-    DEPLOYING,
-    READY,
-    *STAGES[1:],
-)  # `ready`: it is deploying, and all members are ready
+# `ready`: it is deploying, and all members are ready
+AWAITED_STAGES = (DEPLOYING, READY, *STAGES[1:])
 STEPS = (DEPLOYING, READY, PROMOTING)  # in their order; each other stage ends an attempt
+ENDS = {ABORT: ABORTED, PROMOTE: SUCCESSFUL}  # by the order: the stage in which it is carried out
 CONDITION_SYNTAX = f"NAME=STAGE (a stage is one of {', '.join(AWAITED_STAGES)}), settled"
 
 
@@ -47,12 +49,8 @@ def _not_begun(view: View) -> Outlook:
 
 
 def _are_ready(view: View, record: Record) -> bool:
-    plan = view.plan
-    return (
-        plan is not None
-        and record.stage == DEPLOYING
-        and votes_of(view, record).are_enough(plan.max_missing)
-    )
+    most = plan_of_attempt(view, record).max_missing
+    return record.stage == DEPLOYING and votes_of(view, record).are_enough(most)
 
 
 @dataclasses.dataclass(frozen=True)
@@ -65,7 +63,8 @@ class StageIs:
     stage: str
 
     def outlook(self, view: View) -> Outlook:
-        plan, record, plan_id = view.plan, view.record, view.changed(PLAN)
+        record, plan_id = view.record, view.changed(PLAN)
+        plan = view.standing_plan if record else view.plan
         if plan and plan.last.name != self.name:
             # another plan can have been put between two reads
             was = (
@@ -74,8 +73,10 @@ class StageIs:
                 and record.fleet_stable.name == self.name
             )
             return HOLDS if was else Outlook(False, f"plan {plan_id} deploys {plan.last.name}")
-        if plan is None or record is None:
+        if record is None:
             return _not_begun(view)
+        if plan is None:  # the attempt goes on by the plan that it began with
+            return self._outlook(view, record) if record.revision.name == self.name else MAY_COME
         return self._outlook(view, record) if record.id == plan_id else MAY_COME
 
     def _outlook(self, view: View, record: Record) -> Outlook:
@@ -96,9 +97,12 @@ class Settled:
     as the plan allows."""
 
     def outlook(self, view: View) -> Outlook:
-        plan, record = view.plan, view.record
-        if plan is None or record is None:
+        record = view.record
+        plan = view.standing_plan if record else view.plan
+        if record is None:
             return _not_begun(view)
+        if plan is None:
+            return MAY_COME
         reports = [view.machine(host) for host in view.members]
         follow = all(report.follows(record) for report in reports if report)
         is_over = not record.is_running and record.id == view.changed(PLAN)
@@ -122,6 +126,43 @@ def read_condition(text: str) -> FleetCondition:
             f"{text}: a stage is needed after the =, one of {', '.join(AWAITED_STAGES)}; the nearest is {near}"
         )
     return StageIs(name, stage)
+
+
+class Conditions(Protocol):
+    """What a wait is for, by the words of a person."""
+
+    texts: list[str]
+
+    def outlook(self, snapshot: Snapshot) -> Outlook:
+        """Whether all holds by this read; `never` tells why it can't come."""
+
+
+class OrderIsCarriedOut:
+    """The attempt that a person gave an order for has ended as the order asks: an abort has aborted
+    it, and after a promote it was successful."""
+
+    def __init__(self, order: str, attempt: int) -> None:
+        self.texts = [f"attempt {attempt}={ENDS[order]}"]
+        self.end = ENDS[order]
+        self.attempt = attempt
+
+    def outlook(self, snapshot: Snapshot) -> Outlook:
+        try:
+            record = View(snapshot).record
+        except Unreadable as reason:
+            return Outlook(False, str(reason))
+        if record is None or record.id != self.attempt:
+            now = f"{attempt_title(record)} is {record.stage}" if record else "there is no attempt"
+            return self._never(f"how it has ended is not known: {now}")
+        if record.is_running:
+            return MAY_COME
+        if record.stage == self.end:
+            return HOLDS
+        why = f", {record.reason}" if record.reason else ""
+        return self._never(f"{attempt_title(record)} has ended otherwise: {record.stage}{why}")
+
+    def _never(self, why: str) -> Outlook:
+        return Outlook(False, f"{self.texts[0]} cannot come any more: {why}")
 
 
 class FleetConditions:

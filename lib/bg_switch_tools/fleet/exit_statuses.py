@@ -7,13 +7,14 @@ DONE, REFUSED, WRONG_WORDS, NO_ANSWER, TAKEN, FAULT = REACHED, NEVER, 2, 4, 5, 7
 TABLE = (
     (
         DONE,
-        "it was carried out: an order or a plan was put, the conditions of a wait hold, the plan of `check` has no problem, the "
-        "attempt of `status` runs or was successful, the agent has ended by SIGTERM or ctrl-C",
+        "it is done: an order or a plan was put, the attempt of `--wait` has ended as it was ordered, the conditions of a wait "
+        "hold, the plan of `check` has no problem, the attempt of `status` runs or was successful, the agent has ended by SIGTERM or "
+        "ctrl-C",
     ),
     (
         REFUSED,
-        "it was refused, and nothing was changed; or it can no longer happen: the conditions of a wait cannot hold unless another "
-        "plan is put, the attempt of `status` was aborted, or there is none, the agent cannot run by its fleet file",
+        "it was refused, and nothing was changed; or it can no longer happen: the attempt of `--wait` has ended otherwise, the "
+        "conditions of a wait cannot hold unless another plan is put, the attempt of `status` was aborted, or there is none, the agent cannot run by its fleet file",
     ),
     (
         WRONG_WORDS,

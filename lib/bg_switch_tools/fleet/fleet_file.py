@@ -28,10 +28,8 @@ MOST_ANALYSES = 64
 USER = re.compile(r"[\x21-\x7e]{1,128}")
 MACHINE_KEYS = ("host", "control", "rollout", *SERVICE_KEYS, "analyses", *COMMAND_KEYS, "timeout")
 KEYS = ("fleet", "etcd", "tls", "user", "password_file", "timeout_seconds", *MACHINE_KEYS, SCHEMA)
-TOGETHER = (
-    ("user", "password_file"),
-    ("host", "control"),
-)  # neither of a pair can stand without the other
+# neither of a pair can stand without the other
+TOGETHER = (("user", "password_file"), ("host", "control"))
 
 
 class WrongFleetFile(Exception):

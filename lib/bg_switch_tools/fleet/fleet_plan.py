@@ -2,6 +2,7 @@
 analyses."""
 import dataclasses
 import functools
+import json
 from collections.abc import Mapping
 
 from bg_switch_tools.controller.plan import (
@@ -28,18 +29,11 @@ from bg_switch_tools.controller.plan_reader import (
 )
 from bg_switch_tools.controller.plan_text import value_of
 from bg_switch_tools.switch.control import Control
-from bg_switch_tools.switch.json_values import JsonObject, Judge, shown
+from bg_switch_tools.switch.json_values import JsonObject, Judge, decoded, shown
 
 KEYS = ("health", "analyses", "progress", "redispatch", "revisions", "fleet", SCHEMA)
-OF_MACHINES = (
-    "control",
-    "active",
-    "preview",
-    "start",
-    "stop",
-    "notify",
-    "timeout",
-)  # keys of a plan for one machine alone
+# keys of a plan for one machine alone
+OF_MACHINES = ("control", "active", "preview", "start", "stop", "notify", "timeout")
 MOST_MISSING = 1000
 ANALYSES = ("pre", "post")
 Names = str | tuple[str, ...]  # of one analysis, or of several that run at the same time
@@ -149,17 +143,50 @@ def _read(judge: Judge, told: object) -> FleetPlan:
     )
 
 
+def _value(text: str) -> object:
+    """The value of a text of JSON. `ValueError` where it is none."""
+    try:
+        return decoded(text.encode())
+    except ValueError as error:
+        raise ValueError(f"it is not JSON: {error}") from None
+
+
 @functools.lru_cache(maxsize=64)
+def _judged(text: str, may_be_yaml: bool) -> FleetPlan | tuple[str, ...]:
+    """The plan of a text, or the problems of one that is none. Both are kept: a store gives a wrong
+    plan at each read, and to judge it anew may take seconds."""
+    judge = Judge()
+    if len(text.encode()) > LARGEST:
+        return (f"it has more than {LARGEST} bytes",)
+    try:
+        told = value_of(text.encode()) if may_be_yaml else _value(text)
+    except ValueError as error:
+        return (str(error),)
+    plan = _read(judge, told)
+    return tuple(judge.problems) or plan
+
+
+def _or_wrong(judged: FleetPlan | tuple[str, ...]) -> FleetPlan:
+    if isinstance(judged, tuple):
+        raise WrongPlan(list(judged))
+    return judged
+
+
 def read_fleet_plan(text: str) -> FleetPlan:
     """The plan of a text, which may be YAML as a controller's plan may. `WrongPlan` with all of its
     problems where it is none."""
+    return _or_wrong(_judged(text, True))
+
+
+def read_stored_plan(text: str) -> FleetPlan:
+    """The plan of the store, which is JSON. `WrongPlan` with all of its problems where it is
+    none."""
+    return _or_wrong(_judged(text, False))
+
+
+def read_kept_plan(told: object) -> FleetPlan:
+    """The plan of a value that `plan_object` has made. `WrongPlan` where it is none."""
     judge = Judge()
-    if len(text.encode()) > LARGEST:
-        raise WrongPlan([f"it has more than {LARGEST} bytes"])
-    try:
-        told = value_of(text.encode())
-    except ValueError as error:
-        raise WrongPlan([str(error)]) from None
     plan = _read(judge, told)
     if judge.problems:
         raise WrongPlan(judge.problems)
@@ -178,6 +205,29 @@ def _planned(names: Names, settings: MachineSettings) -> tuple[PlannedAnalysis, 
         PlannedAnalysis(settings.analyses[name], "" if isinstance(names, str) else name)
         for name in _each(names)
     )
+
+
+def plan_object(plan: FleetPlan) -> dict[str, object]:
+    """A plan as an object of JSON: all of its keys, and each value that was left out."""
+    analyses: dict[str, object] = {**plan.analyses, "seconds": plan.analysis_seconds}
+    return {
+        "health": vars(plan.health),
+        "analyses": analyses,
+        "progress": vars(plan.progress),
+        "redispatch": plan.redispatch,
+        "fleet": {
+            "by_hand": plan.by_hand,
+            "seconds": plan.seconds,
+            "max_missing": plan.max_missing,
+            "promoting_seconds": plan.promoting_seconds,
+        },
+        "revisions": [vars(revision) for revision in plan.revisions],
+    }
+
+
+def plan_text(plan: FleetPlan) -> str:
+    """A plan as a text of JSON. Two plans that say the same have the same text."""
+    return json.dumps(plan_object(plan))
 
 
 def machine_plan(

@@ -17,11 +17,8 @@ class Handover:
     def __init__(self) -> None:
         self._condition = threading.Condition()
         self._reads = list[Read]()
-        self._put = (
-            self._taken
-        ) = (
-            self._done
-        ) = 0  # counts of reads: that were put, that were taken, that a round was done with
+        # counts of reads: that were put, that were taken, that a round was done with
+        self._put = self._taken = self._done = 0
         self._text: str | None = None
         self._has_ended = False
 

@@ -24,13 +24,12 @@ from bg_switch_tools.fleet.record import (
     PersonOrder,
     Record,
     View,
+    plan_of_attempt,
 )
 from bg_switch_tools.fleet.store import Compare, Snapshot
 
-NEEDED = {
-    DEPLOYING: READY,
-    PROMOTING: PASSED,
-}  # by the stage: what each member with a vote has to report
+# by the stage: what each member with a vote has to report
+NEEDED = {DEPLOYING: READY, PROMOTING: PASSED}
 
 
 class Waited(NamedTuple):
@@ -39,25 +38,30 @@ class Waited(NamedTuple):
 
     ready: float = 0.0
     stuck: float = 0.0
-    stage: float = 0.0  # since the leader saw the stage first
+    stage: float = 0.0  # since this agent saw the stage first, without the time of an outage
 
 
 class Decision(NamedTuple):
     """What is decided. `record` is None where an order is dropped and nothing else changes. `hosts`
-    are the members whose reports, or whose absence, this rests on."""
+    are the members whose reports, or whose absence, this rests on. `takes_order` says that the
+    order that stands is answered, and removed; `why_dropped` why it is not carried out (empty: it
+    is)."""
 
     record: Record | None
     hosts: tuple[str, ...] = ()
-    drops_order: bool = False
+    takes_order: bool = False
+    why_dropped: str = ""
 
 
 class Write(NamedTuple):
-    """A write of the store, with the record that it writes."""
+    """A write of the store, with the record that it writes. `dropped` tells of the order that it
+    removes and does not carry out, with who gave it and why; it is empty where there is none."""
 
     compares: tuple[Compare, ...]
     puts: dict[str, str]
     deletes: tuple[str, ...]
     record: Record | None
+    dropped: str = ""
 
 
 @dataclasses.dataclass(frozen=True)
@@ -83,8 +87,11 @@ def votes_of(view: View, record: Record) -> Votes:
     members = view.members
     reports = {host: view.machine(host) for host in members}
     missing = tuple(host for host in members if reports[host] is None or host in record.missing)
+    # a machine that has failed counts at once: going back needs no certainty
     states = {
-        host: report.state if report.attempt == record.id else ""
+        host: report.state
+        if report.attempt == record.id and (report.state == FAILED or view.is_current(report))
+        else ""
         for host, report in reports.items()
         if report and host not in missing
     }
@@ -102,31 +109,49 @@ def votes_of(view: View, record: Record) -> Votes:
 
 
 class StageClock:
-    """Measures what a leader has waited for. A new leader begins anew, so a promotion is late and
-    never early."""
+    """Measures what is waited for. `look` is for a leader: it begins anew with each lead, so a
+    promotion is late and never early. Since when the stage lasts is noted by each read, also of a
+    candidate that does not lead, so that another leader ends an attempt in time."""
 
     def __init__(self) -> None:
         self.stage: tuple[int, str] | None = None
+        self.begun = self.seen_at = 0.0
+        self.is_lost = False  # whether reads have failed since `seen_at`
+        self.counted: tuple[int, str] | None = None  # the stage in which this lead counts votes
         self.given = 0
-        self.begun = self.progressed = 0.0
+        self.progressed = 0.0
         self.ready_since: float | None = None
 
     def forget(self) -> None:
-        """Another one leads."""
-        self.stage = None
+        """Another lead begins: votes are counted anew."""
+        self.counted = None
+
+    def lose(self) -> None:
+        """A read has failed. The time until the next one does not count."""
+        self.is_lost = True
+
+    def see(self, record: Record | None, now: float) -> None:
+        """Notes since when the stage of a record lasts, by a read at `now` (monotonic seconds)."""
+        stage = (record.id, record.stage) if record and record.is_running else None
+        if stage != self.stage:
+            self.stage, self.begun = stage, now
+        elif self.is_lost:
+            self.begun += now - self.seen_at
+        self.seen_at, self.is_lost = now, False
 
     def look(self, snapshot: Snapshot, now: float) -> Waited:
         """What was waited for at `now` (monotonic seconds). `Unreadable` as `decide` has it."""
         view = View(snapshot)
-        plan, record = view.plan, view.record
-        if plan is None or record is None or not record.is_running:
-            self.stage = None
+        record = view.record
+        self.see(record, now)
+        if record is None or not record.is_running:
+            self.counted = None
             return Waited()
         votes = votes_of(view, record)
-        if self.stage != (record.id, record.stage):
-            self.stage, self.given, self.ready_since = (record.id, record.stage), 0, None
-            self.begun = self.progressed = now
-        is_enough = votes.are_enough(plan.max_missing)
+        if self.counted != self.stage:
+            self.counted, self.given, self.ready_since = self.stage, 0, None
+            self.progressed = now
+        is_enough = votes.are_enough(plan_of_attempt(view, record).max_missing)
         if is_enough or len(votes.given) > self.given:
             self.progressed = now
         self.given = len(votes.given)
@@ -156,21 +181,22 @@ def _live_revision(view: View, plan: FleetPlan) -> PlannedRevision | None:
 def _begin(view: View, plan: FleetPlan, record: Record) -> Decision | None:
     """What follows an attempt that is over."""
     plan_id, stable, last = view.changed(PLAN), record.fleet_stable, plan.last
-    if (
-        plan_id == record.id
-    ):  # an etcd that was filled from a backup may count from a lower revision
+    # an etcd that was filled from a backup may count from a lower revision
+    if plan_id == record.id:
         return None
     if last.name == stable.name:
         return Decision(
-            Record(plan_id, stable, stable, SUCCESSFUL, "the plan names the stable revision")
+            Record(
+                plan_id, stable, stable, SUCCESSFUL, "the plan names the stable revision", plan=plan
+            )
         )
-    return Decision(Record(plan_id, last, stable, DEPLOYING))
+    return Decision(Record(plan_id, last, stable, DEPLOYING, plan=plan))
 
 
 def _ended(
-    record: Record, reason: str, hosts: tuple[str, ...] = (), drops_order: bool = False
+    record: Record, reason: str, hosts: tuple[str, ...] = (), takes_order: bool = False
 ) -> Decision:
-    return Decision(dataclasses.replace(record, stage=ABORTED, reason=reason), hosts, drops_order)
+    return Decision(dataclasses.replace(record, stage=ABORTED, reason=reason), hosts, takes_order)
 
 
 def _late(plan: FleetPlan, record: Record, votes: Votes, waited: Waited) -> Decision | None:
@@ -190,13 +216,14 @@ def _late(plan: FleetPlan, record: Record, votes: Votes, waited: Waited) -> Deci
 
 
 def _go_on(
-    view: View, plan: FleetPlan, record: Record, order: PersonOrder | None, waited: Waited
+    view: View, record: Record, order: PersonOrder | None, waited: Waited
 ) -> Decision | None:
-    """What follows for an attempt that runs."""
-    if view.changed(PLAN) != record.id:
+    """What follows for an attempt that runs, by the plan that it began with."""
+    if view.other_plan:
         return _ended(record, "another plan was put")
+    plan = plan_of_attempt(view, record)
     if order and order.order == ABORT:
-        return _ended(record, f"ordered by {order.by}", drops_order=True)
+        return _ended(record, f"ordered by {order.by}", takes_order=True)
     votes = votes_of(view, record)
     if votes.failed:
         return _ended(record, f"{votes.failed}: {votes.reason}", (votes.failed,))
@@ -208,47 +235,57 @@ def _go_on(
             votes.members,
         )
     if order:
-        reason, drops_order = f"ordered by {order.by}", True
+        reason, takes_order = f"ordered by {order.by}", True
     elif not plan.by_hand and waited.ready >= plan.seconds:
-        reason, drops_order = "", False
+        reason, takes_order = "", False
     else:
         return None
     return Decision(
         dataclasses.replace(record, stage=PROMOTING, reason=reason, missing=votes.missing),
         votes.members,
-        drops_order,
+        takes_order,
+    )
+
+
+def _why_dropped(record: Record, order: PersonOrder) -> str:
+    """Why an order that stands can't be carried out; empty where it can, or could be later."""
+    if order.attempt != record.id:
+        return f"the attempt of the fleet is {record.id} now"
+    if not record.is_running:
+        return f"the attempt is {record.stage}" + (f", {record.reason}" if record.reason else "")
+    return (
+        "the attempt is promoting already"
+        if (order.order, record.stage) == (PROMOTE, PROMOTING)
+        else ""
     )
 
 
 def decision_of(view: View, waited: Waited) -> Decision | None:
     """What a leader decides by these keys; None where everything stays as it is."""
-    plan, record, order = view.plan, view.record, view.order
-    if plan is None:
-        return None
+    plan, record, order = view.standing_plan, view.record, view.order
     if record is None:
-        live = _live_revision(view, plan)
+        live = _live_revision(view, plan) if plan else None
         return (
-            Decision(Record(0, live, live, SUCCESSFUL, "the fleet begins with it"), view.members)
+            Decision(
+                Record(0, live, live, SUCCESSFUL, "the fleet begins with it", plan=plan),
+                view.members,
+            )
             if live
             else None
         )
-    is_spent = order is not None and order.order == PROMOTE and record.stage != DEPLOYING
-    if order and (order.attempt != record.id or not record.is_running or is_spent):
-        return Decision(None, drops_order=True)
+    if order and (why := _why_dropped(record, order)):
+        return Decision(None, takes_order=True, why_dropped=view.order_fault or why)
     if not record.is_running:
-        return _begin(view, plan, record)
-    return _go_on(view, plan, record, order, waited)
+        return _begin(view, plan, record) if plan else None
+    return _go_on(view, record, order, waited)
 
 
 def compares_of(view: View, created: int, decision: Decision) -> tuple[Compare, ...]:
-    """What has to be unchanged for a decision: the leader's key, the attempt, the plan, the
-    members, and what it rests on."""
-    names = [
-        ATTEMPT,
-        PLAN,
-        *(MACHINES + host for host in decision.hosts),
-        *([ORDER] if decision.drops_order else []),
-    ]
+    """What has to be unchanged for a decision: the leader's key, the attempt, the plan, the order
+    of a person, the members, and what it rests on. An order that came after the read is one that
+    the decision does not know of: without its compare, an abort that was acknowledged could be
+    followed by a stage that goes on."""
+    names = [ATTEMPT, PLAN, ORDER, *(MACHINES + host for host in decision.hosts)]
     return (
         Compare(LEADER, "created", created),
         Compare(MEMBERS, "changed", view.snapshot.revision),
@@ -258,19 +295,21 @@ def compares_of(view: View, created: int, decision: Decision) -> tuple[Compare, 
 
 def decide(snapshot: Snapshot, created: int, waited: Waited, time: int = 0) -> Write | None:
     """What a leader writes by this read; None where nothing is to be written. `created` is the
-    `created` revision of its key, `time` the Unix time for the record. `Unreadable` where the plan
-    or the record is none that this version reads.
+    `created` revision of its key, `time` the Unix time for the record. `Unreadable` where the
+    record is none that this version reads.
     """
     view = View(snapshot)
     decision = decision_of(view, waited)
     if decision is None:
         return None
     record = decision.record and dataclasses.replace(decision.record, by=created, time=time)
+    order, why = view.order, decision.why_dropped
     return Write(
         compares_of(view, created, decision),
         {ATTEMPT: record.text()} if record else {},
-        (ORDER,) if decision.drops_order else (),
+        (ORDER,) if decision.takes_order else (),
         record,
+        f"drops {order.title}: {why}" if order and why else "",
     )
 
 
@@ -278,10 +317,11 @@ def awaited_of(snapshot: Snapshot) -> list[str]:
     """What the fleet waits for, a text each: for people. None where it waits for nothing.
     `Unreadable` as `decide` has it."""
     view = View(snapshot)
-    plan, record = view.plan, view.record
-    if plan is None:
-        return ["a plan"]
+    record = view.record
     if record is None:
+        plan = view.standing_plan
+        if plan is None:
+            return ["a plan that can be read" if view.key(PLAN) else "a plan"]
         away = [host for host in view.members if view.machine(host) is None]
         if not view.members:
             return ["members"]
@@ -296,7 +336,7 @@ def awaited_of(snapshot: Snapshot) -> list[str]:
             for host in view.members
             if not _follows(view, record, host)
         ]
-    votes = votes_of(view, record)
+    plan, votes = plan_of_attempt(view, record), votes_of(view, record)
     found = [f"{host}: {_told(view, host)}" for host in votes.awaited]
     if len(votes.missing) > plan.max_missing:
         found += [
@@ -324,4 +364,5 @@ def _told(view: View, host: str) -> str:
     report = view.machine(host)
     if report is None:
         return "is away"
-    return f"{report.state}, {report.reason}" if report.reason else report.state
+    told = f"{report.state}, {report.reason}" if report.reason else report.state
+    return told if view.is_current(report) else f"{told}, as an earlier leader was told"

@@ -4,12 +4,12 @@ import dataclasses
 from collections.abc import Callable
 
 from bg_switch_tools.controller.plan import Plan, PlannedRevision
-from bg_switch_tools.controller.plan_reader import WrongPlan
 from bg_switch_tools.fleet.fleet_plan import (
     FleetPlan,
     MachineSettings,
     machine_plan,
     missing_analyses,
+    plan_text,
     read_fleet_plan,
 )
 from bg_switch_tools.fleet.machine_state import MachineState
@@ -26,12 +26,12 @@ from bg_switch_tools.fleet.next_line import (
 from bg_switch_tools.fleet.record import (
     FAILED,
     MACHINES,
-    PLAN,
     WORKING,
     MachineReport,
     Record,
     Unreadable,
     View,
+    shortened,
 )
 from bg_switch_tools.fleet.store import Snapshot
 from bg_switch_tools.switch.reports import SERVICES, Report
@@ -63,7 +63,8 @@ class Machine:
         self.read_at: float | None = (
             None  # when the read was begun that `state` is of; None where the latest one has failed
         )
-        self.fault = ""  # why the latest read is not used
+        self.fault = ""  # why the latest read is not used, or not in full
+        self.leader = 0  # the `created` revision of the leader's key, by the latest read; 0: none
         self.failed_at: float | None = None  # since when an attempt that catches up has failed here
         self.refusal = ""  # the latest line that the switch has refused, with its reply
         self.unfit = ""  # why this machine can't do what the record asks for; empty where it can
@@ -78,7 +79,7 @@ class Machine:
 
     @property
     def fleet_plan(self) -> FleetPlan | None:
-        """The plan that was read last and is one; None before."""
+        """The plan by which the machine goes on, as it was read last; None before."""
         return read_fleet_plan(self.state.plan) if self.state.plan else None
 
     def plan(self) -> Plan | None:
@@ -99,26 +100,31 @@ class Machine:
     def take_read(self, snapshot: Snapshot, begun: float) -> None:
         """Takes in a read that was begun at this moment."""
         view = View(snapshot)
+        self.leader = view.leader
         self.read_at, self.fault = None, self._fault_of(view)
         if self.fault:
             return
-        record, key = view.record, view.key(PLAN)
-        if record is None or key is None:
+        record = view.record
+        if record is None:
             return
-        try:
-            read_fleet_plan(key.value)
-            text = key.value
-        except WrongPlan as wrong:
-            text, self.fault = (
-                self.state.plan,
-                f"the plan is wrong, so the one before is used: {wrong}",
-            )
+        plan = self._plan_of(view, record)
+        text = plan_text(plan) if plan else self.state.plan
+        if plan is None or view.standing_plan is None:
+            self.fault = f"the plan before is used: {view.plan_fault}"
         if record != self.record:
             self.refusal = ""
         self._set(
             dataclasses.replace(self.state, cluster=snapshot.cluster, plan=text, record=record)
         )
         self.read_at = begun
+
+    @staticmethod
+    def _plan_of(view: View, record: Record) -> FleetPlan | None:
+        """The plan by which this machine goes on: that of the attempt while it runs, and then the
+        one that stands. None where neither is known."""
+        if record.is_running and record.plan:
+            return record.plan
+        return view.standing_plan or record.plan
 
     def _fault_of(self, view: View) -> str:
         """Why nothing is done by a read; empty where it can be used."""
@@ -149,7 +155,9 @@ class Machine:
         if self.record is None:
             return
         known = self._known(self.record, now)
-        if report.phase != "postAnalysis" and self.joined.has_passed:
+        if self.joined.has_passed and not (
+            report.phase == "postAnalysis" and known.has_passed(report)
+        ):
             self._set_joined(dataclasses.replace(self.joined, has_passed=False))
         elif (
             report.phase == "postAnalysis"
@@ -249,20 +257,25 @@ class Machine:
         none."""
         if report is None:
             return MachineReport(
-                self.machine, 0, WORKING, self.unfit or self.refusal or "the switch gives no report"
+                self.machine,
+                0,
+                WORKING,
+                shortened(self.unfit or self.refusal or "the switch gives no report"),
+                leader=self.leader,
             )
         active, preview, stable, newest = (report.service(service).name for service in SERVICES)
         told = MachineReport(
             self.machine,
             0,
             WORKING,
-            self.unfit,
+            shortened(self.unfit),
             report.phase,
             active,
             preview,
             stable,
             newest,
             report.newest.available,
+            self.leader,
         )
         if self.record is None:
             return told
@@ -273,9 +286,8 @@ class Machine:
         if lacks and state != FAILED:
             state, reason = FAILED, lacks
         attempt = self.record.id if has_joined or lacks else 0
-        return dataclasses.replace(
-            told, attempt=attempt, state=state, reason=reason or self.unfit or self.refusal
-        )
+        why = shortened(reason or self.unfit or self.refusal)
+        return dataclasses.replace(told, attempt=attempt, state=state, reason=why)
 
     def _lacks(self, report: Report, has_joined: bool) -> str:
         """Why the attempt that runs can't succeed on this machine; empty where it can, and where

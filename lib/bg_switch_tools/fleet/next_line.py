@@ -57,6 +57,14 @@ class Known(NamedTuple):
             report.newest.name,
         )
 
+    def has_passed(self, report: Report) -> bool:
+        """Whether the analysis of this machine after the switch has passed for the newest revision
+        of the switch. A state file that is older than the attempt names another revision, or
+        another etcd."""
+        joined = self.joined
+        is_of_switch = (joined.cluster, joined.revision) == (self.cluster, report.newest.name)
+        return joined.has_passed and is_of_switch
+
 
 def is_behind(report: Report, record: Record) -> bool:
     """Whether the switch has another stable revision than the fleet."""
@@ -109,7 +117,7 @@ def _catch_up(report: Report, known: Known) -> str | None:
     if report.phase == "aborted":
         return "retry" if known.may_retry or not known.has_joined(report) else None
     if report.phase == "postAnalysis":
-        return PASSED_LINE if known.joined.has_passed else None
+        return PASSED_LINE if known.has_passed(report) else None
     return "promote" if report.phase == "paused" else None
 
 
@@ -151,5 +159,5 @@ def state_of(report: Report, known: Known) -> tuple[str, str]:
     if report.phase == "paused" and newest.available == newest.desired:
         return READY, ""
     if report.phase == "postAnalysis":
-        return (PASSED if known.joined.has_passed else TESTING), ""
+        return (PASSED if known.has_passed(report) else TESTING), ""
     return WORKING, ""

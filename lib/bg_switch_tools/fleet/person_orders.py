@@ -1,4 +1,7 @@
-"""Orders of a person for the attempt that they have seen: `promote` and `abort`."""
+"""Orders of a person for the attempt that they have seen: `promote` and `abort`, and how the
+attempt ends."""
+from typing import NamedTuple
+
 from bg_switch_tools.fleet.leader import votes_of
 from bg_switch_tools.fleet.person import Person, Refused, tell
 from bg_switch_tools.fleet.record import (
@@ -13,17 +16,19 @@ from bg_switch_tools.fleet.record import (
     PersonOrder,
     Record,
     View,
+    plan_of_attempt,
 )
 from bg_switch_tools.fleet.status_text import NOT_BEGUN, attempt_title, plain
 from bg_switch_tools.fleet.store import Compare
 
+TRIES = 5  # of an abort, until it is refused, where the record moves at the same time
 MOVED_ON = "the attempt, its plan or its order has changed since it was read; nothing was changed, and `status` shows how it stands"
 
 
 def _over(view: View, record: Record) -> str:
     """Why an attempt that is over takes no order."""
     how = "was aborted" if record.stage == ABORTED else f"is {record.stage}"
-    if view.changed(PLAN) != record.id:
+    if view.other_plan:
         return f"{attempt_title(record)} {how} already, and plan {view.changed(PLAN)} waits for a leader; `undo` takes the plan back"
     hint = (
         "`retry` begins it again"
@@ -35,13 +40,12 @@ def _over(view: View, record: Record) -> str:
 
 def _unready(view: View, record: Record) -> str:
     """Why an attempt that runs can't be promoted now; empty where it can."""
-    plan = view.plan
     if record.stage == PROMOTING:
         return f"{attempt_title(record)} is promoting already"
-    if plan is None or view.changed(PLAN) != record.id:
+    if view.other_plan:
         return f"another plan was put, by which {attempt_title(record)} is aborted"
     votes = votes_of(view, record)
-    if votes.are_enough(plan.max_missing):
+    if votes.are_enough(plan_of_attempt(view, record).max_missing):
         return ""
     late = ", ".join((*votes.awaited, *votes.missing)) or "there is no member"
     return f"{attempt_title(record)} can't be promoted yet, since not all members are ready: {late}"
@@ -50,7 +54,7 @@ def _unready(view: View, record: Record) -> str:
 def order_fault(view: View, order: str, attempt: int | None) -> str:
     """Why an order is refused by this read; empty where it can be put. `attempt` is the id of the
     attempt that the person has seen; None stands for the one of this read. `Unreadable` where the
-    record or the plan can't be read."""
+    record can't be read."""
     record, standing = view.record, view.order
     if record is None:
         return NOT_BEGUN
@@ -64,18 +68,42 @@ def order_fault(view: View, order: str, attempt: int | None) -> str:
     return _unready(view, record) if order == PROMOTE else ""
 
 
-def give_order(person: Person, order: str, attempt: int | None) -> str:
-    """Puts an order, and says so. `Refused` where it makes no sense, or where the attempt has moved
-    on since it was read."""
-    view = View(person.store.read())
-    record, fault = view.record, order_fault(view, order, attempt)
-    if fault or record is None:
-        raise Refused(fault)
-    person.agree(f"{order} {attempt_title(record)}, which is {record.stage}?")
-    compares = [Compare(name, "changed", view.changed(name)) for name in (ATTEMPT, PLAN, ORDER)]
-    text = PersonOrder(order, record.id, person.name).text()
-    if person.store.write(compares, {ORDER: text}) is None:
-        raise Refused(MOVED_ON)
-    if view.key(LEADER) is None:
-        tell("no agent leads now: the order stands until one does")
-    return f"{order} is ordered for {attempt_title(record)}"
+class Ordered(NamedTuple):
+    """An order that was put: what is said of it, and the attempt that it is for."""
+
+    told: str
+    attempt: int
+
+
+def _replaced(view: View, record: Record) -> str:
+    """What is told of the order that an abort takes the place of; empty where there is none."""
+    standing = view.order
+    if standing is None or standing.attempt != record.id:
+        return ""
+    return f"it takes the place of {plain(standing.title)}"
+
+
+def give_order(person: Person, order: str, attempt: int | None) -> Ordered:
+    """Puts an order. `Refused` where it makes no sense, and where the attempt has moved on since it
+    was read. An abort is tried again then, for the attempt of the first read: it makes sense as
+    long as that one runs."""
+    is_agreed = False
+    for _ in range(TRIES if order == ABORT else 1):
+        view = View(person.store.read())
+        record, fault = view.record, order_fault(view, order, attempt)
+        if fault or record is None:
+            raise Refused(fault)
+        attempt = record.id
+        if not is_agreed:
+            person.agree(f"{order} {attempt_title(record)}, which is {record.stage}?")
+            is_agreed = True
+        compares = [Compare(name, "changed", view.changed(name)) for name in (ATTEMPT, PLAN, ORDER)]
+        text = PersonOrder(order, record.id, person.name).text()
+        if person.store.write(compares, {ORDER: text}) is None:
+            continue
+        if replaced := _replaced(view, record):
+            tell(replaced)
+        if view.key(LEADER) is None:
+            tell("no agent leads now: the order stands until one does")
+        return Ordered(f"{order} is ordered for {attempt_title(record)}", record.id)
+    raise Refused(MOVED_ON)

@@ -6,7 +6,9 @@ from bg_switch_tools.fleet.record import ABORTED, SUCCESSFUL, Record
 
 def _known(before: FleetPlan | None, record: Record | None) -> dict[str, PlannedRevision]:
     """The revisions that the switches of the fleet may have, by their names."""
+    kept = record.plan if record else None
     revisions = [
+        *(kept.revisions if kept else ()),
         *(before.revisions if before else ()),
         *((record.stable, record.revision) if record else ()),
     ]

@@ -3,7 +3,8 @@ person orders.
 
 Each is an object of JSON with a `version`. A record or an order of another version, or with a key
 that is not known here, is refused as a whole: an agent that does not know it changes nothing. Of a
-report, keys that are not known are passed over.
+report, keys that are not known are passed over. A record without its plan is one that the version
+before has written.
 """
 import dataclasses
 import functools
@@ -12,12 +13,18 @@ from collections.abc import Sequence
 
 from bg_switch_tools.controller.plan import PlannedRevision
 from bg_switch_tools.controller.plan_reader import WrongPlan, read_revision
-from bg_switch_tools.fleet.fleet_plan import FleetPlan, read_fleet_plan
+from bg_switch_tools.fleet.fleet_plan import (
+    FleetPlan,
+    plan_object,
+    read_kept_plan,
+    read_stored_plan,
+)
 from bg_switch_tools.fleet.store import Key, Snapshot
 from bg_switch_tools.switch.json_values import JsonObject, Judge, decoded
 
 VERSION = 1
 GREATEST = (1 << 63) - 1  # of a revision of etcd
+LONGEST_TEXT = 500  # characters of a text that another machine or a person has written
 
 # The stages of an attempt.
 DEPLOYING, PROMOTING, SUCCESSFUL, ABORTED = "deploying", "promoting", "successful", "aborted"
@@ -47,6 +54,12 @@ PLAN, ATTEMPT, LEADER, ORDER, MEMBERS, MACHINES = (
 )
 
 
+def shortened(text: str) -> str:
+    """A text of a machine or of a person, which a record and a log may repeat: not at any
+    length."""
+    return text if len(text) <= LONGEST_TEXT else text[:LONGEST_TEXT] + ".."
+
+
 class Unreadable(Exception):
     """A key has no value that this version reads. The text says why."""
 
@@ -57,7 +70,9 @@ class Record:
     the plan that the attempt is of. `revision` is what the machines go to, `stable` what they go
     back to. `missing` are the members without a vote: they were away when the stage was decided.
     `by` is the `created` revision of the leader's key, of the leader that wrote this, and `time`
-    when it did (Unix time of its clock, for people)."""
+    when it did (Unix time of its clock, for people). `plan` is the plan that the attempt began
+    with, by which it is decided, whatever the plan's key holds later; None in a record of the
+    version before."""
 
     id: int
     revision: PlannedRevision
@@ -67,6 +82,7 @@ class Record:
     missing: tuple[str, ...] = ()
     by: int = 0
     time: int = 0
+    plan: FleetPlan | None = None
 
     @property
     def is_running(self) -> bool:
@@ -79,19 +95,21 @@ class Record:
 
     def text(self) -> str:
         """As the key has it."""
-        return json.dumps(
-            {
-                "version": VERSION,
-                **vars(self),
-                "revision": vars(self.revision),
-                "stable": vars(self.stable),
-            }
-        )
+        told: dict[str, object] = {
+            "version": VERSION,
+            **vars(self),
+            "revision": vars(self.revision),
+            "stable": vars(self.stable),
+        }
+        told["plan"] = plan_object(self.plan) if self.plan else None
+        return json.dumps({key: value for key, value in told.items() if value is not None})
 
 
 @dataclasses.dataclass(frozen=True)
 class MachineReport:
-    """What a machine reports. `machine` is the id of the machine itself, whatever its host is
+    """What a machine reports. `leader` is the `created` revision of the leader's key that the
+    machine has read before (0: none, or a report of the version before): a report is a vote for
+    that leader alone. `machine` is the id of the machine itself, whatever its host is
     called. `attempt` is the attempt that its switch has joined (0: none), `state` what came of it,
     `reason` why it failed or waits. What the switch selects is empty where no book is open or no
     switch answers."""
@@ -106,6 +124,7 @@ class MachineReport:
     stable: str = ""
     newest: str = ""
     available: int = 0
+    leader: int = 0
 
     def follows(self, record: Record) -> bool:
         """Whether the machine follows an attempt that is over. The report of a machine that has
@@ -124,6 +143,11 @@ class PersonOrder:
     order: str
     attempt: int
     by: str
+
+    @property
+    def title(self) -> str:
+        """The order, as a log names it."""
+        return f"the order {self.order} for attempt {self.attempt}, by {self.by or 'nobody'}"
 
     def text(self) -> str:
         return json.dumps({"version": VERSION, **vars(self)})
@@ -174,8 +198,8 @@ def _keys(kind: type) -> tuple[str, ...]:
 @functools.lru_cache(maxsize=256)
 def read_record(text: str) -> Record:
     """The record of a text. `Unreadable` where it is none."""
-    judge = Judge()
-    told = judge.members(_object(text), "", _keys(Record), _keys(Record))
+    judge, keys = Judge(), _keys(Record)
+    told = judge.members(_object(text), "", keys, [key for key in keys if key != "plan"])
     _raise_problems(judge)
     record = Record(
         _count(judge, told["id"], "id"),
@@ -186,9 +210,19 @@ def read_record(text: str) -> Record:
         _texts(judge, told["missing"], "missing"),
         _count(judge, told["by"], "by"),
         _count(judge, told["time"], "time"),
+        _kept_plan(judge, told["plan"]) if "plan" in told else None,
     )
     _raise_problems(judge)
     return record
+
+
+def _kept_plan(judge: Judge, told: object) -> FleetPlan | None:
+    """The plan that a record keeps; None, and a problem, where it is none."""
+    try:
+        return read_kept_plan(told)
+    except WrongPlan as wrong:
+        judge.note("plan", "; ".join(wrong.problems))
+        return None
 
 
 @functools.lru_cache(maxsize=1024)
@@ -196,17 +230,18 @@ def read_machine_report(text: str) -> MachineReport:
     """What a machine reports. `Unreadable` where the text is no report of this version."""
     judge = Judge()
     told = _object(text)
-    for key in [key for key in _keys(MachineReport) if key not in told]:
+    for key in [key for key in _keys(MachineReport) if key not in told and key != "leader"]:
         judge.note(key, "is missing")
     _raise_problems(judge)
     words = {
-        key: judge.text(told[key], key)
+        key: shortened(judge.text(told[key], key))
         for key in ("machine", "reason", "phase", "active", "preview", "stable", "newest")
     }
     report = MachineReport(
         attempt=_count(judge, told["attempt"], "attempt"),
         state=_one_of(judge, told["state"], "state", STATES),
         available=_count(judge, told["available"], "available"),
+        leader=_count(judge, told.get("leader", 0), "leader"),
         **words,
     )
     _raise_problems(judge)
@@ -222,10 +257,20 @@ def read_order(text: str) -> PersonOrder:
     order = PersonOrder(
         _one_of(judge, told["order"], "order", (PROMOTE, ABORT)),
         _count(judge, told["attempt"], "attempt"),
-        judge.text(told["by"], "by"),
+        shortened(judge.text(told["by"], "by")),
     )
     _raise_problems(judge)
     return order
+
+
+def plan_of_attempt(view: "View", record: Record) -> FleetPlan:
+    """The plan by which an attempt is decided: the one that it began with. A record of the version
+    before keeps none: there it is the plan that stands, if the attempt is of it, and else one by
+    which nothing goes on without a person."""
+    if record.plan:
+        return record.plan
+    plan = view.standing_plan if view.changed(PLAN) == record.id else None
+    return plan or FleetPlan((record.stable, record.revision), by_hand=True)
 
 
 class View:
@@ -243,13 +288,48 @@ class View:
         return key.changed if key else 0
 
     @property
+    def leader(self) -> int:
+        """The `created` revision of the leader's key, which tells one lead from another; 0 where
+        nobody leads."""
+        key = self.key(LEADER)
+        return key.created if key else 0
+
+    def is_current(self, report: MachineReport) -> bool:
+        """Whether a report was written for the leader that leads now. One from before may be that
+        of a machine that is gone: etcd lets leases last longer after an outage of its own."""
+        return self.leader in (0, report.leader)
+
+    @property
     def plan(self) -> FleetPlan | None:
         """The plan; None where none was put. `Unreadable` where it is wrong."""
         key = self.key(PLAN)
         try:
-            return read_fleet_plan(key.value) if key else None
+            return read_stored_plan(key.value) if key else None
         except WrongPlan as wrong:
             raise Unreadable(f"the plan is wrong: {wrong}") from None
+
+    @property
+    def standing_plan(self) -> FleetPlan | None:
+        """The plan, where one was put that can be read; None where there is none."""
+        try:
+            return self.plan
+        except Unreadable:
+            return None
+
+    @property
+    def plan_fault(self) -> str:
+        """Why no plan stands that can be read; empty where one does."""
+        try:
+            return "" if self.plan else "there is no plan"
+        except Unreadable as reason:
+            return str(reason)
+
+    @property
+    def other_plan(self) -> FleetPlan | None:
+        """The plan that stands, where it is another one than that of the attempt of the record;
+        None where it is that one, and where none can be read: that ends no attempt."""
+        record = self.record
+        return self.standing_plan if record and record.id != self.changed(PLAN) else None
 
     @property
     def record(self) -> Record | None:
@@ -269,6 +349,17 @@ class View:
             return read_order(key.value) if key else None
         except Unreadable:
             return PersonOrder(ABORT, 0, "")
+
+    @property
+    def order_fault(self) -> str:
+        """Why the order can't be read; empty where it can, and where there is none."""
+        key = self.key(ORDER)
+        try:
+            if key:
+                read_order(key.value)
+        except Unreadable as reason:
+            return f"it can't be read: {reason}"
+        return ""
 
     @property
     def members(self) -> tuple[str, ...]:

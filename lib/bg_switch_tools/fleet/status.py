@@ -14,6 +14,7 @@ from bg_switch_tools.fleet.record import (
     Record,
     Unreadable,
     View,
+    plan_of_attempt,
     read_order,
 )
 from bg_switch_tools.fleet.store import Snapshot
@@ -53,7 +54,8 @@ class MemberStatus(NamedTuple):
 
 class FleetStatus(NamedTuple):
     """How a fleet stands at a revision of the store. `plan_id` is the plan's `changed` revision (0:
-    none was put). The plan waits where it is not that of the attempt: a leader takes it up next.
+    there is none). `plan` is None where it can't be read, which `problem` tells. The plan waits
+    where it is not that of the attempt: a leader takes it up next.
     `leader` is the host of the leader, and `wrote` whether it has written the record. `others` are
     the machines that report and are no members. `problem` says what can't be read; what rests on it
     is left out.
@@ -114,10 +116,10 @@ class FleetStatus(NamedTuple):
         }
 
 
-def _members(view: View, plan: FleetPlan | None, record: Record | None) -> tuple[MemberStatus, ...]:
-    """The members. What is awaited from them is known only with the plan and the record."""
+def _members(view: View, record: Record | None) -> tuple[MemberStatus, ...]:
+    """The members. What is awaited from them is known only with the record."""
     reports = {host: view.machine(host) for host in view.members}
-    if plan is None or record is None:
+    if record is None:
         return tuple(MemberStatus(host, report) for host, report in reports.items())
     if not record.is_running:
         return tuple(
@@ -132,7 +134,7 @@ def _members(view: View, plan: FleetPlan | None, record: Record | None) -> tuple
     votes = votes_of(view, record)
     too_many = (
         [host for host in votes.missing if host not in record.missing]
-        if len(votes.missing) > plan.max_missing
+        if len(votes.missing) > plan_of_attempt(view, record).max_missing
         else []
     )
     awaited = {*votes.awaited, *too_many}
@@ -170,19 +172,18 @@ def _order(view: View) -> tuple[PersonOrder | None, str]:
 def status_of(fleet: str, snapshot: Snapshot) -> FleetStatus:
     """How the fleet of this name stands by a read."""
     view, problems = View(snapshot), list[str]()
-    plan_id, plan_waits = view.changed(PLAN), False
-    record, plan = None, None
+    plan_id, plan = view.changed(PLAN), view.standing_plan
+    record, plan_waits, leader = None, False, view.key(LEADER)
+    awaited = [] if leader else ["a leader"]
     try:
         record = view.record
-        plan_waits = plan_id != 0 and (record is None or plan_id != record.id)
+        plan_waits = plan is not None and (record is None or plan_id != record.id)
+        awaited += awaited_of(snapshot)
     except Unreadable as reason:
         problems.append(str(reason))
-    try:
-        plan = view.plan
-    except Unreadable as reason:
-        problems.append(str(reason))
-    leader = view.key(LEADER)
-    awaited = [] if problems else [*([] if leader else ["a leader"]), *awaited_of(snapshot)]
+        awaited = []
+    if plan is None and (plan_id or record):
+        problems.append(f"no attempt begins: {view.plan_fault}")
     wrote = leader is not None and record is not None and leader.created == record.by
     order, fault = _order(view)
     return FleetStatus(
@@ -195,7 +196,7 @@ def status_of(fleet: str, snapshot: Snapshot) -> FleetStatus:
         leader.value if leader else "",
         wrote,
         order,
-        _members(view, plan, record),
+        _members(view, record),
         _others(view),
         tuple(awaited),
         "; ".join([*problems, *([fault] if fault else [])]),

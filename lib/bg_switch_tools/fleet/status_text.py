@@ -40,7 +40,7 @@ def _attempt(status: FleetStatus) -> list[str]:
 
 def _plan(status: FleetStatus) -> list[str]:
     if not status.plan_id:
-        return ["no plan was put"]
+        return [] if status.record else ["no plan was put"]
     last = f": its last revision is {status.plan.last.name}" if status.plan else ""
     return [f"plan {status.plan_id} waits for a leader{last}"] if status.plan_waits else []
 

@@ -3,7 +3,7 @@ import time
 from collections.abc import Callable
 from typing import NamedTuple
 
-from bg_switch_tools.fleet.conditions import FleetConditions
+from bg_switch_tools.fleet.conditions import Conditions
 from bg_switch_tools.fleet.exit_statuses import DONE, NO_ANSWER, REFUSED
 from bg_switch_tools.fleet.store import Snapshot, Store, StoreFault, StoreRefusal
 
@@ -37,7 +37,7 @@ def wait_for_change(store: Store, after: int, seconds: float) -> None:
 
 
 def wait_for(
-    store: Store, conditions: FleetConditions, timeout: float, see: See, lose: Lose
+    store: Store, conditions: Conditions, timeout: float, see: See, lose: Lose
 ) -> WaitResult:
     """Waits for conditions, for `timeout` seconds and the end of a call at most. `see` is given
     each read that does not end the wait, and `lose` each fault of the store that is no refusal,

@@ -312,9 +312,8 @@ class Clients:
     def __init__(self, front: Address) -> None:
         self.front = front
         self.count = self.failed = 0
-        self.answered: collections.Counter[
-            tuple[str, str]
-        ] = collections.Counter()  # by the machine and the revision
+        # by the machine and the revision
+        self.answered: collections.Counter[tuple[str, str]] = collections.Counter()
         self.failures: list[Answered] = []
         self.lock = threading.Lock()
         self.ended = threading.Event()

@@ -19,6 +19,7 @@ from support.fleet.session import Session
 sys.path.insert(0, str(TOP))
 from bg_switch_tools.fleet.agent import LEASE  # noqa: E402
 from bg_switch_tools.fleet.candidate import Candidate, Pending  # noqa: E402
+from bg_switch_tools.fleet.record import ORDER, PROMOTING  # noqa: E402
 from tests.fleet_faults import (  # noqa: E402
     Patch,
     alone,
@@ -26,11 +27,16 @@ from tests.fleet_faults import (  # noqa: E402
     no_catch_up,
     on_changes,
     on_reads_of_any_age,
+    plan_first,
+    silent_about_orders,
     without_compares,
     without_one_member,
 )
 
 LATE = 2.0  # seconds for which a switch is late: a read of before is too old then, and no round has given up yet
+PROMOTING_SECONDS = 4.0
+ENDING = 25.0  # seconds for which the end of an attempt is awaited: longer than the rule allows
+READING = 0.6  # seconds in which a leader has read what was written
 LOST = 6.0  # seconds for which a machine has no etcd: more than its agent needs to notice that
 CATCHING_UP = 20.0  # seconds in which a machine that was away catches up
 SLEEP = LEASE + 2.0  # seconds for which a leader sleeps before it writes: it leads no longer then
@@ -47,6 +53,21 @@ def slow_without_compares() -> Iterator[None]:
         return send(self, pending)
 
     with without_compares(""), mock.patch.object(Candidate, "send", late):
+        yield
+
+
+@contextlib.contextmanager
+def slow_without_the_order() -> Iterator[None]:
+    """A leader that does not compare the order, and waits before it writes that an attempt is
+    promoted."""
+    send = Candidate.send
+
+    def late(self: Candidate, pending: Pending) -> bool:
+        if pending.write.record and pending.write.record.stage == PROMOTING:
+            time.sleep(LATE)
+        return send(self, pending)
+
+    with without_compares(ORDER), mock.patch.object(Candidate, "send", late):
         yield
 
 
@@ -105,6 +126,41 @@ def late_switch(session: Session) -> None:
     session.until(lambda seen: seen.is_settled, CATCHING_UP)
 
 
+def abort_when_ready(session: Session) -> None:
+    """A person aborts when the leader has read that all machines are ready."""
+    session.deploy(2)
+    session.until(lambda seen: seen.are_all("ready"))
+    time.sleep(READING)
+    put_abort(EtcdClient(session.lab.network, FLEET), session.lab.seen().id)
+    session.until(lambda seen: seen.is_settled, CATCHING_UP)
+
+
+def abort_after_the_end(session: Session) -> None:
+    """A person's abort comes when the attempt is over."""
+    session.deploy(2)
+    session.has_ended(2, "successful")
+    put_abort(EtcdClient(session.lab.network, FLEET), session.lab.seen().id)
+    session.until(lambda seen: "order" not in seen.entries)
+
+
+def plan_spoiled(session: Session) -> None:
+    """An attempt is promoting, its analysis goes on on one machine, and what stands is no plan: it
+    ends by its time. Then a person aborts one that is deploying, and no plan stands at all."""
+    host, client = session.follower(), EtcdClient(session.lab.network, FLEET)
+    with session.lab.held_analysis(host, "post", 2):
+        session.deploy(2, promoting_seconds=PROMOTING_SECONDS)
+        session.is_at(2, "promoting")
+        client.put("plan", '{"revisions": []')
+        session.is_at(2, "aborted", longest=ENDING)
+    with session.lab.held_analysis(host, "pre", 3):
+        session.deploy(3)
+        client.delete("plan")
+        session.give("abort")
+        session.is_at(3, "aborted", longest=ENDING)
+    session.put(1)
+    session.until(lambda seen: seen.is_settled, CATCHING_UP)
+
+
 def failure_without_etcd(session: Session) -> None:
     """The analysis after the switch fails on a machine that has lost etcd."""
     lost = session.follower()
@@ -141,6 +197,13 @@ PLANTED: Mapping[str, Planted] = {
     ),
     "no-catch-up": Planted(no_catch_up, missed_attempt, 4, "at the end"),
     "old-reads": Planted(on_reads_of_any_age, late_switch, 2, "by a read"),
+    "order-not-compared": Planted(
+        slow_without_the_order, abort_when_ready, 7, "whose abort was ordered before"
+    ),
+    "silent-about-orders": Planted(
+        silent_about_orders, abort_after_the_end, 7, "went without a word"
+    ),
+    "plan-first": Planted(plan_first, plan_spoiled, 8, "seconds after it was promoting"),
     "changes": Planted(on_changes, missed_attempt, 4, "at the end"),
     "back-by-permission": Planted(
         back_by_permission, failure_without_etcd, 6, "still selected web-2"
@@ -155,7 +218,7 @@ def faulty_words(fault: str) -> Callable[[Lab, str], list[str]]:
 
 def broken_by(folder: pathlib.Path, name: str, is_planted: bool) -> list[Broken]:
     """The rules that are broken in the drill of a fault, by agents with it or without."""
-    with Lab(folder, revisions=2, agent=faulty_words(name) if is_planted else agent_words) as lab:
+    with Lab(folder, revisions=3, agent=faulty_words(name) if is_planted else agent_words) as lab:
         session = Session(lab)
         session.begin()
         PLANTED[name].drill(session)

@@ -27,9 +27,8 @@ class Programs:
         self.folder = folder
         self.running: dict[str, subprocess.Popen[bytes]] = {}
         self.stopped: set[str] = set()
-        self.ended: list[
-            str
-        ] = []  # what has ended by itself, with its status, before it was killed
+        # what has ended by itself, with its status, before it was killed
+        self.ended: list[str] = []
 
     def start(
         self,

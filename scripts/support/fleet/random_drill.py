@@ -30,17 +30,22 @@ LATE = (0.1, 1.4)
 # seconds from the beginning of `promoting` to the abort: agents read the one, and not the other
 ON_ITS_WAY = (0.0, 0.25)
 GOOD, BAD_BEFORE, BAD_AFTER = "plans good", "plans bad before", "plans bad after"
-PROMOTE, ABORT, AIMED_ABORT, RETRY, UNDO = (
+PROMOTE, ABORT, AIMED_ABORT, RETRY, UNDO, SPOIL = (
     "promotes ordered",
     "aborts ordered",
     "aborts aimed at promoting",
     "retries",
     "undos",
+    "plans spoiled",
 )
-COUNTED = (GOOD, BAD_BEFORE, BAD_AFTER, PROMOTE, ABORT, AIMED_ABORT, RETRY, UNDO)
+COUNTED = (GOOD, BAD_BEFORE, BAD_AFTER, PROMOTE, ABORT, AIMED_ABORT, RETRY, UNDO, SPOIL)
 KINDS, WEIGHTS = (GOOD, BAD_BEFORE, BAD_AFTER), (8, 1, 1)
 # How probable it is at each look that a person does this, where it has an effect.
-PERSONS = {PROMOTE: 0.7, ABORT: 0.03, RETRY: 0.1, UNDO: 0.05}
+PERSONS = {PROMOTE: 0.7, ABORT: 0.03, SPOIL: 0.02, RETRY: 0.1, UNDO: 0.05}
+SPOILED = (1.0, 8.0)  # seconds for which what stands is no plan
+# the last one: it is deleted
+NO_PLANS = ("{", '{"revisions": [], "newer": 1}', "revisions: web-1", "")
+PROMOTING_SECONDS = 15  # of each plan
 
 
 class PlanChoice(NamedTuple):
@@ -54,7 +59,7 @@ class PlanChoice(NamedTuple):
 
 
 def next_plan(chance: random.Random) -> PlanChoice:
-    fleet: dict[str, object] = {}
+    fleet: dict[str, object] = {"promoting_seconds": PROMOTING_SECONDS}
     if chance.random() < 0.15:
         fleet["by_hand"] = True
     elif chance.random() < 0.2:
@@ -76,6 +81,9 @@ class Due:
     def take_put(self, plan: PlanChoice, now: float) -> None:
         self.is_awaited = not plan.is_cut_short
         self.at = now + (LONGEST_ATTEMPT if self.is_awaited else self.chance.uniform(*MIDDLE))
+
+    def take_spoiled(self, now: float) -> None:
+        self.is_awaited, self.at = False, now + self.chance.uniform(*SPOILED)
 
     def is_due(self, seen: Seen, now: float) -> bool:
         if self.is_awaited and seen.is_of_the_plan and not seen.is_running:
@@ -104,6 +112,7 @@ class RandomDrill:
         self.chance = random.Random(seed)
         self.counts: collections.Counter[str] = collections.Counter({what: 0 for what in COUNTED})
         self.number = 1  # of the revision that was deployed last
+        self.is_spoiled = False  # whether what stands is no plan
         self.due = Due(self.chance)
         self.has_ended = threading.Event()
 
@@ -140,7 +149,7 @@ class RandomDrill:
         if plan.is_aimed:
             self._aim(number)
         if self.session.put(self.number, number, **plan.fleet):
-            self.number = number
+            self.number, self.is_spoiled = number, False
             self.counts[plan.kind] += 1
             self.due.take_put(plan, now)
         else:
@@ -154,15 +163,31 @@ class RandomDrill:
         can = {
             PROMOTE: seen.is_by_hand and seen.stage == "deploying" and seen.are_all("ready"),
             ABORT: seen.is_running,
+            SPOIL: seen.is_running and not self.is_spoiled,
             RETRY: seen.stage == "aborted" and seen.is_of_the_plan,
             UNDO: seen.is_settled,
         }
         words = {PROMOTE: "promote", ABORT: "abort", RETRY: "retry", UNDO: "undo"}
         for what, probability in PERSONS.items():
             if can[what] and self.chance.random() < probability:
-                if self.session.try_once(words[what]).status == 0:
+                if what == SPOIL:
+                    self._spoil()
+                elif self.session.try_once(words[what]).status == 0:
                     self.counts[what] += 1
                 return
+
+    def _spoil(self) -> None:
+        """Somebody puts what is no plan, or deletes the plan, while an attempt runs."""
+        client, text = EtcdClient(self.lab.network, FLEET), self.chance.choice(NO_PLANS)
+        with contextlib.suppress(NoAnswer):
+            if text:
+                client.put("plan", text)
+            else:
+                client.delete("plan")
+            self.is_spoiled = True
+            self.counts[SPOIL] += 1
+            self.lab.say(f"what stands is no plan: {text or 'nothing'}")
+            self.due.take_spoiled(time.monotonic())
 
     def _aim(self, number: int) -> None:
         """A person aborts the attempt of this revision at the moment at which it begins to be
@@ -188,6 +213,8 @@ class RandomDrill:
 
     def _settle(self) -> float | None:
         """The seconds until all machines agree. A person answers an attempt that waits for one."""
+        if self.is_spoiled:
+            self.session.put(self.number)
         begun = time.monotonic()
         while time.monotonic() < begun + SETTLING:
             seen = self.lab.seen()

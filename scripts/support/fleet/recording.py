@@ -12,6 +12,7 @@ from collections.abc import Iterator, Mapping, Sequence
 from typing import NamedTuple
 
 PROMOTES = re.compile(r"promotes (\S+) by attempt (\d+), which was read ([\d.]+) seconds ago")
+DROPS = re.compile(r"drops the order (\S+) for attempt (\d+), by (.*?): ")
 HISTORY, POLLS, VERDICTS, REQUESTS, OUTAGES = (
     "history.jsonl",
     "polls.jsonl",
@@ -66,6 +67,16 @@ class Promote(NamedTuple):
     age: float
 
 
+class Dropped(NamedTuple):
+    """A line of a leader's log: it drops an order, and says why."""
+
+    host: str
+    moment: float
+    order: str
+    attempt: int
+    by: str
+
+
 class Verdict(NamedTuple):
     """What an analysis came to: `step` is pre or post."""
 
@@ -107,6 +118,7 @@ class Recording(NamedTuple):
     verdicts: Sequence[Verdict] = ()
     requests: Sequence[Answered] = ()
     outages: Sequence[Outage] = ()
+    dropped: Sequence[Dropped] = ()
 
 
 def look_file(host: str) -> str:
@@ -134,6 +146,12 @@ def _promotes(path: pathlib.Path, host: str) -> Iterator[Promote]:
             )
 
 
+def _dropped(path: pathlib.Path, host: str) -> Iterator[Dropped]:
+    for told in _objects(path):
+        if found := DROPS.search(str(told["line"])):
+            yield Dropped(host, float(str(told["moment"])), found[1], int(found[2]), found[3])
+
+
 def read_recording(folder: pathlib.Path, hosts: Sequence[str]) -> Recording:
     """The recording of a run with these hosts."""
 
@@ -148,4 +166,5 @@ def read_recording(folder: pathlib.Path, hosts: Sequence[str]) -> Recording:
         [Verdict(**row) for row in rows(VERDICTS)],  # type: ignore[arg-type]
         [Answered(**row) for row in rows(REQUESTS)],  # type: ignore[arg-type]
         [Outage(**row) for row in rows(OUTAGES)],  # type: ignore[arg-type]
+        [each for host in hosts for each in _dropped(folder / agent_file(host), host)],
     )

@@ -1,4 +1,4 @@
-"""The six rules of a fleet, checked on a recording.
+"""The rules of a fleet, checked on a recording.
 
 The checks read etcd's keys by themselves and use no code of the fleet. Where moments are compared,
 a rule counts as broken only if it is broken whatever happened between two looks: a write has an
@@ -14,6 +14,8 @@ from support.fleet.recording import Answered, Event, Look, Outage, Promote, Reco
 OLDEST_READ = 1.0  # seconds: how old a read may be that a promote rests on
 SLACK = 0.5  # seconds: how late a line of a log or a look may be on a busy machine
 GOING_BACK = 3.0  # seconds in which a machine goes back after its analysis has failed
+PROMOTING = 1200.0  # seconds for which an attempt may be promoting, where its plan does not say it
+REPLACING = 16.0  # seconds in which another agent leads after one that was killed, at etcd that was just started too
 SETTLING = 1.5  # seconds after which the load balancer has left out a machine whose switch was killed, or has taken it in again
 RUNNING = ("deploying", "promoting")
 OVER = ("successful", "aborted")
@@ -25,6 +27,7 @@ STEPS: Mapping[str | None, tuple[str, ...]] = {
     "successful": (),
     "aborted": (),
 }
+CARRIED_OUT = {"abort": "aborted", "promote": "promoting"}  # by the order: the stage
 QUIET = ("steady", "aborted")  # phases of a switch in which no attempt runs
 FOREVER = float("inf")
 
@@ -79,10 +82,21 @@ class Write(NamedTuple):
         return None if event is None or event.value is None else json.loads(event.value)
 
     def fleet_settings(self) -> dict[str, Any]:
-        """The key `fleet` of the plan before the write."""
-        plan = self.told("plan") or {}
-        settings = plan.get("fleet", {})
+        """The key `fleet` of the plan that the attempt began with, and of the plan before the write
+        where the record keeps none."""
+        settings = (self.record.get("plan") or plan_of(self.before.get("plan")) or {}).get(
+            "fleet", {}
+        )
         return settings if isinstance(settings, dict) else {}
+
+
+def plan_of(event: Event | None) -> dict[str, Any] | None:
+    """The plan of a key's value; None where it is none."""
+    try:
+        plan = json.loads(event.value) if event and event.value else None
+    except ValueError:
+        return None
+    return plan if isinstance(plan, dict) and plan.get("revisions") else None
 
 
 class Run:
@@ -90,21 +104,18 @@ class Run:
 
     def __init__(self, recording: Recording) -> None:
         self.recording = recording
-        self.reports: list[
-            tuple[int, str, str]
-        ] = []  # the revision, the host, and what its switch selects
+        # the revision, the host, and what its switch selects
+        self.reports: list[tuple[int, str, str]] = []
         self.writes = list(self._replay())
         self.next_latest = [write.latest for write in self.writes[1:]] + [FOREVER]
-        self.known_from: dict[
-            str, float
-        ] = {}  # by a revision: from when on it may have been promoted or stable
+        # by a revision: from when on it may have been promoted or stable
+        self.known_from: dict[str, float] = {}
         for write in self.writes:
             for name in write.names():
                 self.known_from.setdefault(name, write.earliest)
         if self.writes:
-            self.known_from[
-                str(self.writes[0].record["stable"]["name"])
-            ] = 0.0  # it was live before there was a fleet
+            # it was live before there was a fleet
+            self.known_from[str(self.writes[0].record["stable"]["name"])] = 0.0
 
     def moments(self, revision: int) -> tuple[float, float]:
         """Between which moments a revision came to be."""
@@ -325,12 +336,9 @@ def rule_3(run: Run) -> Iterator[str]:
         if by < last:
             yield f"revision {write.revision} was written by the leader {by} after the leader {last}"
         last = max(last, by)
-        plan = write.before.get("plan")
-        if (
-            write.stage != "aborted"
-            and write.record["id"]
-            and (plan is None or plan.revision != write.record["id"])
-        ):
+        plan, begins = write.before.get("plan"), write.stage == "deploying"
+        is_wrong = begins if plan_of(plan) is None else plan and plan.revision != write.record["id"]
+        if write.stage != "aborted" and write.record["id"] and is_wrong:
             stands = plan.revision if plan else "none"
             yield f"revision {write.revision}: {write.stage} of attempt {write.record['id']}, and the plan was {stands}"
 
@@ -401,7 +409,78 @@ def rule_6(run: Run) -> Iterator[str]:
             yield f"{verdict.host} still selected {verdict.revision} {GOING_BACK:g} seconds after its analysis had failed"
 
 
-RULES: tuple[Callable[[Run], Iterator[str]], ...] = (rule_1, rule_2, rule_3, rule_4, rule_5, rule_6)
+def rule_7(run: Run) -> Iterator[str]:
+    """An attempt whose abort was ordered does not go on, and an order goes only where the record
+    has carried it out, or with a line in a leader's log that names it."""
+    written = {write.revision: (write.record["id"], write.stage) for write in run.writes}
+    told = collections.Counter(
+        (each.order, each.attempt, each.by) for each in run.recording.dropped
+    )
+    aborts: set[int] = set()
+    standing: dict[str, Any] = {}
+    for event in run.recording.events:
+        attempt, stage = written.get(event.revision, (None, ""))
+        if event.name == "attempt" and stage in ("promoting", "successful") and attempt in aborts:
+            yield f"revision {event.revision}: {stage} of attempt {attempt}, whose abort was ordered before"
+        if event.name != "order":
+            continue
+        order, standing = standing, json.loads(event.value or "{}")
+        if standing.get("order") == "abort":
+            aborts.add(standing["attempt"])
+        if (
+            not order
+            or event.value
+            or (attempt, stage) == (order["attempt"], CARRIED_OUT[order["order"]])
+        ):
+            continue
+        title = (order["order"], order["attempt"], order["by"])
+        told[title] -= 1
+        if told[title] < 0:
+            yield f"revision {event.revision}: the order {title[0]} for attempt {title[1]}, by {title[2]}, went without a word"
+
+
+def _without_store(run: Run, begun: float, ended: float) -> float:
+    """For how many seconds between two moments something was broken by which nothing can be
+    decided: etcd, a link to it, or an agent, which may be the leader's."""
+    return sum(
+        max(min(outage.ended, ended) - max(outage.begun, begun), 0.0)
+        for outage in run.recording.outages
+        if outage.what in ("etcd", "link", "agent")
+    )
+
+
+def rule_8(run: Run) -> Iterator[str]:
+    """Whatever the plan's key holds, an attempt is promoting for the seconds of the plan that it
+    began with at most, and one whose abort was ordered ends. A leader that is lost is replaced
+    after its lease, and the time in which something is broken is added."""
+    last = max((poll.ended for poll in run.recording.polls), default=0.0)
+    aborts = {
+        json.loads(event.value)["attempt"]: run.moments(event.revision)[1]
+        for event in run.recording.events
+        if event.name == "order" and event.value and '"abort"' in event.value
+    }
+    for write, after in zip(run.writes, [*run.writes[1:], None]):
+        attempt, until = write.record["id"], after.earliest if after else last
+        seconds = float(write.fleet_settings().get("promoting_seconds", PROMOTING))
+        limits = [("it was promoting", write.latest, seconds)] if write.stage == "promoting" else []
+        if attempt in aborts and write.stage in RUNNING:
+            limits.append(("its abort was ordered", max(aborts[attempt], write.latest), 0.0))
+        for what, begun, limit in limits:
+            took = until - begun
+            if took > limit + REPLACING + _without_store(run, begun - REPLACING, until):
+                yield f"attempt {attempt} was {write.stage} {took:.1f} seconds after {what}"
+
+
+RULES: tuple[Callable[[Run], Iterator[str]], ...] = (
+    rule_1,
+    rule_2,
+    rule_3,
+    rule_4,
+    rule_5,
+    rule_6,
+    rule_7,
+    rule_8,
+)
 
 
 def broken_rules(recording: Recording) -> list[Broken]:

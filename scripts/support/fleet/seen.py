@@ -14,10 +14,14 @@ class Seen:
         self.entries = entries
 
     def _told(self, name: str) -> dict[str, Any]:
-        """The object of a key; an empty one where there is no such key."""
+        """The object of a key; an empty one where there is no such key, or where its value is
+        none."""
         event = self.entries.get(name)
-        told: dict[str, Any] = json.loads(event.value) if event and event.value else {}
-        return told
+        try:
+            told = json.loads(event.value) if event and event.value else {}
+        except ValueError:
+            return {}
+        return told if isinstance(told, dict) else {}
 
     @property
     def attempt(self) -> dict[str, Any]:

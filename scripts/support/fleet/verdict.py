@@ -12,6 +12,7 @@ from support.fleet.random_drill import (
     GOOD,
     PROMOTE,
     RETRY,
+    SPOIL,
     UNDO,
     Outcome,
 )
@@ -46,6 +47,7 @@ ROWS: Mapping[str, tuple[str, ...]] = {
         RETRY,
         UNDO,
     ),
+    "plans spoiled": (SPOIL,),
 }
 
 
