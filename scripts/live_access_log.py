@@ -1,20 +1,21 @@
-"""The access log of `bg_switch serve`: what each line says, a file that is renamed, one that takes
-nothing, one that takes nothing for a while, one that takes a part of a line, and one that can't be
-opened."""
+"""The access log of `bg_switch serve`: what each line says, clients that have gone and connections
+that send nothing, a file that is renamed, one that takes nothing, one that takes nothing for a
+while, one that takes a part of a line, and one that can't be opened."""
 import contextlib
 import os
 import pathlib
 import resource
 import signal
+import socket
 import tempfile
 import time
-from collections.abc import Callable, Iterator
+from collections.abc import Callable, Iterator, Sequence
 from functools import partial
 
 from support.checks import check, check_soon, comes, run
-from support.clients import at_once, connect, get, reset, timed
+from support.clients import at_once, connect, get, received, reset, timed
 from support.endpoints import Endpoint, by_target
-from support.messages import NO_PREVIEW, answer, head_of, request
+from support.messages import NO_PREVIEW, UNAVAILABLE, answer, head_of, request
 from support.switch import Switch
 from support.traffic import ACCESS_LOG
 
@@ -23,6 +24,10 @@ from bg_switch_tools.switch.access_log import LogEntry, read_lines
 
 CLIENTS, REQUESTS = 8, 2000
 TIMEOUT = 2  # seconds for which an endpoint may be silent
+ABORT_ON_CLOSE = "--abort-on-close"
+DRAINS = """{"spec": {"strategy": {"blueGreen": {"activeService": "web", "scaleDownDelaySeconds": 5,
+"drainLimitSeconds": 10}}}}"""
+IDLE = 7  # connections that send nothing
 HOSTILE = b'/"<script>\\\xc3\xa9'
 LONG = b"/" + b"a" * 3000
 KEPT_OF_TARGET = 1024
@@ -72,7 +77,10 @@ class Log:
 
 @contextlib.contextmanager
 def logging(
-    path: pathlib.Path, workers: int = 1, prepare: Callable[[], object] = lambda: None
+    path: pathlib.Path,
+    workers: int = 1,
+    prepare: Callable[[], object] = lambda: None,
+    flags: Sequence[str] = (),
 ) -> Iterator[tuple[Switch, Endpoint]]:
     """A switch that logs to this path, and the endpoint of its first revision. `prepare` is called
     in the switch's process."""
@@ -80,6 +88,7 @@ def logging(
     switch = Switch(
         NO_PREVIEW,
         workers=workers,
+        flags=flags,
         timeout=TIMEOUT,
         variables={ACCESS_LOG: str(path)},
         prepare=prepare,
@@ -184,6 +193,11 @@ def ends_of_others(switch: Switch, endpoint: Endpoint) -> list[tuple[str, tuple[
             comes(lambda: switch.open_requests() == [0]),
             True,
         )
+    with connect(switch.active) as client:
+        client.sendall(request(b"/slow"))
+        comes(lambda: switch.open_requests() == [1])
+        reset(client)
+    comes(lambda: switch.open_requests() == [0])
     switch.raw(switch.preview or 0, request(b"/preview"))
     switch.answer_to("available 1 0")
     switch.raw(switch.active, request(b"/nowhere"))
@@ -192,11 +206,93 @@ def ends_of_others(switch: Switch, endpoint: Endpoint) -> list[tuple[str, tuple[
     switch.raw(switch.active, request(b"/down"))
     return [
         ("a client that ended early", ("active", None, "closed", None, None, None)),
-        ("a client that has gone", ("active", None, "write_failed", "given_up", "GET", "/hangs")),
+        ("a client that has gone", ("active", 499, "refused", "client_gone", "GET", "/hangs")),
+        (
+            "a client that does not take its response",
+            ("active", 499, "refused", "client_gone", "GET", "/slow"),
+        ),
         ("no preview service", ("preview", 503, "refused", "no_preview", "GET", "/preview")),
         ("no endpoint", ("active", 503, "refused", "no_endpoint", "GET", "/nowhere")),
         ("an endpoint that is down", ("active", 502, "refused", "connect_failed", "GET", "/down")),
     ]
+
+
+def clients_that_only_end_their_input() -> None:
+    """A client that only ends its input is answered; with `--abort-on-close` it has gone."""
+    for flags, target, expected in (
+        ((), b"/slow", (200, "answered", None)),
+        ((ABORT_ON_CLOSE,), b"/hangs", (499, "refused", "client_gone")),
+    ):
+        with folder() as there, logging(there / "log", flags=flags) as (switch, _):
+            switch.raw(switch.active, request(target))
+            (entry,) = Log(there / "log").awaited(1)
+            check(
+                f"a client that only ends its input, {' '.join(flags) or 'without flags'}",
+                (entry.status, entry.end, entry.reason),
+                expected,
+            )
+
+
+def drain_limit() -> None:
+    """A request that the drain limit gives up has a reason of its own, whether or not its client
+    has ended its input."""
+    endpoints = [Endpoint(by_target(name)) for name in (b"one", b"two")]
+    with folder() as there, contextlib.ExitStack() as stack:
+        path = there / "log"
+        switch = Switch(DRAINS, workers=2, preview=False, variables={ACCESS_LOG: str(path)})
+        for ends in (switch.stop, *(endpoint.stop for endpoint in endpoints)):
+            stack.callback(ends)
+        switch.answer_to(f"open one {endpoints[0].port}")
+        switch.answer_to("available 1 1")
+        stays, only_ends = (stack.enter_context(connect(switch.active)) for _ in range(2))
+        for client in (stays, only_ends):
+            client.sendall(request(b"/hangs"))
+        only_ends.shutdown(socket.SHUT_WR)
+        comes(lambda: switch.open_requests() == [2])
+        lines = (f"deploy two {endpoints[1].port}", "available 2 1", "tick 15")
+        replies = [switch.answer_to(line) for line in lines]
+        check("the drain limit is over", replies, ["ok 0", "ok 4", "ok 0"])
+        check("the answers to both", [received(stays), received(only_ends)], [UNAVAILABLE] * 2)
+        check(
+            "the log of requests that the drain limit gives up",
+            [told(entry) for entry in Log(path).awaited(2)],
+            [("active", 503, "refused", "given_up", "GET", "/hangs")] * 2,
+        )
+
+
+def idle_connections() -> None:
+    """A connection that sends nothing has no line, however it ends. The next line counts them."""
+    with folder() as there, logging(there / "log", workers=2) as (switch, _):
+        log = Log(there / "log")
+
+        def counts(lines: int) -> list[int | None]:
+            """How many connections each of so many lines counts."""
+            return [entry.idle_connections for entry in log.awaited(lines)]
+
+        get(switch.active)
+        for number in range(IDLE):
+            with connect(switch.active if number % 3 else switch.preview) as client:
+                if number % 2:
+                    reset(client)
+        time.sleep(WRITTEN)
+        check("no line of a connection that sent nothing", counts(1), [None])
+        with connect(switch.active) as client:
+            client.sendall(b"G")
+        check("the next line tells their number", counts(2), [None, IDLE])
+        get(switch.active)
+        check("the line after it tells none", counts(3), [None, IDLE, None])
+        with connect(switch.active) as silent, connect(switch.active) as begun:
+            begun.sendall(b"GET /begun HT")
+            check("both are given up", (received(silent), received(begun)), (b"", b""))
+        get(switch.active)
+        check(
+            "a request that is given up has a line, and a connection that sent nothing is counted",
+            (
+                [(entry.status, entry.end) for entry in log.awaited(5)[3:]],
+                sum(count or 0 for count in counts(5)),
+            ),
+            ([(None, "read_failed"), (200, "answered")], IDLE + 1),
+        )
 
 
 def each_field() -> None:
@@ -529,6 +625,9 @@ if __name__ == "__main__":
         "live_access_log",
         (
             kinds_of_ends,
+            clients_that_only_end_their_input,
+            drain_limit,
+            idle_connections,
             each_field,
             as_many_lines,
             renamed_file,

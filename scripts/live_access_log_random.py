@@ -1,6 +1,6 @@
 """The access log of `bg_switch serve` beside an own count: two thousand connections of all kinds,
-mixed at random and beside each other. The log has exactly one line for each, and each member is
-what the clients and the endpoints saw."""
+mixed at random and beside each other. The log has exactly one line for each that sent a byte, and
+each member is what the clients and the endpoints saw; the others are counted."""
 import collections
 import concurrent.futures
 import contextlib
@@ -13,6 +13,7 @@ import time
 from collections.abc import Callable, Iterator, Sequence
 from typing import NamedTuple
 
+from support import clients
 from support.checks import check, comes, run
 from support.clients import connect, received, reset
 from support.endpoints import BROKEN, Endpoint, Request
@@ -30,6 +31,7 @@ CONNECTIONS, CLIENTS, WORKERS = 2000, 32, 7
 TIMEOUT = 4  # seconds within which a response has to be whole
 LONGEST_ASK = 30  # seconds within which a request reaches its endpoint, or is answered
 KEPT_OF_TARGET = 1024
+LAST = "/last"  # the target of requests whose lines tell the last of what is counted
 SLACK = 2  # milliseconds by which a rounded time may be off
 SLOW = 0.25  # seconds
 STRATEGY = """{{"spec": {{"replicas": 3, "strategy": {{"blueGreen": {{"activeService": "web", {preview}
@@ -217,7 +219,7 @@ KINDS: dict[str, tuple[int, Callable[[random.Random, int], Sent]]] = {
     "malformed": (140, by_get(*MALFORMED)),
     "too_large": (60, by_get(b"/large")),
     "timeout": (24, by_get(b"/hangs")),
-    "given_up": (24, by_get(b"/hangs")),
+    "client_gone": (24, by_get(b"/hangs")),
     "cut_in_answer": (60, by_get(b"/big")),
     "malformed_head": (80, faulty(MALFORMED_HEADS)),
     "head": (80, faulty(HEAD_FAULTS)),
@@ -281,14 +283,17 @@ ENDS = {
     "part": close,
     "silent_reset": cut,
     "part_reset": cut,
-    "given_up": give_up,
+    "client_gone": give_up,
     "cut_in_answer": cut_in_answer,
 }
 
 
 def without_times(entry: LogEntry) -> LogEntry:
-    """The entry without times and without the number of its request, which a client can't tell."""
-    return entry._replace(time=0, request=None, duration_ms=0, upstream_ms=None)
+    """The entry without times, without the number of its request, which a client can't tell, and
+    without the connections that sent nothing."""
+    return entry._replace(
+        time=0, request=None, duration_ms=0, upstream_ms=None, idle_connections=None
+    )
 
 
 def shown(asked: Sent) -> tuple[str | None, str | None]:
@@ -326,7 +331,7 @@ def expected_entry(seen: Answered, served: Served | None, dead: int) -> LogEntry
         duration_ms=0,
         upstream_ms=None,
     )
-    if asked.kind.startswith(("silent", "part")):
+    if asked.kind.startswith("part"):
         return entry._replace(end="read_failed" if asked.kind.endswith("reset") else "closed")
     if asked.kind in ("malformed_head", "head", "body"):
         return entry._replace(status=asked.status, reason=asked.kind.removeprefix("malformed_"))
@@ -335,10 +340,8 @@ def expected_entry(seen: Answered, served: Served | None, dead: int) -> LogEntry
     entry = entry._replace(revision=1, port=served.port if served else dead)
     if served is None:
         return entry._replace(reason="connect_failed")
-    if asked.kind == "given_up":
-        return entry._replace(
-            status=None, end="write_failed", reason="given_up", response_bytes=len(UNAVAILABLE)
-        )
+    if asked.kind == "client_gone":
+        return entry._replace(status=499, reason="client_gone", response_bytes=len(UNAVAILABLE))
     if asked.kind == "cut_in_answer":
         return entry._replace(status=200, end="answered", response_bytes=len(answer_of(BIG)))
     if asked.kind == "answered":
@@ -354,16 +357,16 @@ def status_of(answer: bytes) -> int | None:
 def fits(entry: LogEntry, expected: LogEntry, kind: str) -> bool:
     """Whether an entry says what it has to. How far a request with a fault was read isn't fixed,
     nor whether an answer was handed over before its client went, nor whether the system has taken
-    the 503 to a client that was given up and had gone.
+    the 503 to a client that had gone.
     """
     if expected.reason in ("head", "body"):
         most, count = expected.request_bytes or 0, entry.request_bytes or 0
         return 0 < count <= most and entry._replace(request_bytes=most) == expected
-    if kind == "cut_in_answer" and entry.end == "write_failed":
+    if kind == "cut_in_answer" and entry.has_client_gone:
         return entry == expected._replace(
-            status=None, end="write_failed", response_bytes=entry.response_bytes
+            status=499, end="refused", reason="client_gone", response_bytes=entry.response_bytes
         )
-    if kind == "given_up" and not entry.response_bytes:
+    if kind == "client_gone" and not entry.response_bytes:
         return entry == expected._replace(response_bytes=0)
     return entry == expected
 
@@ -395,6 +398,17 @@ class LoggedSwitches(NamedTuple):
     def port(self, asked: Sent) -> int:
         switch = self.switches[asked.is_second]
         return switch.active if asked.service == "active" else switch.preview
+
+    def check_idle(self, number: int, count: int) -> None:
+        """A check that the lines of a log count so many connections that sent nothing. A count is
+        in the next line, so further requests are made."""
+
+        def is_told() -> bool:
+            clients.get(self.switches[number].active, LAST)
+            entries = read_lines(self.logs[number].read_bytes().splitlines()).entries
+            return sum(entry.idle_connections or 0 for entry in entries) == count
+
+        check("connections that sent nothing are counted", comes(is_told), True)
 
     def entries(self, number: int, count: int) -> list[LogEntry]:
         """What stands in a log, once there is so much and no more comes."""
@@ -446,8 +460,14 @@ def logged_switches() -> Iterator[LoggedSwitches]:
 
 def check_log(setup: LoggedSwitches, number: int, seen: Sequence[Answered]) -> None:
     """A check that a log has exactly the lines of what was seen, each with its right members."""
-    entries = setup.entries(number, len(seen))
-    check("a line for each connection", len(entries), len(seen))
+    setup.check_idle(number, sum(one.asked.kind.startswith("silent") for one in seen))
+    seen = [one for one in seen if not one.asked.kind.startswith("silent")]
+    entries = [
+        entry
+        for entry in setup.entries(number, len(seen))
+        if not (entry.target or "").startswith(LAST)
+    ]
+    check("a line for each connection that sent a byte", len(entries), len(seen))
     numbers = sorted(entry.request for entry in entries if entry.request is not None)
     check("the numbers of the requests", numbers, list(range(1, len(numbers) + 1)))
     check(

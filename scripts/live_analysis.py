@@ -1,20 +1,25 @@
 """bin/analysis before a running `serve`: an outage of the new revision after the switch is found,
 and the revision is taken back; by the access log alone, by reports of the switch, and by
-Prometheus."""
+Prometheus. A good revision some of whose clients leave is judged successful."""
 import contextlib
 import json
 import pathlib
 import shutil
+import socket
 import subprocess
 import sys
 import tempfile
-from collections.abc import Iterator
+import threading
+import time
+from collections.abc import Callable, Iterator
 
 from support import TOP, checks
 from support.browser import NoBrowser, browsing
 from support.checks import check, comes
+from support.clients import connect, reset
 from support.dashboards import failing, missing, showing
-from support.endpoints import Endpoint
+from support.endpoints import Answer, Endpoint, Request
+from support.messages import request
 from support.operators import Operator
 from support.plans import Plan
 from support.ports import free_port, free_ports
@@ -22,13 +27,20 @@ from support.switch import Switch
 from support.traffic import Traffic, ask, prepared_log
 
 # isort: split; `support` tells where the tests' package is
+from bg_switch_tools.switch.access_log import read_lines
+
 sys.path.insert(0, str(TOP))
 from tests.fake_prometheus import real_prometheus  # noqa: E402
 
 ANALYSIS, CONTROLLER = str(TOP / "bin" / "analysis"), str(TOP / "bin" / "controller")
 ROLLOUT = """{"spec": {"replicas": 1, "strategy": {"blueGreen": {"activeService": "web", "autoPromotionEnabled": true,
 "postPromotionAnalysis": {}, "scaleDownDelaySeconds": 60}}}}"""
+WORKERS = 7
 CLIENTS, PAUSE = 2, 0.02
+# How long, in seconds, endpoints take where clients leave: those that are asked for this, and the
+# others; and the time between two clients that leave.
+LATE_TARGET = b"/late"
+LATE, SOON, BETWEEN_LEAVING = 3.0, 0.1, 0.3
 WAIT = 30  # seconds for which anything is awaited
 LIMITS = ("--seconds", "1m", "--every", "1s", "--errors-at-most", "1%", "--requests-at-least", "20")
 PROMETHEUS = "prometheus"
@@ -42,14 +54,16 @@ class LoggedSwitch:
     """A switch with web-v1 and web-v2, of an endpoint each, traffic, and the folder of an access
     log and a plan."""
 
-    def __init__(self, folder: str) -> None:
+    def __init__(self, folder: str, answer: Callable[[bytes], Answer]) -> None:
         self.folder = pathlib.Path(folder)
         self.log = self.folder / "access.log"
         self.ports = dict(zip(("web-v1", "web-v2"), free_ports(2)))
         self.endpoints = {
-            name: Endpoint(failing(name.encode(), 0), port) for name, port in self.ports.items()
+            name: Endpoint(answer(name.encode()), port) for name, port in self.ports.items()
         }
-        self.switch = Switch(ROLLOUT, workers=4, preview=False, variables=prepared_log(self.log))
+        self.switch = Switch(
+            ROLLOUT, workers=WORKERS, preview=False, variables=prepared_log(self.log)
+        )
         self.traffic = Traffic(self.switch.active, CLIENTS, PAUSE)
 
     def send(self, *lines: str) -> None:
@@ -78,10 +92,14 @@ class LoggedSwitch:
         self.switch.kill()
 
 
+def never_failing(name: bytes) -> Answer:
+    return failing(name, 0)
+
+
 @contextlib.contextmanager
-def logged_switch() -> Iterator[LoggedSwitch]:
+def logged_switch(answer: Callable[[bytes], Answer] = never_failing) -> Iterator[LoggedSwitch]:
     with tempfile.TemporaryDirectory(ignore_cleanup_errors=True) as folder:
-        played = LoggedSwitch(folder)
+        played = LoggedSwitch(folder, answer)
         try:
             yield played
         finally:
@@ -165,6 +183,76 @@ def by_reports() -> None:
             )
 
 
+def slow(name: bytes) -> Answer:
+    """Answers with the name of the revision, after a while."""
+    soon, late = failing(name, 0, SOON), failing(name, 0, LATE)
+
+    def answer(request: Request, connection: socket.socket) -> None:
+        (late if request.target == LATE_TARGET else soon)(request, connection)
+
+    return answer
+
+
+class Leaving:
+    """Clients that leave before they are answered, by turns one that the switch finds to have gone
+    while it waits for the endpoint, and some that it finds when it writes the answer."""
+
+    def __init__(self, port: int) -> None:
+        self.port = port
+        self.left = 0
+        self.ended = threading.Event()
+        self.thread = threading.Thread(target=self.leave, daemon=True)
+
+    def leave(self) -> None:
+        while not self.ended.wait(BETWEEN_LEAVING):
+            target = LATE_TARGET if self.left % 4 == 0 else b"/"
+            with connect(self.port) as client:
+                client.sendall(request(target))
+                time.sleep(SOON / 2)
+                reset(client)
+            self.left += 1
+
+    def __enter__(self) -> "Leaving":
+        self.thread.start()
+        return self
+
+    def __exit__(self, *_: object) -> None:
+        self.ended.set()
+        self.thread.join()
+
+
+def clients_that_leave() -> None:
+    """More than a tenth of the clients of a good revision leave before their answers: it is judged
+    successful."""
+    with logged_switch(slow) as played:
+        played.open_and_switch()
+        words = (
+            "--log",
+            str(played.log),
+            "--revision",
+            "web-v2",
+            "--control",
+            str(played.switch.control),
+            "--seconds",
+            "8s",
+            "--every",
+            "2s",
+            "--errors-at-most",
+            "1%",
+            "--requests-at-least",
+            "10",
+        )
+        with Leaving(played.switch.active) as leaving, running(
+            played.folder / "analysis", ANALYSIS, *words
+        ) as run:
+            said = run.status(), "clients had gone): the limits hold\n" in run.text()
+            check("a good revision whose clients leave", said, (0, True))
+        entries = read_lines(played.log.read_bytes().splitlines()).entries
+        gone = [entry for entry in entries if entry.has_client_gone]
+        check("both kinds of leaving are found", {entry.target for entry in gone}, {"/", "/late"})
+        check("clients have left", leaving.left >= 10 and len(gone) * 10 >= len(entries), True)
+
+
 def by_prometheus() -> None:
     """The dashboard's metrics tell the outage, and a Prometheus has them."""
     program = shutil.which(PROMETHEUS)
@@ -208,10 +296,8 @@ def by_prometheus() -> None:
                 )
 
 
-NAMED = (
-    ("latency", "echo measures; exec sleep 600"),
-    ("errors", "exec {} --log {} {}"),
-)  # two analyses of a plan, of which the second one fails
+# two analyses of a plan, of which the second one fails
+NAMED = (("latency", "echo measures; exec sleep 600"), ("errors", "exec {} --log {} {}"))
 SHOWN = (
     "analysis post errors",
     "failed",
@@ -286,5 +372,7 @@ def several_in_a_plan() -> None:
 
 if __name__ == "__main__":
     checks.run(
-        "live_analysis", [in_a_plan, by_reports, by_prometheus, several_in_a_plan], at_once=3
+        "live_analysis",
+        [in_a_plan, by_reports, clients_that_leave, by_prometheus, several_in_a_plan],
+        at_once=3,
     )

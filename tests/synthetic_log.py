@@ -19,6 +19,7 @@ REFUSALS = (
     ("response_malformed", 502, 1),
     ("response_too_large", 502, 1),
     ("given_up", 503, 1),
+    ("client_gone", 499, 1),
     ("head", 400, None),
     ("body", 413, None),
     ("memory", 503, None),

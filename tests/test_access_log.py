@@ -65,7 +65,11 @@ class Lines(unittest.TestCase):
         self.assertEqual(
             read_line(LINE[:-1] + b',"slot_port":null,"tries":1}'), expected._replace(tries=1)
         )
+        self.assertEqual(
+            read_line(LINE[:-1] + b',"idle_connections":4}'), expected._replace(idle_connections=4)
+        )
         for wrong in (
+            b'"idle_connections":"4"',
             b'"slot_port":"9202"',
             b'"slot_port":-1',
             b'"tries":1.5',
@@ -131,6 +135,13 @@ class Lines(unittest.TestCase):
             (None, True),
         ):
             self.assertEqual(ANSWERED._replace(status=status).is_error, is_error, status)
+
+    def test_a_client_that_has_gone(self) -> None:
+        told = [reason for reason, *_ in REFUSALS if refused(reason).has_client_gone]
+        self.assertEqual((told, refused("client_gone").is_error), (["client_gone"], False))
+        self.assertEqual(
+            (refused("given_up").has_client_gone, refused("given_up").is_error), (False, True)
+        )
 
     def test_what_is_no_line(self) -> None:
         whole = json.loads(LINE)

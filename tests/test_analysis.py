@@ -11,6 +11,7 @@ from unittest import mock
 from bg_switch_tools.analysis import log_analysis
 from bg_switch_tools.analysis.cli import main
 from bg_switch_tools.analysis.measurements import (
+    ALL_GONE,
     SILENCE,
     Analyser,
     Limits,
@@ -37,6 +38,7 @@ LIMITS = Limits(0.01, None, 50, 0)
 FAST = ("--seconds", "1.2", "--every", "0.4", "--silence-allowed")
 STEADY = 0.05  # seconds between two of requests that come without pause
 NOT_FOUND = refused("no_endpoint")
+GONE = refused("client_gone")
 
 
 def requests(
@@ -170,6 +172,40 @@ class Measured(unittest.TestCase):
             (analyser.end_window(), analyser.end_rest(), analyser.has_judged), (None, None, False)
         )
 
+    def test_clients_that_have_gone_are_no_errors_and_are_not_judged(self) -> None:
+        analyser = Analyser(LIMITS)
+        analyser.take([*requests(50), *[GONE] * 40])
+        measured = analyser.end_window()
+        assert measured is not None
+        self.assertEqual((measured.requests, measured.errors, measured.gone), (50, 0, 40))
+        self.assertEqual(
+            measured.text(),
+            "50 requests, 0 errors (0.00%), p99 5 ms (40 clients had gone)",
+        )
+        analyser.take([*requests(49), *[GONE] * 40])  # too few have stayed
+        self.assertEqual((analyser.end_window(), analyser.has_failed), (None, False))
+        analyser.take(requests(1, 1))
+        measured = analyser.end_window()
+        assert measured is not None
+        self.assertEqual((measured.requests, measured.errors, measured.gone), (50, 1, 40))
+
+    def test_a_revision_that_all_clients_leave_has_failed(self) -> None:
+        for limits, gone, expected in (
+            (LIMITS, 49, ()),
+            (LIMITS, 50, (ALL_GONE,)),
+            (LIMITS._replace(requests=1), 9, ()),
+            (LIMITS._replace(requests=1), 10, (ALL_GONE,)),
+        ):
+            analyser = Analyser(limits)
+            analyser.take(requests(60))
+            self.assertIsNotNone(analyser.end_window())
+            analyser.take([GONE] * (gone - 1))
+            self.assertIsNone(analyser.end_window())
+            analyser.take([GONE])
+            measured = analyser.end_window()
+            self.assertEqual(measured.problems if measured else (), expected, (limits, gone))
+            self.assertEqual(analyser.has_failed, bool(expected))
+
     def test_so_many_may_fail(self) -> None:
         analyser, seen = Analyser(LIMITS._replace(failures=2)), []
         for _ in range(3):
@@ -289,6 +325,26 @@ class Runs(unittest.TestCase):
         )
         self.assertEqual(
             (ended.status, ended.printed.count("the limits hold\n")), (0, 3), ended.printed
+        )
+
+    def test_a_good_revision_some_of_whose_clients_leave(self) -> None:
+        self.write_steadily(lambda _: [*requests(18), *[GONE] * 2])
+        ended = self.analysis(
+            "--revision",
+            "1",
+            "--seconds",
+            "2s",
+            "--every",
+            "1s",
+            "--errors-at-most",
+            "1%",
+            "--requests-at-least",
+            "18",
+        )
+        self.assertEqual(
+            (ended.status, ended.printed.count("clients had gone): the limits hold\n")),
+            (0, 2),
+            ended.printed,
         )
 
     def test_an_outage_is_found_without_a_report(self) -> None:

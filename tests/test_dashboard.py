@@ -493,6 +493,20 @@ class Metrics(Dashboard):
         assert isinstance(recent, dict)
         self.assertEqual([each["port"] for each in recent["web-v2"]["ports"]], [9202])
 
+    def test_clients_that_have_gone(self) -> None:
+        now = time.time()
+        gone = refused("client_gone")._replace(time=now, revision=2, idle_connections=5)
+        self.log.add([gone, *self.now([Part(2, 4)])])
+        labels = '{revision="web-v2",service="active",status="4xx"}'
+        self.assertTrue(
+            comes(lambda: self.value(f"bg_switch_client_gone_requests_total{labels}") == 1)
+        )
+        self.assertEqual(self.value("bg_switch_idle_connections_total"), 5)
+        state = self.state()
+        recent = state["recent"]
+        assert isinstance(recent, dict)
+        self.assertEqual((recent["web-v2"]["errors"], state["failed"]), (0, []))
+
     def test_promtool(self) -> None:
         promtool = shutil.which("promtool")
         if promtool is None:

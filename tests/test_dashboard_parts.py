@@ -178,6 +178,17 @@ class Counted(unittest.TestCase):
         found = counted.counted[Labels("active", "a", "2xx")]
         self.assertEqual((found.requests, found.redispatched, found.retries), (5, 2, 5))
 
+    def test_clients_that_have_gone_and_idle_connections(self) -> None:
+        counted = Totals()
+        for entry in (ANSWERED, refused("client_gone")._replace(idle_connections=3), ANSWERED):
+            counted.add(entry, "a")
+        counted.add(refused("given_up")._replace(idle_connections=4), "a")
+        self.assertEqual(
+            {labels.status: (found.requests, found.gone) for labels, found in counted.items()},
+            {"2xx": (2, 0), "4xx": (1, 1), "5xx": (1, 0)},
+        )
+        self.assertEqual(counted.idle_connections, 7)
+
     def test_names_that_are_too_old_are_dropped(self) -> None:
         counted = Totals()
         with mock.patch.object(totals, "MOST_REVISIONS", 2):
@@ -442,9 +453,8 @@ class Alarmed(unittest.TestCase):
     def test_requests_without_an_endpoint_are_errors_of_the_selected_revision(self) -> None:
         now = [refused("no_endpoint")._replace(time=time.time() - 3)] * 4
         self.take(*OPENED)
-        self.board.take_batch(
-            Batch(now, 0, 0), ""
-        )  # one report alone does not tell what was selected before it
+        # one report alone does not tell what was selected before it
+        self.board.take_batch(Batch(now, 0, 0), "")
         self.take(*OPENED, "available 1 0")
         self.board.take_batch(Batch(now, 0, 0), "")
         self.board.take_batch(Batch(now, 0, 0), "", is_counted=False)

@@ -8,7 +8,7 @@ use crate::time_text::{TimeText, TimeTexts};
 use crate::trouble::{LogTrouble, Trouble};
 use std::alloc::Global;
 use std::io::Write;
-use std::sync::atomic::{AtomicBool, Ordering};
+use std::sync::atomic::{AtomicBool, AtomicU64, Ordering};
 use std::sync::{Mutex, Wait};
 use std::time::{Clock, Duration};
 use std::{io, mem, thread};
@@ -45,6 +45,8 @@ pub struct AccessLog {
     file: Mutex<LogFile>,
     notices: Mutex<Notices>,
     trouble: Trouble,
+    /// The number of connections that ended without having sent a byte, and that no line has told of yet.
+    idle_connections: AtomicU64,
     is_over: AtomicBool,
 }
 
@@ -62,6 +64,7 @@ impl AccessLog {
             file: Mutex::new(LogFile::open(alloc, path)?),
             notices: Mutex::new(Notices::new(alloc)),
             trouble: Trouble::new(),
+            idle_connections: AtomicU64::new(0),
             is_over: AtomicBool::new(false),
         })
     }
@@ -71,8 +74,21 @@ impl AccessLog {
         self.times.lock(rt).now(rt, self.alloc)
     }
 
+    /// Notes that a connection has ended without having sent a byte. It is no request, and gets no line.
+    pub fn note_idle_connection(&self) {
+        self.idle_connections.fetch_add(1, Ordering::SeqCst);
+    }
+
+    /// The number of these connections that no entry has told of yet, for the next entry; `None` if there are none.
+    pub fn take_idle_connections(&self) -> Option<u64> {
+        match self.idle_connections.load(Ordering::SeqCst) {
+            0 => None,
+            _ => Some(self.idle_connections.swap(0, Ordering::SeqCst)),
+        }
+    }
+
     /// Adds a line. If the queue would have more than 16,777,216 bytes, or if an allocation fails, the line
-    /// is lost and counted.
+    /// is lost and counted, and the next entry tells of its idle connections.
     pub fn add<R: Wait>(&self, rt: &R, entry: &LogEntry) {
         let line = entry.to_line(self.alloc);
         let mut queue = self.queue.lock(rt);
@@ -83,6 +99,9 @@ impl AccessLog {
         if !is_kept {
             queue.lost = queue.lost.saturating_add(1);
             self.trouble.note_lost(1);
+            if let Some(count) = entry.idle_connections {
+                self.idle_connections.fetch_add(count, Ordering::SeqCst);
+            }
         }
     }
 

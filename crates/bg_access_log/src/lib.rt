@@ -1,4 +1,4 @@
-//! An access log: a JSON object a line for each connection of a client that has ended.
+//! An access log: a JSON object a line for each ended connection that sent a byte.
 //!
 //! [`AccessLog::add`] puts a line into memory, and waits for nothing but the log's own lock, which no
 //! write holds. [`AccessLog::run_writer`] runs in a thread of its own and writes what was added. So

@@ -1,14 +1,20 @@
 //! What is logged of a connection.
-ghost use Rattle.std.specs.Prelude.{◌≡◌};
+ghost use Rattle.std.specs.Prelude.{◌≡◌, ◌++◌, IfOk};
+ghost use Rattle.std.specs.Cow.{cow_str_bytes};
+ghost use Rattle.std.specs.Option.{option_map};
+ghost use Rattle.bg_access_log.specs.Lines.{Adds, count_members, end_members, line_text, object, request_members};
 
-use crate::line::{Line, Member};
+use crate::line::{add_number, add_optional, add_text};
 use crate::time_text::TimeText;
-use serde_json::Error;
-use std::alloc::Global;
+use json::Writer;
+use std::alloc::{AllocError, Global};
 use std::borrow::CowStr;
 
+/// The number of bytes that most lines do not exceed.
+const USUAL_LENGTH: usize = 512;
+
 /// What is logged of a connection. The line has these keys in this order. The value of a key that is
-/// `None` is null; `slot_port` and `tries` are left out then.
+/// `None` is null; `slot_port`, `tries` and `idle_connections` are left out then.
 #[derive(Drop)]
 pub struct LogEntry<'a> {
     /// When the connection ended, as `AccessLog::time` gives it.
@@ -24,7 +30,7 @@ pub struct LogEntry<'a> {
     pub method: Option<CowStr<'a>>,
     /// The request target. The program gives at most its first 1,024 bytes.
     pub target: Option<CowStr<'a>>,
-    /// The status code of the response or refusal.
+    /// The status code of the response or refusal. The program gives 499 if the client had gone before its answer.
     pub status: Option<u16>,
     /// How the connection ended: `answered`, `refused`, `closed`, `read_failed` or `write_failed`.
     pub end: &'static str,
@@ -42,42 +48,72 @@ pub struct LogEntry<'a> {
     pub slot_port: Option<u16>,
     /// The number of connects to endpoints that were tried. The program gives it only with `--redispatch`.
     pub tries: Option<u32>,
+    /// The number of connections that ended without having sent a byte, since the last line that told of some. They have
+    /// no lines of their own. The program gives it only if there were any.
+    pub idle_connections: Option<u64>,
 }
 
 impl LogEntry<'_> {
-    /// The line, with its end.
-    pub(crate) fn to_line(&self, alloc: Global) -> Result<Vec<u8>, Error> {
-        let mut line = Line::new(alloc)?;
-        for member in &self.members() {
-            line.push(member)?;
-        }
-        line.add("}\n")?;
-        Ok(line.into_bytes())
+    /// The line, with its end. An error only if an allocation fails.
+    pub(crate) fn to_line(&self, alloc: Global) -> Result<Vec<u8>, AllocError>
+        ensures { IfOk result (λ line. line.items ≡ line_text self.now) }
+    {
+        let mut line = Writer::new(Vec::with_capacity(alloc, USUAL_LENGTH)?);
+        self.add_object(&mut line)?;
+        let mut bytes = line.into_inner();
+        bytes.push(b'\n')?;
+        Ok(bytes)
     }
 
-    /// The members of the line, in order.
-    fn members(&self) -> [Member<'_>; 16] {
-        [
-            Member::Text("{\"time\":", self.time_text()),
-            Member::Text(",\"service\":", Some(self.service)),
-            Member::Number(",\"revision\":", self.revision),
-            Member::Number(",\"request\":", self.request),
-            Member::Number(",\"port\":", as_number(self.port)),
-            Member::Text(",\"method\":", as_text(&self.method)),
-            Member::Text(",\"target\":", as_text(&self.target)),
-            Member::Number(",\"status\":", as_number(self.status)),
-            Member::Text(",\"end\":", Some(self.end)),
-            Member::Text(",\"reason\":", self.reason),
-            Member::Number(",\"request_bytes\":", Some(self.request_bytes)),
-            Member::Number(",\"response_bytes\":", Some(self.response_bytes)),
-            Member::Number(",\"duration_ms\":", Some(self.duration_ms)),
-            Member::Number(",\"upstream_ms\":", self.upstream_ms),
-            Member::Optional(",\"slot_port\":", as_number(self.slot_port)),
-            Member::Optional(",\"tries\":", self.tries.map(u64::from)),
-        ]
+    /// Writes the object of the line.
+    fn add_object(&self, line: &mut Writer) -> Result<(), AllocError>
+        ensures { Adds result line.old line.new (object self.now) }
+    {
+        line.begin_object()?;
+        self.add_request(line)?;
+        self.add_end(line)?;
+        self.add_counts(line)?;
+        line.end_object()
     }
 
-    fn time_text(&self) -> Option<&str> {
+    /// Writes when the connection ended, and its request.
+    fn add_request(&self, line: &mut Writer) -> Result<(), AllocError>
+        ensures { Adds result line.old line.new (request_members self.now) }
+    {
+        add_text(line, "time", self.time_text())?;
+        add_text(line, "service", Some(self.service))?;
+        add_number(line, "revision", self.revision)?;
+        add_number(line, "request", self.request)?;
+        add_number(line, "port", as_number(self.port))?;
+        add_text(line, "method", as_text(&self.method))?;
+        add_text(line, "target", as_text(&self.target))
+    }
+
+    /// Writes how the connection ended.
+    fn add_end(&self, line: &mut Writer) -> Result<(), AllocError>
+        ensures { Adds result line.old line.new (end_members self.now) }
+    {
+        add_number(line, "status", as_number(self.status))?;
+        add_text(line, "end", Some(self.end))?;
+        add_text(line, "reason", self.reason)
+    }
+
+    /// Writes what was counted and measured.
+    fn add_counts(&self, line: &mut Writer) -> Result<(), AllocError>
+        ensures { Adds result line.old line.new (count_members self.now) }
+    {
+        add_number(line, "request_bytes", Some(self.request_bytes))?;
+        add_number(line, "response_bytes", Some(self.response_bytes))?;
+        add_number(line, "duration_ms", Some(self.duration_ms))?;
+        add_number(line, "upstream_ms", self.upstream_ms)?;
+        add_optional(line, "slot_port", as_number(self.slot_port))?;
+        add_optional(line, "tries", as_wide(self.tries))?;
+        add_optional(line, "idle_connections", self.idle_connections)
+    }
+
+    fn time_text(&self) -> Option<&str>
+        ensures { option_map (λ t. t.now) result ≡ option_map (λ t. t.bytes) self.now.time }
+    {
         match &self.time {
             Some(time) => Some(time.as_str()),
             None => None,
@@ -92,7 +128,16 @@ fn as_number(number: Option<u16>) -> Option<u64>
     number.map(u64::from)
 }
 
-fn as_text<'t>(text: &'t Option<CowStr>) -> Option<&'t str> {
+/// A number of tries as a number.
+fn as_wide(number: Option<u32>) -> Option<u64>
+    ensures { result ≡ number }
+{
+    number.map(u64::from)
+}
+
+fn as_text<'t>(text: &'t Option<CowStr>) -> Option<&'t str>
+    ensures { option_map (λ t. t.now) result ≡ option_map cow_str_bytes text.now }
+{
     match text {
         Some(text) => Some(text.as_str()),
         None => None,

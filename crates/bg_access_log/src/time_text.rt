@@ -1,5 +1,5 @@
 //! The time of day, as the log writes it.
-ghost use Rattle.std.specs.Prelude.{◌≡◌, ◌+◌, ◌/◌, ◌%◌, slice_set};
+ghost use Rattle.std.specs.Prelude.{◌≡◌, ◌+◌, ◌/◌, ◌%◌, IfSome, IsAscii, slice_set};
 
 use jiff::Timestamp;
 use std::alloc::Global;
@@ -20,32 +20,49 @@ const ONES: usize = 22;
 #[derive(Clone, Copy, Drop)]
 pub struct TimeText {
     bytes: [u8; LENGTH],
+    ghost ascii: { IsAscii bytes },
 }
 
 impl TimeText {
-    /// The text of a second, which is counted from 1970. `None` if the text does not have 24 bytes, or if an
+    /// The text of a second, which is counted from 1970. `None` if the text does not have 24 bytes of ASCII, or if an
     /// allocation fails.
     fn of_second(alloc: Global, second: u64) -> Option<TimeText> {
         let time = Timestamp::from_second(i64::try_from(second).ok()?).ok()?;
         let text = format!(in alloc; "{time:.3}").ok()?;
-        let bytes = <[u8; LENGTH]>::try_from(text.as_bytes()).ok()?;
-        Some(TimeText { bytes })
+        TimeText::of_bytes(<[u8; LENGTH]>::try_from(text.as_bytes()).ok()?)
+    }
+
+    /// These bytes as a text. `None` if one of them is not ASCII.
+    fn of_bytes(bytes: [u8; LENGTH]) -> Option<TimeText>
+        ensures { IfSome result (λ text. text.bytes ≡ bytes) }
+    {
+        if bytes.iter().all(|byte| *byte < 128) {
+            Some(TimeText { bytes })
+        } else {
+            None
+        }
     }
 
     /// The same second with other milliseconds.
-    fn with_millis(mut self, millis: u32) -> TimeText
+    fn with_millis(self, millis: u32) -> TimeText
         ensures { result.bytes ≡ slice_set (slice_set (slice_set self.bytes 20 (48 + millis / 100 % 10))
             21 (48 + millis / 10 % 10)) 22 (48 + millis % 10) }
     {
-        self.bytes[HUNDREDS] = digit(millis / 100);
-        self.bytes[TENS] = digit(millis / 10);
-        self.bytes[ONES] = digit(millis);
-        self
+        let mut bytes = self.bytes;
+        bytes[HUNDREDS] = digit(millis / 100);
+        bytes[TENS] = digit(millis / 10);
+        bytes[ONES] = digit(millis);
+        TimeText { bytes }
     }
 
     /// The text, 24 bytes.
-    pub fn as_str(&self) -> &str {
-        str::from_utf8(&self.bytes).unwrap_or("")
+    pub fn as_str(&self) -> &str
+        ensures { result.now ≡ self.now.bytes }
+    {
+        match str::from_utf8(&self.bytes) {
+            Ok(text) => text,
+            Err(_) => "",
+        }
     }
 }
 

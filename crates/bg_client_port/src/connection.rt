@@ -95,9 +95,17 @@ impl<'a, R: Clock> Connection<'a, R> {
         self.request.refused.as_ref()
     }
 
+    /// Whether a byte came of the client.
+    pub fn has_sent(&self) -> bool {
+        self.request.bytes > 0
+    }
+
     /// The number of bytes of the request that came; 0 if the port gave the request up.
     pub fn request_bytes(&self) -> u64 {
-        self.request.bytes as u64
+        match self.request.ending {
+            Ending::GivenUp => 0,
+            Ending::Decided | Ending::Ended | Ending::Failed => self.request.bytes as u64,
+        }
     }
 
     /// The number of bytes that the worker gave for the client and that were written or buffered. The

@@ -27,7 +27,7 @@ impl PortState {
             stream,
         };
         if self.port.is_shutdown_over(now) {
-            return Some(connection.give_up());
+            return Some(connection.give_up(received.bytes));
         }
         Some(CompleteRequest {
             connection,
@@ -51,7 +51,7 @@ impl PortState {
                 self.watch(key, watch);
                 None
             }
-            Err(_) => Some(connection.give_up()),
+            Err(request) => Some(connection.give_up(request.count())),
         }
     }
 

@@ -13,13 +13,13 @@ pub(crate) struct HeldConnection {
 }
 
 impl HeldConnection {
-    /// The connection after its request was given up. Its client sees the end at once.
-    pub(crate) fn give_up(self) -> CompleteRequest {
+    /// The connection after its request was given up, of which so many bytes came. Its client sees the end at once.
+    pub(crate) fn give_up(self, bytes: usize) -> CompleteRequest {
         // the client may have ended it already
         let _ = self.stream.shutdown(Shutdown::Both);
         CompleteRequest {
             connection: self,
-            received: ReceivedRequest::given_up(),
+            received: ReceivedRequest::given_up(bytes),
         }
     }
 }

@@ -8,6 +8,10 @@ use Rattle.bg_forward.specs.declared.reason.Reason.TheVariants as reason
 use Rattle.bg_forward.specs.declared.serving.End.{End}
 use Rattle.bg_forward.specs.declared.serving.End.TheVariants as end
 
+-- what is logged as the status if a client has gone before its answer, as by nginx; no client is sent it
+abbrev pub client_closed_request : ℕ
+client_closed_request = 499
+
 -- the status code of the response or the refusal that was written
 abbrev pub end_status : End → Option ℕ
 end_status (end.Answered code) = Some code
@@ -23,6 +27,18 @@ end_name (end.Refused status) = codes "refused"
 end_name end.Closed = codes "closed"
 end_name end.ReadFailed = codes "read_failed"
 end_name end.WriteFailed = codes "write_failed"
+
+-- the status in the log: that which was written, unless the client had gone before its answer
+abbrev pub logged_status : End → Option Reason → Option ℕ
+logged_status e None = end_status e
+logged_status e (Some reason.ClientGone) = Some client_closed_request
+logged_status e (Some why) = end_status e
+
+-- the end in the log: a request whose client had gone is refused, whether or not the refusal could be written
+abbrev pub logged_end : End → Option Reason → List ℕ
+logged_end e None = end_name e
+logged_end e (Some reason.ClientGone) = codes "refused"
+logged_end e (Some why) = end_name e
 
 -- a reason's name; if the head passes all rules, a malformed or large part is one of the body or of the trailers
 abbrev pub logged_reason : Bool → Reason → List ℕ

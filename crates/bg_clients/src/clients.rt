@@ -38,14 +38,15 @@ impl<R: Clock> ClientStream for Client<'_, R> {
     }
 }
 
-/// The clients of the active and of the preview port. If there is a log, each ended connection is logged.
+/// The clients of the active and of the preview port. If there is a log, each ended connection is logged of which a
+/// byte came, and the others are counted.
 #[derive(Drop)]
 pub struct Clients<'a, R: Clock + Wait> {
     /// The handle for waits and the clock.
     pub rt: &'a R,
     pub alloc: Global,
     pub ports: &'a Ports,
-    /// The log of ended connections.
+    /// The log of ended connections. One that has sent no byte is no request, and has no line of its own.
     pub log: Option<&'a AccessLog>,
     pub notices: &'a Notices<'a>,
     /// Whether a request may be dialled at another port than its ticket's. The log then tells how many were dialled.
@@ -88,7 +89,11 @@ impl<'a, R: Clock + Wait> Accept for Clients<'a, R> {
             self.notices.note_refused_request();
         }
         if let Some(log) = self.log {
-            log.add(self.rt, &entry_of(served, self.facts(log, &client)));
+            if client.stream.connection.has_sent() {
+                log.add(self.rt, &entry_of(served, self.facts(log, &client)));
+            } else {
+                log.note_idle_connection();
+            }
         }
         // a request that entered was read to its end
         client.stream.connection.end(served.entered.is_some());
@@ -119,6 +124,7 @@ impl<R: Clock + Wait> Clients<'_, R> {
             response_bytes: connection.response_bytes(),
             duration_ms: connection.duration_millis(),
             response_ms: connection.millis_to_response(),
+            idle_connections: log.take_idle_connections(),
         }
     }
 }

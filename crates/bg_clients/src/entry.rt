@@ -1,7 +1,7 @@
 //! The entry of a connection in the access log.
 ghost use Rattle.std.specs.Prelude.{◌≡◌, None, codes, if◌then◌else◌};
 ghost use Rattle.std.specs.Option.{option_and_then, option_map};
-ghost use Rattle.bg_clients.specs.Entries.{end_name, end_status, logged_reason, slot_port};
+ghost use Rattle.bg_clients.specs.Entries.{end_name, end_status, logged_end, logged_reason, logged_status, slot_port};
 ghost use Rattle.bg_ports.specs.ServiceNames.{name_of_service};
 
 use bg_access_log::{LogEntry, TimeText};
@@ -9,6 +9,9 @@ use bg_forward::{End, Reason, Served};
 use bg_ports::service_name;
 use bg_revisions::Service;
 use std::borrow::CowStr;
+
+/// The status of a request whose client has gone before its answer, as nginx has it. No client is sent it.
+const CLIENT_CLOSED_REQUEST: u16 = 499;
 
 /// What the log tells of a connection apart from its outcome.
 #[derive(Drop)]
@@ -33,6 +36,8 @@ pub struct ConnectionFacts<'a> {
     /// The number of milliseconds from when a worker got the connection to the first bytes of the response; `None` if
     /// no response came.
     pub response_ms: Option<u64>,
+    /// The number of connections that ended without having sent a byte, if this entry is to tell of some.
+    pub idle_connections: Option<u64>,
 }
 
 /// The entry of a connection in the access log, by its outcome and by what else is known of it.
@@ -47,8 +52,8 @@ pub fn entry_of<'a>(served: &Served, facts: ConnectionFacts<'a>) -> LogEntry<'a>
         ≡ (if facts.entry.redispatches then option_map (λ route. route.tries) served.now.route else None) }
     ensures method { result.method ≡ facts.entry.method }
     ensures target { result.target ≡ facts.entry.target }
-    ensures status { result.status ≡ end_status served.now.end }
-    ensures end { result.end.now ≡ end_name served.now.end }
+    ensures status { result.status ≡ logged_status served.now.end served.now.reason }
+    ensures end { result.end.now ≡ logged_end served.now.end served.now.reason }
     ensures reason { option_map (λ name. name.now) result.reason
         ≡ option_map (logged_reason facts.entry.is_head_sound) served.now.reason }
     ensures request_bytes { result.request_bytes ≡ facts.entry.request_bytes }
@@ -56,6 +61,7 @@ pub fn entry_of<'a>(served: &Served, facts: ConnectionFacts<'a>) -> LogEntry<'a>
     ensures duration { result.duration_ms ≡ facts.entry.duration_ms }
     ensures upstream { result.upstream_ms
         ≡ option_and_then (λ ticket. facts.entry.response_ms) served.now.entered }
+    ensures idle { result.idle_connections ≡ facts.entry.idle_connections }
 {
     let entered = served.entered;
     LogEntry {
@@ -68,8 +74,8 @@ pub fn entry_of<'a>(served: &Served, facts: ConnectionFacts<'a>) -> LogEntry<'a>
         tries: tries(served, facts.redispatches),
         method: facts.method,
         target: facts.target,
-        status: status_of(served.end),
-        end: name_of(served.end),
+        status: logged_status(served),
+        end: logged_end(served),
         reason: reason_name(served.reason, facts.is_head_sound),
         request_bytes: facts.request_bytes,
         response_bytes: facts.response_bytes,
@@ -78,6 +84,7 @@ pub fn entry_of<'a>(served: &Served, facts: ConnectionFacts<'a>) -> LogEntry<'a>
             Some(_) => facts.response_ms,
             None => None,
         },
+        idle_connections: facts.idle_connections,
     }
 }
 
@@ -114,6 +121,26 @@ fn reason_name(reason: Option<Reason>, is_head_sound: bool) -> Option<&'static s
     match reason? {
         Reason::Malformed | Reason::HeadTooLarge if is_head_sound => Some("body"),
         reason => Some(reason.name()),
+    }
+}
+
+/// The status in the log: 499 if the client had gone before its answer, as in nginx's log.
+fn logged_status(served: &Served) -> Option<u16>
+    ensures { result ≡ logged_status served.now.end served.now.reason }
+{
+    match served.reason {
+        Some(Reason::ClientGone) => Some(CLIENT_CLOSED_REQUEST),
+        _ => status_of(served.end),
+    }
+}
+
+/// How the connection ended, by the log.
+fn logged_end(served: &Served) -> &'static str
+    ensures { result.now ≡ logged_end served.now.end served.now.reason }
+{
+    match served.reason {
+        Some(Reason::ClientGone) => "refused",
+        _ => name_of(served.end),
     }
 }
 

@@ -1,4 +1,5 @@
 pub mod Buffers
+pub mod Causes
 pub mod Clients
 pub mod Connections
 pub mod Reasons

@@ -22,6 +22,7 @@ reason_status reason.NoEndpoint = 503
 reason_status reason.HistoryFull = 503
 reason_status reason.Memory = 503
 reason_status reason.GivenUp = 503
+reason_status reason.ClientGone = 503
 reason_status reason.ConnectFailed = 502
 reason_status reason.ConnectTimeout = 502
 reason_status reason.ResponseTimeout = 502
@@ -44,6 +45,7 @@ reason_name reason.ResponseTimeout = codes "response_timeout"
 reason_name reason.ResponseMalformed = codes "response_malformed"
 reason_name reason.ResponseTooLarge = codes "response_too_large"
 reason_name reason.GivenUp = codes "given_up"
+reason_name reason.ClientGone = codes "client_gone"
 
 -- why a request that has this fault is refused; none where its client isn't answered
 abbrev pub request_reason : RequestFault → Option Reason

@@ -2,8 +2,10 @@
 ghost use Rattle.std.specs.Prelude.{◌≡◌, None};
 ghost use Rattle.bg_book.specs.Headline.{Headline};
 ghost use Rattle.bg_rollout.specs.Meeting.{Meets};
+ghost use Rattle.bg_rollout.specs.PastState.{goes_on};
 ghost use Rattle.bg_rollout.specs.Refusals.{IsTicket, enter_refusal};
 ghost use Rattle.bg_rollout.specs.Routing.{Routing};
+ghost use Rattle.bg_rollout.specs.declared.go_on.GoOn.TheVariants as go_on;
 
 use crate::gate::Gate;
 use bg_book::{Desk, EnterFault, GoOn, Left, Ticket};
@@ -35,6 +37,10 @@ impl<N: Names, R: Wait> Gate<N> for DeskGate<'_, N, R> {
     ghost gives = { λ _ service seat t.
         (b : Routing) × Headline b × Meets b seat
         × (enter_refusal b service ≡ None) × IsTicket b service t };
+
+    // the drain limit of its revision is over
+    ghost gives_up = { λ _ seat. (b : Routing) × Headline b × Meets b seat
+        × (goes_on b.strategy seat.index b.past ≡ go_on.Cut) };
 
     fn enter(&self, seat: &mut Seat<N>, service: Service) -> Result<Ticket, EnterFault> {
         self.desk.enter_with_compaction(self.rt, seat, service)

@@ -1,10 +1,11 @@
 //! Handles a request that entered, and answers its client.
-ghost use Rattle.std.specs.Prelude.{◌≡◌, ◌<◌, ◌⊎◌, [], IfErr, IfOk, IfSome, IsTrue, OnOk, Ok};
+ghost use Rattle.std.specs.Prelude.{◌≡◌, ◌<◌, ◌⊎◌, [], IfErr, IfOk, IfSome, IsTrue, None, OnOk, Ok};
 ghost use Rattle.std.specs.Io.KnownBytes.{Appends, Keeps};
 ghost use Rattle.bg_http.specs.Statuses.{is_refusal};
 ghost use Rattle.bg_http.specs.Texts.{refusal_text, request_text, response_text};
 ghost use Rattle.bg_http_read.specs.Responses.{ReadsResponse};
 ghost use Rattle.bg_forward.specs.Buffers.{held, stream_of};
+ghost use Rattle.bg_forward.specs.Causes.{IsFound, IsFoundAt};
 ghost use Rattle.bg_forward.specs.Connections.{IsGatewayStatus, MayBeRefused, MayEndInside, ReadOutcome};
 ghost use Rattle.bg_forward.specs.Connections.{WroteLast};
 ghost use Rattle.bg_forward.specs.Reasons.{TellsWhy, reason_status};
@@ -48,14 +49,13 @@ pub(crate) fn forward_and_answer<N: Names, G: Gate<N>, S: ClientStream, D: Dial>
     ensures seat { seat.new ≡ seat.old }
     ensures may_end { MayEndInside result.end }
     ensures why { TellsWhy result.end result.reason }
+    ensures found { IsFoundAt (G.gives_up worker.now.gate.now seat.old) ((s : S) × S.gone s)
+        result.end result.reason }
     ensures wrote { WroteLast (S.contents (stream_of client.old))
         (S.contents (stream_of client.new)) (Ok request.now) result.end }
 {
     match forward(worker, seat, request, dialled, &mut client.stream) {
-        Ok(response) => ForwardOutcome {
-            end: answer(request, &response, client),
-            reason: None,
-        },
+        Ok(response) => answer(request, &response, client),
         Err(reason) => ForwardOutcome {
             end: refuse(reason.status(), client),
             reason: Some(reason),
@@ -64,8 +64,9 @@ pub(crate) fn forward_and_answer<N: Names, G: Gate<N>, S: ClientStream, D: Dial>
 }
 
 /// Forwards a request over the connection that a dial gave, and reads the response. An error is the reason
-/// why the client is refused: with 503 if the request is given up or an allocation fails while the response
-/// is read, and with 502 otherwise (RFC 9110 sections 15.6.3 and 15.6.4). Writes nothing to the client.
+/// why the client is refused: with 503 if the request is given up, its client has gone, or an allocation fails
+/// while the response is read, and with 502 otherwise (RFC 9110 sections 15.6.3 and 15.6.4). Writes nothing to the
+/// client.
 fn forward<N: Names, G: Gate<N>, S: ClientStream, D: Dial>(
     worker: &Worker<G, D>,
     seat: &mut Seat<N>,
@@ -75,6 +76,8 @@ fn forward<N: Names, G: Gate<N>, S: ClientStream, D: Dial>(
 ) -> Result<Response, Reason>
     requires { 0 < seat.old.number }
     ensures status { IfErr result (λ reason. IsGatewayStatus (reason_status reason)) }
+    ensures found { IfErr result
+        (IsFound (G.gives_up worker.now.gate.now seat.old) ((s : S) × S.gone s)) }
     ensures seat { seat.new ≡ seat.old }
     ensures client { Keeps (S.contents client.old) (S.contents client.new) }
 {
@@ -107,20 +110,29 @@ fn send_request<S: Write>(
     upstream.flush()
 }
 
-/// Whether a request is given up, because its gate says so or its client has gone.
-fn is_given_up<N: Names, G: Gate<N>, S: ClientStream>(
+/// Why a request ends before its response, if it does: its gate gives it up, or its client has gone.
+fn ends_early<N: Names, G: Gate<N>, S: ClientStream>(
     gate: &G,
     seat: &mut Seat<N>,
     client: &mut S,
-) -> bool
+) -> Option<Reason>
     requires { 0 < seat.old.number }
+    ensures status { IfSome result (λ reason. reason_status reason ≡ 503) }
+    ensures found { IfSome result
+        (IsFound (G.gives_up gate.now seat.old) ((s : S) × S.gone s)) }
     ensures seat { seat.new ≡ seat.old }
     ensures client { Keeps (S.contents client.old) (S.contents client.new) }
 {
-    gate.may_go_on(seat) == GoOn::Cut || client.has_gone()
+    if gate.may_go_on(seat) == GoOn::Cut {
+        return Some(Reason::GivenUp);
+    }
+    if client.has_gone() {
+        return Some(Reason::ClientGone);
+    }
+    None
 }
 
-/// Reads the response to a request, and asks before each read whether the request is given up. An
+/// Reads the response to a request, and asks before each read whether the request ends early. An
 /// interrupted read is repeated. The errors are those of `forward`.
 fn receive<N: Names, G: Gate<N>, S: ClientStream, D: Dial, R: Read>(
     worker: &Worker<G, D>,
@@ -133,14 +145,16 @@ fn receive<N: Names, G: Gate<N>, S: ClientStream, D: Dial, R: Read>(
     ensures response { IfOk result (λ response. IfSome (R.remaining reader.old)
         (λ input. ReadsResponse request.now response input)) }
     ensures status { IfErr result (λ reason. IsGatewayStatus (reason_status reason)) }
+    ensures found { IfErr result
+        (IsFound (G.gives_up worker.now.gate.now seat.old) ((s : S) × S.gone s)) }
     ensures seat { seat.new ≡ seat.old }
     ensures client { Keeps (S.contents client.old) (S.contents client.new) }
 {
     let mut parser = ResponseParser::new(worker.alloc, request);
     let mut piece = [0; PIECE];
     for _ in 0..MOST_TURNS {
-        if is_given_up(worker.gate, seat, client) {
-            return Err(Reason::GivenUp);
+        if let Some(reason) = ends_early(worker.gate, seat, client) {
+            return Err(reason);
         }
         match reader.read(&mut piece) {
             Ok(0) => {
@@ -164,16 +178,28 @@ fn receive<N: Names, G: Gate<N>, S: ClientStream, D: Dial, R: Read>(
     Err(Reason::ResponseTimeout)
 }
 
-/// Answers a client with a response.
-fn answer<S: Write>(request: &Request, response: &Response, client: &mut Buffered<S>) -> End
+/// Answers a client with a response. If the client does not take it, the reason is that it has gone.
+fn answer<S: Write>(
+    request: &Request,
+    response: &Response,
+    client: &mut Buffered<S>,
+) -> ForwardOutcome
     requires { held client.old ≡ [] }
-    ensures end { (result ≡ end.Answered response.now.code) ⊎ (result ≡ end.WriteFailed) }
+    ensures end { ((result.end ≡ end.Answered response.now.code) × (result.reason ≡ None))
+        ⊎ (result.end ≡ end.WriteFailed) }
+    ensures reason { IfSome result.reason (λ reason. reason ≡ Reason.ClientGone) }
     ensures wrote { WroteLast (S.contents (stream_of client.old))
-        (S.contents (stream_of client.new)) (Ok request.now) result }
+        (S.contents (stream_of client.new)) (Ok request.now) result.end }
 {
     match send_response(request, response, client) {
-        Ok(()) => End::Answered(response.code),
-        Err(_) => End::WriteFailed,
+        Ok(()) => ForwardOutcome {
+            end: End::Answered(response.code),
+            reason: None,
+        },
+        Err(error) => ForwardOutcome {
+            end: End::WriteFailed,
+            reason: Reason::of_client(&error),
+        },
     }
 }
 

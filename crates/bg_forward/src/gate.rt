@@ -1,6 +1,7 @@
 //! The gate that a request passes before and after it is forwarded.
 ghost use Rattle.std.specs.Prelude.{◌≡◌, ◌<◌, IfOk, OnErr, ⊤};
 ghost use Rattle.bg_rollout.specs.Changes.{seat_in};
+ghost use Rattle.bg_rollout.specs.declared.go_on.GoOn.TheVariants as go_on;
 ghost use Rattle.bg_rollout.specs.declared.ticket.Ticket.{Ticket};
 ghost use Rattle.bg_ledger.specs.Holdings.{after_leave};
 ghost use Rattle.bg_ledger.specs.declared.holding.Holding.{Holding};
@@ -19,6 +20,9 @@ pub trait Gate<N: Names> {
     /// The fact that holds for a ticket that is given at a seat for a service.
     ghost gives: { Self → Service → Holding → Ticket → Type 0 } = { λ _ _ _ _. ⊤ };
 
+    /// The fact that holds for a request that is given up, by the seat that holds it.
+    ghost gives_up: { Self → Holding → Type 0 } = { λ _ _. ⊤ };
+
     /// Gives the request a number, a revision and a port, which the seat holds. A refusal does not
     /// change the seat.
     fn enter(&self, seat: &mut Seat<N>, service: Service) -> Result<Ticket, EnterFault>
@@ -31,7 +35,8 @@ pub trait Gate<N: Names> {
     /// Whether the request that the seat holds goes on or is given up. Does not change the seat.
     fn may_go_on(&self, seat: &mut Seat<N>) -> GoOn
         requires within { 0 < seat.old.number }
-        ensures seat { seat.new ≡ seat.old };
+        ensures seat { seat.new ≡ seat.old }
+        ensures gives_up { result ≡ go_on.Cut → gives_up self.now seat.old };
 
     /// Ends the request that the seat holds, and gives the request.
     fn leave(&self, seat: &mut Seat<N>) -> Left

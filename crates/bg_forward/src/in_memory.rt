@@ -1,5 +1,7 @@
 //! Connections that are in memory.
 ghost use Rattle.std.specs.Prelude.{◌≡◌, ◌+◌, ◌<◌, [], IfSome, Some};
+ghost use Rattle.bg_rollout.specs.Changes.{seat_in};
+ghost use Rattle.bg_forward.specs.Causes.{IsCause};
 ghost use Rattle.bg_forward.specs.Connections.{Connection, ReadOutcome, Receives};
 ghost use Rattle.bg_forward.specs.Routes.{IsRouted};
 ghost use Rattle.bg_forward.specs.Seats.{calls_made, seat_after};
@@ -42,7 +44,9 @@ pub fn serve_in_memory<N: Names, G: Gate<N>, D: Dial>(
         (λ t. G.gives worker.now.gate.now worker.now.service seat.old t) }
     ensures route { IsRouted (D.routes worker.now.dial.now) result.served.entered result.served.route }
     ensures client { (read : ReadOutcome) × Connection (Some input.now) (Some []) (Some result.written)
-        read result.served.entered result.served.end }
+        read result.served.entered result.served.end
+        × IsCause read (λ t. G.gives_up worker.now.gate.now (seat_in seat.old t)) ⊥
+        result.served.entered result.served.end result.served.reason }
 {
     let mut client = Buffered::new(worker.alloc, MemoryStream::new(worker.alloc, input));
     let served = serve_one(worker, seat, &mut client);

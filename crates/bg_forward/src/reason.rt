@@ -1,5 +1,5 @@
 //! Why a request was refused.
-ghost use Rattle.std.specs.Prelude.{◌≡◌, IsTrue};
+ghost use Rattle.std.specs.Prelude.{◌≡◌, IfSome, IsTrue};
 ghost use Rattle.std.specs.Option.{option_map};
 ghost use Rattle.bg_http.specs.Statuses.{is_refusal, request_status, response_status};
 ghost use Rattle.bg_forward.specs.Reasons.{enter_reason, reason_name, reason_status, request_reason, response_reason};
@@ -38,8 +38,10 @@ pub enum Reason {
     ResponseMalformed,
     /// The response's head or body is too large.
     ResponseTooLarge,
-    /// The request was given up, because it drained for too long or its client has gone.
+    /// The request was given up, because it drained for too long.
     GivenUp,
+    /// The client had gone before its answer was written to it. It is refused with 503, which nobody is likely to read.
+    ClientGone,
 }
 
 impl Reason {
@@ -58,7 +60,8 @@ impl Reason {
             | Reason::NoEndpoint
             | Reason::HistoryFull
             | Reason::Memory
-            | Reason::GivenUp => 503,
+            | Reason::GivenUp
+            | Reason::ClientGone => 503,
             Reason::ConnectFailed
             | Reason::ConnectTimeout
             | Reason::ResponseTimeout
@@ -85,6 +88,7 @@ impl Reason {
             Reason::ResponseMalformed => "response_malformed",
             Reason::ResponseTooLarge => "response_too_large",
             Reason::GivenUp => "given_up",
+            Reason::ClientGone => "client_gone",
         }
     }
 
@@ -137,6 +141,21 @@ impl Reason {
             Reason::ConnectTimeout
         } else {
             Reason::ConnectFailed
+        }
+    }
+
+    /// The reason for a request whose response could not be written to its client. `None` if that was no fault of the
+    /// client, as when an allocation failed.
+    pub(crate) fn of_client(error: &io::Error) -> Option<Reason>
+        ensures { IfSome result (λ reason. reason ≡ Reason.ClientGone) }
+    {
+        match error.kind() {
+            ErrorKind::BrokenPipe
+            | ErrorKind::ConnectionReset
+            | ErrorKind::ConnectionAborted
+            | ErrorKind::NotConnected
+            | ErrorKind::TimedOut => Some(Reason::ClientGone),
+            _ => None,
         }
     }
 

@@ -2,10 +2,12 @@
 ghost use Rattle.std.specs.Prelude.{◌≡◌, ◌+◌, ◌<◌, [], ℕ, List, Option, IfSome, Ok, Err};
 ghost use Rattle.bg_forward.specs.Routes.{IsRouted};
 ghost use Rattle.bg_http.specs.Statuses.{request_status};
+ghost use Rattle.bg_rollout.specs.Changes.{seat_in};
 ghost use Rattle.bg_forward.specs.Buffers.{held, stream_of};
+ghost use Rattle.bg_forward.specs.Causes.{IsCause};
 ghost use Rattle.bg_forward.specs.Connections.{Connection, EndsBy, MayEnd, ReadOutcome, Receives};
 ghost use Rattle.bg_forward.specs.Connections.{WroteLast};
-ghost use Rattle.bg_forward.specs.Reasons.{TellsWhy};
+ghost use Rattle.bg_forward.specs.Reasons.{TellsWhy, request_reason};
 ghost use Rattle.bg_forward.specs.Seats.{calls_made, seat_after};
 
 use crate::buffered::Buffered;
@@ -46,7 +48,7 @@ pub struct Served {
     pub route: Option<Route>,
     /// How the connection ended for its client.
     pub end: End,
-    /// Why the client was refused, also if the refusal could not be written.
+    /// Why the client was refused, also if the refusal could not be written; or that it has not taken its response.
     pub reason: Option<Reason>,
 }
 
@@ -82,7 +84,9 @@ pub fn serve_one<N: Names, G: Gate<N>, S: ClientStream + Duplex, D: Dial>(
     ensures why { TellsWhy result.end result.reason }
     ensures client { (read : ReadOutcome) × Connection (S.remaining (stream_of client.old))
         (S.contents (stream_of client.old)) (S.contents (stream_of client.new))
-        read result.entered result.end }
+        read result.entered result.end
+        × IsCause read (λ t. G.gives_up worker.now.gate.now (seat_in seat.old t))
+        ((s : S) × S.gone s) result.entered result.end result.reason }
 {
     let received = read_request(worker.alloc, &mut client.stream);
     serve_received(worker, seat, &received, client)
@@ -103,10 +107,10 @@ pub fn serve_one<N: Names, G: Gate<N>, S: ClientStream + Duplex, D: Dial>(
 /// read, the answer is 502; it is 503 if an allocation failed while the response was read. The gate
 /// is asked once after the dial and before each read of the response. If it gives the request up,
 /// the connection to the endpoint is closed, and the answer is 503. The client's stream is asked too
-/// before each read of the response. If the client has gone, the request ends in the same way, and
-/// writing the 503 usually fails. So a client that has gone does not hold a seat and an endpoint
-/// (nginx's `proxy_ignore_client_abort off`). The request leaves after its answer or refusal was
-/// written or the write failed.
+/// before each read of the response. If the client has gone, the request ends in the same way, for a reason of its
+/// own, and writing the 503 usually fails. So a client that has gone does not hold a seat and an endpoint
+/// (nginx's `proxy_ignore_client_abort off`). The reason is the same if the client does not take its response. The
+/// request leaves after its answer or refusal was written or the write failed.
 ///
 /// The writes to the client and to the endpoint go through a buffer, which is flushed before the
 /// next step. A failed flush counts as a failed write.
@@ -127,6 +131,8 @@ pub fn serve_received<N: Names, G: Gate<N>, S: ClientStream, D: Dial>(
         (λ t. G.gives worker.now.gate.now worker.now.service seat.old t) }
     ensures route { IsRouted (D.routes worker.now.dial.now) result.entered result.route }
     ensures why { TellsWhy result.end result.reason }
+    ensures cause { IsCause received.now (λ t. G.gives_up worker.now.gate.now (seat_in seat.old t))
+        ((s : S) × S.gone s) result.entered result.end result.reason }
     ensures may_end { MayEnd received.now result.entered result.end }
     ensures wrote { WroteLast (S.contents (stream_of client.old))
         (S.contents (stream_of client.new)) received.now result.end }
@@ -165,6 +171,9 @@ fn serve_request<N: Names, G: Gate<N>, S: ClientStream, D: Dial>(
     ensures route { IsRouted (D.routes worker.now.dial.now) result.entered result.route }
     ensures may_end { MayEnd (Ok request.now) result.entered result.end }
     ensures why { TellsWhy result.end result.reason }
+    ensures cause { IsCause (Ok request.now)
+        (λ t. G.gives_up worker.now.gate.now (seat_in seat.old t)) ((s : S) × S.gone s)
+        result.entered result.end result.reason }
     ensures wrote { WroteLast (S.contents (stream_of client.old))
         (S.contents (stream_of client.new)) (Ok request.now) result.end }
 {
@@ -196,6 +205,7 @@ fn refuse_fault<S: Write>(fault: RequestFault, client: &mut Buffered<S>) -> Forw
     requires { held client.old ≡ [] }
     ensures may_end { EndsBy (request_status fault) fault result.end }
     ensures why { TellsWhy result.end result.reason }
+    ensures reason { result.reason ≡ request_reason fault }
     ensures wrote { WroteLast (S.contents (stream_of client.old))
         (S.contents (stream_of client.new)) (Err fault) result.end }
 {

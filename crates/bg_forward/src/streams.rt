@@ -1,5 +1,5 @@
 //! The sources of client connections.
-ghost use Rattle.std.specs.Prelude.{◌≡◌, false, ℕ, IfOk, IfSome, List, Option, Some};
+ghost use Rattle.std.specs.Prelude.{◌≡◌, false, ℕ, IfOk, IfSome, IsTrue, List, Option, Some, ⊤};
 ghost use Rattle.std.specs.Io.KnownBytes.{Keeps};
 ghost use Rattle.bg_forward.specs.Clients.{IsReceived, IsServed};
 ghost use Rattle.bg_forward.specs.Connections.{MayEnd};
@@ -13,6 +13,9 @@ use std::io::Write;
 /// A connection of a client whose request was received. Its answer is written to it, and it says whether
 /// the client still waits for the answer.
 pub trait ClientStream: Write {
+    /// The fact that holds of a client that was found to have gone.
+    ghost gone: { Self → Type 0 } = { λ _. ⊤ };
+
     /// Whether the client has closed or reset its connection, so that no answer can reach it. A
     /// client that has only shut its writing side has not gone: it still reads (RFC 9112 section
     /// 9.6).
@@ -20,14 +23,18 @@ pub trait ClientStream: Write {
     /// It does not change the bytes that were written. It is called before each read of an endpoint's
     /// response, so it must not wait. The implementation decides how often it asks the system.
     fn has_gone(&mut self) -> bool
-        ensures kept { Keeps (Self.contents self.old) (Self.contents self.new) };
+        ensures kept { Keeps (Self.contents self.old) (Self.contents self.new) }
+        ensures gone { IsTrue result → gone self.new };
 }
 
 /// A client in memory has never gone.
 impl ClientStream for MemoryStream<'_> {
+    ghost gone = { λ _. ⊥ };
+
     fn has_gone(&mut self) -> bool
         ensures left { Keeps (Some self.old.input.now) (Some self.new.input.now) }
         ensures kept { Keeps (Some self.old.written.items) (Some self.new.written.items) }
+        ensures gone { IsTrue result → ⊥ }
         ensures stays { result ≡ false }
     {
         false

@@ -5,6 +5,7 @@ use Rattle.std.proofs.lemmas.Bool.{and_from, or_right}
 use Rattle.std.proofs.lemmas.List.Sums.{sum_by-set}
 use Rattle.bg_port.proofs.RegisterLemmas.{within}
 use Rattle.bg_port.proofs.Sums.{sum_by-le-both}
+use Rattle.bg_port.specs.Incoming.{counted}
 use Rattle.bg_port.specs.Closing.{LateIsEnded, ShutdownEnds, attended, late_count, late_of}
 use Rattle.bg_port.specs.Ports.{changed_from}
 use Rattle.bg_port.specs.Received.{unread}
@@ -52,7 +53,7 @@ module _ (now : ℕ) (over : Bool) (old : Register) (key : ℕ) (late : is_late 
       ≡ late_count now over old
   by_stage number accepted stage.Accepted was = let never : false ≡ true = ap (is_late now over) (sym was) ∙ late in absurd (cc)
   by_stage number accepted (stage.Reading r) was =
-      let d : Connection = record { number = number; accepted = accepted; stage = stage.Waiting (unread ending.GivenUp 0) } in
+      let d : Connection = record { number = number; accepted = accepted; stage = stage.Waiting (unread ending.GivenUp (counted r.request.came)) } in
       ap (λ ps. sum_by (late_of now over) ps + 1) (set-set old.places key None (Some d)) ∙ count (Some d) _ was refl
   by_stage number accepted (stage.Waiting w) was = let never : false ≡ true = ap (is_late now over) (sym was) ∙ late in absurd (cc)
   by_stage number accepted stage.Given was = let never : false ≡ true = ap (is_late now over) (sym was) ∙ late in absurd (cc)

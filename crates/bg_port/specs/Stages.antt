@@ -122,17 +122,10 @@ EndsInput None old new = new ≡ old
 EndsInput (Some r) old new =
     (received : ReceivedRequest) × (new ≡ stage.Waiting received) × IsReceived received r.request.came ending.Ended
 
--- the number of bytes that a worker is told of a request that could not be read
-abbrev pub told_of : Ending → ℕ → ℕ
-told_of ending.Decided count = count
-told_of ending.Ended count = count
-told_of ending.Failed count = count
-told_of ending.GivenUp count = 0
-
 -- nothing more is read or written: a request that is arriving is unread, and a connection that was answered leaves
 abbrev pub stopped : Ending → Stage → Option Stage
 stopped why stage.Accepted = Some stage.Accepted
-stopped why (stage.Reading r) = Some (stage.Waiting (unread why (told_of why (counted r.request.came))))
+stopped why (stage.Reading r) = Some (stage.Waiting (unread why (counted r.request.came)))
 stopped why (stage.Waiting w) = Some (stage.Waiting w)
 stopped why stage.Given = Some stage.Given
 stopped why (stage.Writing w) = None

@@ -1,6 +1,5 @@
 //! A request that is arriving.
 ghost use Rattle.std.specs.Prelude.{◌≡◌, [], false};
-ghost use Rattle.bg_port.specs.Stages.{told_of};
 
 use crate::received::{Ending, ReceivedRequest};
 use bg_http_read::{RequestParser, RequestStep};
@@ -113,21 +112,10 @@ impl IncomingRequest {
     }
 
     /// What a worker is given if the request cannot be read further: because a read failed, or because the port gives it
-    /// up, of which the worker is told no byte.
+    /// up.
     pub fn stop(self, why: Ending) -> ReceivedRequest
-        ensures { result ≡ unread why (told_of why (counted self.came)) }
+        ensures { result ≡ unread why (counted self.came) }
     {
-        let bytes = told_of(why, self.count);
-        ReceivedRequest::unread(why, bytes)
-    }
-}
-
-/// The number of bytes that a worker is told of a request that could not be read.
-fn told_of(why: Ending, count: usize) -> usize
-    ensures { result ≡ told_of why count }
-{
-    match why {
-        Ending::GivenUp => 0,
-        Ending::Decided | Ending::Ended | Ending::Failed => count,
+        ReceivedRequest::unread(why, self.count)
     }
 }

@@ -28,7 +28,7 @@ pub struct ReceivedRequest {
     pub refused: Option<RefusedHead>,
     /// What ended the request.
     pub ending: Ending,
-    /// The number of bytes that came; 0 if the port gave the request up.
+    /// The number of bytes that came.
     pub bytes: usize,
 }
 
@@ -68,11 +68,11 @@ impl ReceivedRequest {
         (answer, refused, ending, bytes)
     }
 
-    /// A request that the port gave up.
-    pub fn given_up() -> ReceivedRequest
-        ensures { result ≡ unread ending.GivenUp 0 }
+    /// A request that the port gave up after so many bytes came.
+    pub fn given_up(bytes: usize) -> ReceivedRequest
+        ensures { result ≡ unread ending.GivenUp bytes }
     {
-        ReceivedRequest::unread(Ending::GivenUp, 0)
+        ReceivedRequest::unread(Ending::GivenUp, bytes)
     }
 
     /// A request whose rest could not be read.

@@ -10,7 +10,9 @@ use crate::messages::{CHUNKS, GET, GET_ON};
 use crate::samples::strategy;
 use bg_audit::audit;
 use bg_book::{Desk, Limits, laws as book_laws};
-use bg_forward::{Buffered, DeskGate, Dial, End, Gate, Served, Worker, serve_one, serve_received};
+use bg_forward::{
+    Buffered, DeskGate, Dial, End, Gate, Reason, Served, Worker, serve_one, serve_received,
+};
 use bg_history::History;
 use bg_http::{Request, RequestFault};
 use bg_http_read::read_request;
@@ -121,6 +123,7 @@ impl<'a> Setting<'a> {
 pub struct Outcome {
     pub entered: bool,
     pub end: End,
+    pub reason: Option<Reason>,
     /// The number of bytes that were written to the client, and whether the answer begins with them.
     pub written: usize,
     pub is_of_answer: bool,
@@ -316,6 +319,7 @@ fn serve_stream<R: Wait>(
     Ok(Some(Outcome {
         entered: served.entered.is_some(),
         end: served.end,
+        reason: served.reason,
         written: stream.shows().len(),
         is_of_answer: answer.as_bytes().starts_with(stream.shows()),
         client: stream.uses(),

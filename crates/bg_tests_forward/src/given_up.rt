@@ -3,7 +3,7 @@
 use crate::connections::{SOUND, Setting};
 use crate::fakes::{Interruptions, Pace, STEADY};
 use crate::messages::{CHUNKS_ON, Expected, expect, refusal};
-use bg_forward::End;
+use bg_forward::{End, Reason};
 use std::alloc::Global;
 use std::process::Abort;
 use std::sync::Wait;
@@ -39,6 +39,7 @@ fn cut_at_question<R: Abort + Wait>(
     let setting = Setting { cut_at, ..*sound };
     let refused = Expected::entered(End::Refused(503), refusal(503));
     let outcome = expect(rt, alloc, &setting, refused)?;
+    assert_eq!(rt; outcome.reason, Some(Reason::GivenUp));
     assert_eq!(rt; outcome.questions, cut_at);
     assert_eq!(rt; outcome.dialled, 1);
     // the first question comes before the request is written, and each further one before a read

@@ -4,7 +4,7 @@ use crate::connections::{Outcome, SOUND, Setting};
 use crate::fakes::{Interruptions, Pace, STEADY};
 use crate::given_up::paces;
 use crate::messages::{CHUNKS_ON, Expected, expect, refusal};
-use bg_forward::End;
+use bg_forward::{End, Reason};
 use std::alloc::Global;
 use std::process::Abort;
 use std::sync::Wait;
@@ -29,6 +29,7 @@ fn silent() -> Pace {
 /// The client was asked this many times, each time before a read and after the gate, and the connection to the
 /// endpoint was closed.
 fn let_go<R: Abort>(rt: &R, outcome: &Outcome, question: u64) {
+    assert_eq!(rt; outcome.reason, Some(Reason::ClientGone));
     assert_eq!(rt; outcome.client_questions, question);
     assert_eq!(rt; outcome.questions, question.saturating_add(1));
     assert_eq!(rt; outcome.endpoint.reads, question.saturating_sub(1));

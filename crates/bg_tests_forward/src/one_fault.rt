@@ -6,7 +6,7 @@ use crate::messages::{
     CHUNKS_ON, EXPECTS, EXPECTS_ANSWERED, EXPECTS_ON, EXPECTS_REFUSED, Expected, ends, expect,
     refusal,
 };
-use bg_forward::End;
+use bg_forward::{End, Reason};
 use std::alloc::Global;
 use std::process::Abort;
 use std::sync::Wait;
@@ -123,9 +123,16 @@ fn ends_as_expected<R: Abort + Wait>(
         }
         FailingCall::WriteToClient => {
             let outcome = ends(rt, alloc, &setting, End::WriteFailed, expected.answered)?;
+            // a client that does not take its response has gone
+            let reason = if outcome.entered {
+                Some(Reason::ClientGone)
+            } else {
+                None
+            };
             Ok(
                 outcome.client.writes == place.saturating_add(1)
                     && outcome.written < expected.answered.len()
+                    && outcome.reason == reason
                     && outcome.entered == (outcome.written >= expected.before),
             )
         }

@@ -117,8 +117,7 @@ impl Known {
                     && received.bytes == self.came
                     && is_same(&received.answer, &request_in(alloc, self.bytes()))
             }
-            Ending::Failed => is_unread(received, self.came, self.ending),
-            Ending::GivenUp => is_unread(received, 0, self.ending),
+            Ending::Failed | Ending::GivenUp => is_unread(received, self.came, self.ending),
         }
     }
 }

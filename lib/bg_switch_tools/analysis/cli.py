@@ -22,7 +22,8 @@ from bg_switch_tools.switch.installed_names import named
 USAGE = """bin/analysis --log FILE [--revision NAME] --seconds N [options]
        bin/analysis --prometheus URL --query QUERY (--at-most X | --at-least X) --count N [options]"""
 ABOUT = """Judges a revision from now on, by its requests in the access log of the switch or by a query of Prometheus. In the log, errors
-are requests with a status from 500 on, requests without an answer, and requests that found no endpoint of the revision."""
+are requests with a status from 500 on, requests without an answer, and requests that found no endpoint of the revision.
+Requests whose clients had gone before their answers (status 499) are neither errors nor judged: the output tells how many."""
 END = """
 As an analysis of a plan it needs no --revision, since the controller names the revision:
   "post": ["/usr/bin/bg-analysis", "--log", "/var/log/bg/access.log", "--seconds", "1m", "--errors-at-most", "1%",
@@ -32,7 +33,8 @@ As an analysis of a plan it needs no --revision, since the controller names the 
 Elsewhere --revision names it: by its number, or by its name together with --control.
 
 By the access log, a measurement judges the requests of the last --every seconds. If they are fewer than --requests-at-least, they
-count with those of the next measurement. A measurement without a request, after one with requests, has failed. By Prometheus, each
+count with those of the next measurement. A measurement without a request, after one with requests, has failed, and so has one of
+ten clients or more (of --requests-at-least, if that is more) that have all gone before their answers. By Prometheus, each
 measurement is a query; one without data, or with a value that is not a number, is inconclusive.
 
 A duration is 60, 60s, 1m or 1h.
@@ -213,9 +215,8 @@ def fault_of(given: argparse.Namespace) -> str:
             return "--seconds is needed"
         has_limit = given.errors_at_most is not None or given.p99_at_most is not None
         return "" if has_limit else "a limit is needed: --errors-at-most, --p99-at-most or both"
-    from bg_switch_tools.analysis import (
-        prometheus_options,
-    )  # here, since HTTP would make each start of the other tools slower
+    # here, since HTTP would make each start of the other tools slower
+    from bg_switch_tools.analysis import prometheus_options
 
     return prometheus_options.fault_of(given)
 

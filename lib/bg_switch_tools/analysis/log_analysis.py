@@ -3,7 +3,7 @@ import time
 from collections.abc import Sequence
 
 from bg_switch_tools.analysis.judged_revision import JudgedRevision
-from bg_switch_tools.analysis.measurements import Analyser, Limits, Measurement
+from bg_switch_tools.analysis.measurements import Analyser, Limits, Measurement, gone_text
 from bg_switch_tools.analysis.revision_requests import (
     ByNeighbours,
     ByReports,
@@ -106,8 +106,9 @@ class LogAnalysis:
 
     def tell_measurement(self, seconds: float, measurement: Measurement | None) -> None:
         if measurement is None:
+            gone = gone_text(self.analyser.gone)
             self.tell(
-                f"{seconds:g} s: {len(self.analyser.unjudged)} requests are too few, and wait"
+                f"{seconds:g} s: {len(self.analyser.unjudged)} requests are too few, and wait{gone}"
             )
             return
         self.tell(
@@ -151,7 +152,7 @@ class LogAnalysis:
         if not self.analyser.has_judged:
             raise NotJudged(
                 f"{len(self.analyser.unjudged)} requests came in {seconds:g} seconds, and "
-                f"{self.analyser.limits.requests} are needed{self.unknown()}"
+                f"{self.analyser.limits.requests} are needed{gone_text(self.analyser.gone)}{self.unknown()}"
             )
         self.tell(f"{HELD}{self.unknown()}")
         return SUCCESSFUL

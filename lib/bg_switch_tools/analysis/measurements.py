@@ -6,6 +6,8 @@ from typing import NamedTuple
 from bg_switch_tools.switch.access_log import LogEntry
 
 SILENCE = "no request has come"
+ALL_GONE = "no client has waited for its answer"
+MANY_GONE = 10  # clients that have gone while none has stayed, from which on this is said
 
 
 class Limits(NamedTuple):
@@ -33,9 +35,8 @@ class Request(NamedTuple):
 
 def request_of(entry: LogEntry, limits: Limits) -> Request:
     if entry.is_without_endpoint:
-        return Request(
-            True, None
-        )  # a refusal is fast, and says nothing of the revision's durations
+        # a refusal is fast, and says nothing of the revision's durations
+        return Request(True, None)
     return Request(entry.is_error, entry.upstream_ms if limits.by_endpoint else entry.duration_ms)
 
 
@@ -46,18 +47,26 @@ def quantile(values: Sequence[float], share: float) -> float:
 
 class Measurement(NamedTuple):
     """What requests came to. `p99` is None where none has a duration, `problems` says which limits
-    they exceed."""
+    they exceed, and `gone` counts the clients that had gone before their answers, whose requests
+    are not among these."""
 
     requests: int
     errors: int
     p99: float | None
     problems: tuple[str, ...]
+    gone: int = 0
 
     def text(self) -> str:
         if not self.requests:
-            return "0 requests"
+            return f"0 requests{gone_text(self.gone)}"
         p99 = "" if self.p99 is None else f", p99 {self.p99:.4g} ms"
-        return f"{self.requests} requests, {self.errors} errors ({self.errors / self.requests:.2%}){p99}"
+        errors = f"{self.errors} errors ({self.errors / self.requests:.2%})"
+        return f"{self.requests} requests, {errors}{p99}{gone_text(self.gone)}"
+
+
+def gone_text(gone: int) -> str:
+    """How many clients had gone, for the end of a text; empty where none had."""
+    return f" ({gone} clients had gone)" if gone else ""
 
 
 def _p99(requests: Sequence[Request], missing: int = 0) -> float | None:
@@ -78,16 +87,17 @@ def _problems(errors: float, p99: float | None, limits: Limits) -> tuple[str, ..
     return tuple(found)
 
 
-def measure(requests: Sequence[Request], limits: Limits) -> Measurement:
-    """The measurement of these requests, of which there is one or more."""
+def measure(requests: Sequence[Request], limits: Limits, gone: int = 0) -> Measurement:
+    """The measurement of these requests, of which there is one or more, beside so many whose
+    clients had gone."""
     errors, p99 = sum(request.is_error for request in requests), _p99(requests)
     problems = _problems(errors / len(requests), p99, limits)
     if limits.p99 is not None and p99 is None:
         problems += ("no endpoint has answered",)
-    return Measurement(len(requests), errors, p99, problems)
+    return Measurement(len(requests), errors, p99, problems, gone)
 
 
-def measure_few(requests: Sequence[Request], limits: Limits) -> Measurement:
+def measure_few(requests: Sequence[Request], limits: Limits, gone: int = 0) -> Measurement:
     """The measurement of requests that are too few and which no others follow. It has only those
     problems that it would also have if all requests that are missing had been answered at once and
     without an error."""
@@ -95,24 +105,29 @@ def measure_few(requests: Sequence[Request], limits: Limits) -> Measurement:
         limits.requests - len(requests), 0
     )
     problems = _problems(errors / (len(requests) + missing), _p99(requests, missing), limits)
-    return Measurement(len(requests), errors, _p99(requests), problems)
+    return Measurement(len(requests), errors, _p99(requests), problems, gone)
 
 
 class Analyser:
     """Measures requests window by window. Those of a window are judged by themselves; where they
     are too few, they wait, and are judged together with those of the next window, but never with
-    requests that were judged before.
+    requests that were judged before. A request whose client had gone before its answer says nothing
+    of the revision, and is only counted. But where that many requests come, and each of the clients
+    has gone, a measurement has failed: a revision that hangs is left by all of its clients.
     """
 
     def __init__(self, limits: Limits) -> None:
         self.limits = limits
         self.unjudged: list[Request] = []  # not judged yet
+        self.gone = 0  # clients that had gone, since the last measurement
         self.came = 0  # requests of the present window
         self.has_seen = False  # whether an earlier window had requests
         self.measured = self.failed = 0  # measurements
 
     def take(self, entries: Sequence[LogEntry]) -> None:
-        self.unjudged += [request_of(entry, self.limits) for entry in entries]
+        stayed = [entry for entry in entries if not entry.has_client_gone]
+        self.unjudged += [request_of(entry, self.limits) for entry in stayed]
+        self.gone += len(entries) - len(stayed)
         self.came += len(entries)
 
     def end_window(self, can_be_silent: bool = True) -> Measurement | None:
@@ -124,17 +139,25 @@ class Analyser:
         if came == 0 and self.has_seen and can_be_silent and not self.limits.is_silence_allowed:
             return self._counted(Measurement(0, 0, None, (SILENCE,)))
         self.has_seen = self.has_seen or came > 0
+        if not self.unjudged and self.gone >= max(self.limits.requests, MANY_GONE):
+            return self._counted(Measurement(0, 0, None, (ALL_GONE,), self._take_gone()))
         if len(self.unjudged) < max(self.limits.requests, 1):
             return None
         unjudged, self.unjudged = self.unjudged, []
-        return self._counted(measure(unjudged, self.limits))
+        return self._counted(measure(unjudged, self.limits, self._take_gone()))
+
+    def _take_gone(self) -> int:
+        gone, self.gone = self.gone, 0
+        return gone
 
     def end_rest(self) -> Measurement | None:
         """The failed measurement of what still waits after the last window; None where it has not
         failed, or where no window was
         measured: requests that are too few in all are not judged."""
         rest = (
-            measure_few(self.unjudged, self.limits) if self.unjudged and self.has_judged else None
+            measure_few(self.unjudged, self.limits, self.gone)
+            if self.unjudged and self.has_judged
+            else None
         )
         return self._counted(rest) if rest and rest.problems else None
 

@@ -137,6 +137,12 @@ def _of_requests(totals: Totals) -> Iterator[Metric]:
         LABELS,
         [(labels, counted.retries) for labels, counted in totals.items()],
     )
+    yield counter(
+        "bg_switch_client_gone_requests",
+        "Requests whose clients had gone before their answers, with the status 499 in the log.",
+        LABELS,
+        [(labels, counted.gone) for labels, counted in totals.items()],
+    )
     yield _histogram(
         "bg_switch_http_request_duration_seconds",
         "From the connection of a client to its end.",
@@ -179,6 +185,12 @@ def _of_board(board: Board) -> Iterator[Metric]:
         [([reason], count) for reason, count in totals.events.items()],
     )
     yield from _of_requests(totals)
+    yield counter(
+        "bg_switch_idle_connections",
+        "Connections that ended without having sent a byte. They are no requests.",
+        [],
+        [([], totals.idle_connections)],
+    )
     yield counter(
         "bg_switch_log_lines_lost",
         "Lines that the switch could not write into its log.",

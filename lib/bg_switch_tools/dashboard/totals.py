@@ -51,10 +51,11 @@ class DurationTally:
 
 class RequestCounts:
     """Requests that are counted together: `redispatched` are those of which another endpoint was
-    dialled than that of the slot, `retries` the connects after the first one of each."""
+    dialled than that of the slot, `retries` the connects after the first one of each, and `gone`
+    those whose clients had gone before their answers."""
 
     def __init__(self) -> None:
-        self.requests = self.bytes = self.redispatched = self.retries = 0
+        self.requests = self.bytes = self.redispatched = self.retries = self.gone = 0
         self.durations = DurationTally()
         self.upstream = DurationTally()
 
@@ -63,6 +64,7 @@ class RequestCounts:
         self.bytes += entry.response_bytes or 0
         self.redispatched += entry.slot_port is not None
         self.retries += max((entry.tries or 0) - 1, 0)
+        self.gone += entry.has_client_gone
         self.durations.add(entry.duration_ms)
         if entry.upstream_ms is not None:
             self.upstream.add(entry.upstream_ms)
@@ -76,8 +78,10 @@ class Totals:
         self.events: collections.Counter[str] = collections.Counter()
         self.names: dict[str, None] = {}  # of revisions, by when they were seen first
         self.lost = self.unreadable = 0
+        self.idle_connections = 0  # that ended without having sent a byte
 
     def add(self, entry: LogEntry, revision: str) -> None:
+        self.idle_connections += entry.idle_connections or 0
         labels = Labels(entry.service, revision or "none", class_of(entry.status))
         counted = self.counted.get(labels)
         if counted is None:

@@ -1,6 +1,6 @@
 """The access log of a switch: its lines, read into values, and a reader that follows its file.
 
-A line is an object of JSON for each connection that ended (docs/DASHBOARD.md has its members), or
+A line is an object of JSON for each request that ended (docs/DASHBOARD.md has its members), or
 `{"time": .., "lost": N}` where N lines could not be written before it.
 """
 import datetime
@@ -20,12 +20,12 @@ PIECE = 1 << 22  # bytes that are read at a time
 READ_ON_SECONDS = 10.0  # seconds for which a file is read on after another one has taken its place
 SERVER_ERROR = 500
 NO_ENDPOINT = "no_endpoint"  # the reason of a 503 whose service had no available endpoint
+CLIENT_GONE = "client_gone"  # the reason of a request whose client had gone before its answer: 499
 MOST_TIMES = (
     4096  # texts of times whose seconds are remembered: many lines end within one millisecond
 )
-GREATEST = (
-    1 << 64
-)  # no number of the switch is as large, and each up to it can be counted and written as a float
+# no number of the switch is as large, and each up to it can be counted and written as a float
+GREATEST = 1 << 64
 
 TEXT, COUNT, NUMBER, NOTHING = (str,), (int,), (int, float), type(None)
 # The members of a line, each with the types that it can have.
@@ -48,6 +48,7 @@ MEMBERS: Mapping[str, tuple[type, ...]] = {
 OPTIONAL: Mapping[str, tuple[type, ...]] = {
     "slot_port": (*COUNT, NOTHING),
     "tries": (*COUNT, NOTHING),
+    "idle_connections": (*COUNT, NOTHING),
 }
 TYPES = {**MEMBERS, **OPTIONAL}
 REQUIRED = operator.itemgetter(*MEMBERS)
@@ -58,9 +59,10 @@ class NoLogEntry(ValueError):
 
 
 class LogEntry(NamedTuple):
-    """A connection that ended. `time` counts seconds from 1970; `revision` and `request` are
-    numbers of the switch; `slot_port` is the port of the request's slot where the endpoint at
-    another one, `port`, was dialled; `tries` counts its connects.
+    """A request that ended. `time` counts seconds from 1970; `revision` and `request` are numbers
+    of the switch; `slot_port` is the port of the request's slot where the endpoint at another one,
+    `port`, was dialled; `tries` counts its connects; `idle_connections` counts connections that
+    ended before it without having sent a byte, which are no requests.
     """
 
     time: float
@@ -79,11 +81,18 @@ class LogEntry(NamedTuple):
     upstream_ms: float | None
     slot_port: int | None = None
     tries: int | None = None
+    idle_connections: int | None = None
 
     @property
     def is_error(self) -> bool:
-        """Whether the client got a status from 500 on, or no answer."""
+        """Whether the client got a status from 500 on, or no answer. A client that had gone before
+        its answer is no error."""
         return self.status is None or self.status >= SERVER_ERROR
+
+    @property
+    def has_client_gone(self) -> bool:
+        """Whether its client had gone before its answer."""
+        return self.reason == CLIENT_GONE
 
     @property
     def is_without_endpoint(self) -> bool:
@@ -154,9 +163,8 @@ def _numbers_of(types: tuple[type, ...]) -> Callable[[Sequence[object]], tuple[f
     if not all(each in known for each, known in zip(types, TYPES.values())):
         return None
     places = [place for place, each in enumerate(types) if each is not str and each is not NOTHING]
-    return operator.itemgetter(
-        places[0], *places
-    )  # the first one twice, since of a single place it would give no tuple
+    # the first one twice, since of a single place it would give no tuple
+    return operator.itemgetter(places[0], *places)
 
 
 def _values(told: Mapping[str, object]) -> tuple[object, ...]:

@@ -7,4 +7,5 @@ returns-clause-client g c =
       c.read_request-received.result,
       c.serve_received.ensures.client _ _
           (receives _ _ _ c.read_request-received.result read.request read.fault read.written),
+      c.serve_received.ensures.cause,
     )
