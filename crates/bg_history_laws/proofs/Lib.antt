@@ -6,3 +6,4 @@ mod Ended
 mod Listed
 mod Compacted
 mod Promised
+mod Journaled

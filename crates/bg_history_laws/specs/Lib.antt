@@ -4,6 +4,7 @@ pub mod Changes
 pub mod Compaction
 pub mod Draining
 pub mod FullPromotion
+pub mod Journaled
 pub mod Listed
 pub mod Live
 pub mod OpenRequests

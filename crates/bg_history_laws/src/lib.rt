@@ -3,6 +3,7 @@
 
 pub mod compaction;
 pub mod facts;
+pub mod journal;
 pub mod listing;
 pub mod promises;
 pub mod settling;
@@ -12,6 +13,7 @@ pub use compaction::{
     commutes, compacts, compacts_once, is_sound, keeps_table, no_longer, stays_settled,
 };
 pub use facts::reachable;
+pub use journal::journals;
 pub use listing::{appends, finds, keeps, names, removes, reports, resizes};
 pub use promises::{
     can_promote, can_roll_back, drained_is_scaled_down, keeps_requests, only_tested_is_live,

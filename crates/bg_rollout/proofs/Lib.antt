@@ -4,3 +4,5 @@ pub mod SeatRecords
 pub mod ControlEvents
 pub mod Settlements
 pub mod WholeStates
+pub mod Following
+pub mod JournalsFollowed

@@ -4,3 +4,4 @@ pub mod Carrying
 pub mod Openings
 pub mod Compacting
 pub mod Telling
+pub mod Journaling

@@ -11,5 +11,6 @@ pub mod Gathering
 pub mod Settling
 pub mod Recording
 pub mod Judging
+pub mod Following
 pub mod FaultNames
 pub mod Compaction

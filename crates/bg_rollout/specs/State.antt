@@ -1,5 +1,5 @@
 -- The state of a rollout that its past gives.
-use Rattle.std.specs.Prelude.{ℕ, zero, suc, ◌+◌, ◌==◌, List, [], ◌∷◌, map, length, find, slice_get, Option, Some, None}
+use Rattle.std.specs.Prelude.{ℕ, zero, suc, ◌+◌, ◌==◌, List, [], ◌∷◌, map, length, find, replicate, slice_get, Option, Some, None}
 use Rattle.bg_strategy.specs.declared.strategy.Strategy.{Strategy}
 use Rattle.bg_revisions.specs.declared.revision.Revision.{Revision}
 use Rattle.bg_revisions.specs.declared.revision.Selectors.{Selectors}
@@ -54,6 +54,17 @@ state_of s o closed past = record {
   selectors = selectors_of past;
   revisions = map (revision_state s o past) (existing past);
   seats = seats_from closed past 0 o.seats;
+}
+
+-- a revision without its open requests
+abbrev pub unrequested : RevisionState → RevisionState
+unrequested v = record v { requests = [] }
+
+-- the state with `n` seats, none of which has made a call, and without open requests
+abbrev pub without_requests : ℕ → State → State
+without_requests n t = record t {
+  revisions = map unrequested t.revisions;
+  seats = seats_from (replicate n 0) [] 0 n;
 }
 
 -- the readers of a state's revisions, by place or by number; a revision that doesn't exist has no deadline and no

@@ -1,5 +1,5 @@
 //! What holds of every rollout, for its callers.
-ghost use Rattle.std.specs.Prelude.{◌≡◌, ◌≢◌, ◌≤◌, ◌+◌, ◌∷◌, ◌==◌, ◌||◌, not, ℕ, true, List, length, map, None, Some, slice_get, sum_by};
+ghost use Rattle.std.specs.Prelude.{◌≡◌, ◌≢◌, ◌≤◌, ◌+◌, ◌∷◌, ◌==◌, ◌||◌, not, ℕ, true, List, length, map, None, Some, replicate, reverse, slice_get, sum_by};
 ghost use Rattle.std.specs.List.{list_all};
 ghost use Rattle.bg_strategy.specs.declared.strategy.Strategy.{Strategy};
 ghost use Rattle.bg_history.specs.declared.entry.Entry.{Entry};
@@ -9,19 +9,23 @@ ghost use Rattle.bg_history.specs.Kept.{Opening};
 ghost use Rattle.bg_history.specs.Deadlines.{deadline};
 ghost use Rattle.bg_history.specs.Requests.{calls_of, open_at, open_requests};
 ghost use Rattle.bg_history.specs.Sizes.{existing};
-ghost use Rattle.bg_history.specs.Steps.{Follows};
+ghost use Rattle.bg_history.specs.Steps.{Follows, IsLegal};
 ghost use Rattle.bg_history_laws.specs.Compaction.{Answers, Same};
+ghost use Rattle.bg_history_laws.specs.Journaled.{journaled};
 ghost use Rattle.bg_history_laws.specs.Listed.{revisions_of};
 ghost use Rattle.bg_history_laws.specs.Work.{work};
 ghost use Rattle.bg_ledger.specs.declared.holding.Holding.{Holding};
 ghost use Rattle.bg_rollout.specs.RequestLists.{requests_of};
 ghost use Rattle.bg_rollout.specs.Compaction.{with_compacted};
 ghost use Rattle.bg_rollout.specs.Gathering.{are_all, gather_fault};
+ghost use Rattle.bg_rollout.specs.declared.follow_fault.JournalFault.{JournalFault};
+ghost use Rattle.bg_rollout.specs.declared.limits.Limits.{Limits};
+ghost use Rattle.bg_rollout.specs.Following.{IsShortage, JournalFaultIs};
 ghost use Rattle.bg_rollout.specs.Invariant.{RoutingInvariant};
 ghost use Rattle.bg_rollout.specs.PastState.{lists_of, requests_at, share};
 ghost use Rattle.bg_rollout.specs.Refusals.{all_open};
 ghost use Rattle.bg_rollout.specs.Routing.{Routing};
-ghost use Rattle.bg_rollout.specs.State.{deadline_at, open_count_at, revision_at, state_of};
+ghost use Rattle.bg_rollout.specs.State.{deadline_at, open_count_at, revision_at, state_of, without_requests};
 ghost use Rattle.bg_history.specs.Tables.{table_of};
 
 use bg_history_laws as laws;
@@ -98,4 +102,27 @@ pub fn compaction_keeps()
 {
     laws::compacts();
     laws::keeps_table();
+}
+
+/// A legal past without the entries of its requests has the same state, but for the open requests, the seats and their
+/// number.
+pub fn journal_keeps_state()
+    ensures { (s : Strategy) (o : Opening) (closed : List ℕ) (past : List Entry) (seats : ℕ)
+        → IsLegal s o closed past
+        → state_of s (record o { seats = seats }) (replicate seats 0) (journaled past)
+        ≡ without_requests seats (state_of s o closed past) }
+{
+    laws::journals();
+}
+
+/// A legal past without the entries of its requests is followed as a journal, for any number of seats, unless room or
+/// memory is short.
+pub fn journals_are_followed()
+    ensures { (s : Strategy) (o : Opening) (closed : List ℕ) (past : List Entry) (seats : ℕ)
+        (limits : Limits) (fault : JournalFault)
+        → IsLegal s o closed past → 1 ≤ seats → seats ≤ 2048
+        → JournalFaultIs s (record o { seats = seats }) limits (reverse (journaled past)) fault
+        → IsShortage fault }
+{
+    laws::journals();
 }

@@ -8,6 +8,7 @@
 mod accepted_event;
 mod control_fault;
 mod fault;
+mod follow_fault;
 mod go_on;
 pub mod laws;
 mod limits;
@@ -20,6 +21,7 @@ pub use accepted_event::AcceptedEvent;
 pub use bg_history::Control;
 pub use control_fault::ControlFault;
 pub use fault::{EnterFault, GatherFault, OpenFault};
+pub use follow_fault::{FollowFault, JournalFault};
 pub use go_on::GoOn;
 pub use limits::{Limits, MOST_ENTRIES, PLACES_OF_A_REQUEST};
 pub use opening::RolloutOpening;

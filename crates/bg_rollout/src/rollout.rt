@@ -14,6 +14,7 @@ ghost use Rattle.bg_rollout.specs.PastState.{drain_end, is_draining as is_draini
 ghost use Rattle.bg_rollout.specs.Compaction.{part_compacted};
 
 mod events;
+mod following;
 mod lifecycle;
 mod requests;
 mod settling;

@@ -4,6 +4,8 @@ use Rattle.bg_history.specs.declared.entry.Entry.{Entry}
 use Rattle.bg_history.specs.declared.entry.Outcome as outcome
 use Rattle.bg_strategy.specs.declared.strategy.Strategy.{Strategy}
 use Rattle.bg_history.specs.Kept.{Opening}
+use Rattle.bg_history.specs.AttemptBounds.{moment}
+use Rattle.bg_history_laws.specs.Alike.{Alike}
 use Rattle.bg_history.specs.Requests.{request_numbers, given, calls_of}
 use Rattle.bg_history.specs.Steps.{all_allowed, all_given, IsLegal, is_settled, Step, with_outcomes}
 use Rattle.bg_history.specs.Compacted.{left_numbers, is_among, without, compacted, raised, closed_after}
@@ -64,21 +66,25 @@ compacted-legal s o closed past h =
           ∙ without-numbers g (λ n. nat_le 1 n && nat_le n (given closed past)) past h.numbers;
     }
 
-answers : (s : Strategy) (o : Opening) (a b : List Entry) → Same s o a b → Answers s o a b
-answers s o a b h = record {
-  attempted = attempted h.alike;
-  preview = preview-same h.alike;
-  steady = steady-same h.alike;
-  scaling = scaling-same h.alike;
-  pre = awaits_pre-same h.alike;
-  paused = paused-same h.alike;
-  sizing = sizing-same h.alike;
-  post = awaits_post-same h.alike;
-  due_at = λ r. deadline-same r h.alike;
-  due = λ r. due-same r h.alike h.now;
-  namesake_is = λ name. namesake-same name h.alike;
-  selected = λ v. selection-same v h.alike;
+-- pasts that are alike give the same answers at one moment
+pub answers-alike : (s : Strategy) (o : Opening) (a b : List Entry) → Alike s o a b → moment a ≡ moment b → Answers s o a b
+answers-alike s o a b h now = record {
+  attempted = attempted h;
+  preview = preview-same h;
+  steady = steady-same h;
+  scaling = scaling-same h;
+  pre = awaits_pre-same h;
+  paused = paused-same h;
+  sizing = sizing-same h;
+  post = awaits_post-same h;
+  due_at = λ r. deadline-same r h;
+  due = λ r. due-same r h now;
+  namesake_is = λ name. namesake-same name h;
+  selected = λ v. selection-same v h;
 }
+
+answers : (s : Strategy) (o : Opening) (a b : List Entry) → Same s o a b → Answers s o a b
+answers s o a b h = answers-alike s o a b h.alike h.now
 
 pub compacts : (s : Strategy) (o : Opening) (closed : List ℕ) (past : List Entry) → IsLegal s o closed past → Compacts s o closed past
 compacts s o closed past h = record {

@@ -88,3 +88,8 @@ pub table-same : (s : Strategy) (o : Opening) (past : List Entry) → table_of s
 table-same s o past =
     let g : ℕ → Bool = is_among (left_numbers past) in
     ap (λ t. record { delay = s.delay; abort_delay = s.abort_delay; limit = s.revision_limit; marks = t }) (sym (without-table s o g past ∙ thin-table s o (without g past)))
+
+-- the same without the entries of some requests
+pub table-without : (s : Strategy) (o : Opening) (gone : ℕ → Bool) (past : List Entry) → table_of s (without gone past) ≡ table_of s past
+table-without s o gone past =
+    ap (λ t. record { delay = s.delay; abort_delay = s.abort_delay; limit = s.revision_limit; marks = t }) (sym (without-table s o gone past))

@@ -1,21 +1,23 @@
 -- Lemmas about the first allowed outcome.
-use Rattle.std.proofs.Common.{◌≡◌, ℕ, Bool, true, false, not, cond, ◌==◌, ◌&&◌, ◌||◌, nat_lt, List, [], ◌∷◌, filter, find, length, Option, Some, None, refl, ap, sym, ◌∙◌, arith}
+use Rattle.std.proofs.Common.{◌≡◌, ℕ, Bool, true, false, not, cond, ◌==◌, ◌&&◌, ◌||◌, nat_lt, List, [], ◌∷◌, filter, find, length, Option, Some, None, refl, ap, sym, subst, ◌∙◌, arith}
 use Rattle.std.specs.Option.{option_or, option_map}
 use Rattle.std.specs.List.{list_any}
 use Rattle.std.proofs.lemmas.Bool.Decides.{nat_tests}
 use Rattle.std.proofs.lemmas.Option.{same_Some}
 use Rattle.bg_strategy.specs.declared.strategy.Strategy.{Strategy}
 use Rattle.bg_history.specs.declared.entry.Entry.{Entry}
-use Rattle.bg_history.specs.declared.entry.Entry.TheVariants.{Outcome}
+use Rattle.bg_history.specs.declared.entry.Entry.TheVariants.{Deploy, Verdict, Abort, Retry, Outcome}
+use Rattle.bg_history.specs.declared.entry.AnalysisResult.TheVariants.{Failed, Error}
 use Rattle.bg_history.specs.declared.entry.Outcome as outcome
 use Rattle.bg_history.specs.declared.entry.Outcome.TheVariants.{Ready, Resumed, Switched, Promoted, ScaledDown, Removed}
 use Rattle.bg_history.specs.Kept.{Opening}
-use Rattle.bg_history.specs.AttemptBounds.{newest_of}
+use Rattle.bg_history.specs.AttemptBounds.{newest_of, is_running}
+use Rattle.bg_history.specs.Attempts.{has_ready, has_resumed, has_switched}
 use Rattle.bg_history.specs.Sizes.{existing, is_scaled}
-use Rattle.bg_history.specs.Promotion.{may_be_ready, may_resume, may_switch, may_promote, first_promotion}
+use Rattle.bg_history.specs.Promotion.{attempts, may_be_ready, may_resume, may_switch, may_promote, first_promotion}
 use Rattle.bg_history.specs.Deadlines.{exists_in, is_due, may_scale_down, is_old, is_first, old_revisions, may_remove}
 use Rattle.bg_history.specs.Allowed.{is_allowed}
-use Rattle.bg_history.specs.Steps.{first_allowed}
+use Rattle.bg_history.specs.Steps.{first_allowed, all_allowed}
 use Rattle.bg_promotion.specs.Answers.{is_step}
 use Rattle.bg_promotion.specs.Represents.{is_neutral}
 use Rattle.bg_rollout.proofs.OpenRequests.Requests.{and_parts, eq_from}
@@ -49,7 +51,7 @@ mapped make (Some r) x P here h = here r refl (same_Some (make r) x h)
 allowed_as : (s : Strategy) (o : Opening) (past : List Entry) (v x : outcome.Outcome) → v ≡ x → is_allowed s o (Outcome v) past ≡ true → is_allowed s o (Outcome x) past ≡ true
 allowed_as s o past v x is h = rw (← is) h
 
-promotion_allowed : (s : Strategy) (o : Opening) (past : List Entry) (x : outcome.Outcome) → first_promotion s past ≡ Some x → is_allowed s o (Outcome x) past ≡ true
+pub promotion_allowed : (s : Strategy) (o : Opening) (past : List Entry) (x : outcome.Outcome) → first_promotion s past ≡ Some x → is_allowed s o (Outcome x) past ≡ true
 promotion_allowed s o past x h =
     let r : ℕ = newest_of past in
     let P : Type 0 = is_allowed s o (Outcome x) past ≡ true in
@@ -118,3 +120,88 @@ removed_was s o past r may =
     isnt : (b : Bool) → not b ≡ true → b ≡ false
     isnt true h = absurd (cc)
     isnt false h = refl
+
+-- the revision of a step is the newest
+newest_in : (r : ℕ) (past : List Entry) → attempts r past ≡ true → r ≡ newest_of past
+newest_in r past h = eq_from r (newest_of past) (and_parts (is_running past) (r == newest_of past) h).1
+
+resumes_ready : (s : Strategy) (r : ℕ) (past : List Entry) → may_resume s r past ≡ true → has_ready past ≡ true
+resumes_ready s r past may = (and_parts (attempts r past) (has_ready past) (and_parts (attempts r past && has_ready past) (not (has_resumed past)) (and_parts (attempts r past && has_ready past && not (has_resumed past)) _ may).0).0).1
+
+switches_resumed : (s : Strategy) (r : ℕ) (past : List Entry) → may_switch s r past ≡ true → has_resumed past ≡ true
+switches_resumed s r past may = (and_parts (attempts r past) (has_resumed past) (and_parts (attempts r past && has_resumed past) (not (has_switched past)) (and_parts (attempts r past && has_resumed past && not (has_switched past)) _ may).0).0).1
+
+-- an attempt that has resumed was ready before
+was_ready : (s : Strategy) (o : Opening) (past : List Entry) → all_allowed s o past ≡ true → has_resumed past ≡ true → has_ready past ≡ true
+was_ready s o [] a h = absurd (cc)
+was_ready s o (Deploy r name ports ∷ before) a h = absurd (cc)
+was_ready s o (Abort ∷ before) a h = absurd (cc)
+was_ready s o (Verdict analysis Failed ∷ before) a h = absurd (cc)
+was_ready s o (Verdict analysis Error ∷ before) a h = absurd (cc)
+was_ready s o (Retry ∷ before) a h = absurd (cc)
+was_ready s o (Outcome (Promoted r) ∷ before) a h = absurd (cc)
+was_ready s o (Outcome (Resumed r) ∷ before) a h = resumes_ready s r before (and_parts (may_resume s r before) (all_allowed s o before) a).0
+was_ready s o (Outcome (Ready r) ∷ before) a h =
+    either_true (is_running before) (has_ready before) (was_ready s o before (and_parts (may_be_ready s r before) (all_allowed s o before) a).1 h) where
+      either_true : (b c : Bool) → c ≡ true → (b || c) ≡ true
+      either_true true c h = refl
+      either_true false c h = h
+was_ready s o (e ∷ before) a h = was_ready s o before (and_parts (is_allowed s o e before) (all_allowed s o before) a).1 h
+
+-- an attempt that has switched had resumed before
+had_resumed : (s : Strategy) (o : Opening) (past : List Entry) → all_allowed s o past ≡ true → has_switched past ≡ true → has_resumed past ≡ true
+had_resumed s o [] a h = absurd (cc)
+had_resumed s o (Deploy r name ports ∷ before) a h = absurd (cc)
+had_resumed s o (Abort ∷ before) a h = absurd (cc)
+had_resumed s o (Verdict analysis Failed ∷ before) a h = absurd (cc)
+had_resumed s o (Verdict analysis Error ∷ before) a h = absurd (cc)
+had_resumed s o (Retry ∷ before) a h = absurd (cc)
+had_resumed s o (Outcome (Promoted r) ∷ before) a h = absurd (cc)
+had_resumed s o (Outcome (Switched r) ∷ before) a h = switches_resumed s r before (and_parts (may_switch s r before) (all_allowed s o before) a).0
+had_resumed s o (Outcome (Resumed r) ∷ before) a h =
+    either_true (is_running before) (has_resumed before) (had_resumed s o before (and_parts (may_resume s r before) (all_allowed s o before) a).1 h) where
+      either_true : (b c : Bool) → c ≡ true → (b || c) ≡ true
+      either_true true c h = refl
+      either_true false c h = h
+had_resumed s o (e ∷ before) a h = had_resumed s o before (and_parts (is_allowed s o e before) (all_allowed s o before) a).1 h
+
+-- a step that was made isn't next
+not_next : (made : Bool) (a b : Bool) → made ≡ true → (a && not made && b) ≡ false
+not_next true true b h = refl
+not_next true false b h = refl
+not_next false a b h = absurd (cc)
+
+-- a step of an attempt that is allowed is the next one
+pub allowed_is_next : (s : Strategy) (o : Opening) (past : List Entry) (x : outcome.Outcome) → all_allowed s o past ≡ true → is_allowed s o (Outcome x) past ≡ true → is_step x ≡ true
+    → first_promotion s past ≡ Some x
+allowed_is_next s o past (Ready r) a may step =
+    let of = newest_in r past (and_parts (attempts r past) _ (and_parts (attempts r past && not (has_ready past)) _ may).0).0 in
+    let now : may_be_ready s (newest_of past) past ≡ true = subst (λ (q : ℕ). may_be_ready s q past ≡ true) of may in
+    rw now (ap (λ (q : ℕ). Some (Ready q)) (sym of))
+allowed_is_next s o past (Resumed r) a may step =
+    let n = newest_of past in
+    let of = newest_in r past (and_parts (attempts r past) _ (and_parts (attempts r past && has_ready past) _ (and_parts (attempts r past && has_ready past && not (has_resumed past)) _ may).0).0).0 in
+    let now : may_resume s n past ≡ true = subst (λ (q : ℕ). may_resume s q past ≡ true) of may in
+    let unready : may_be_ready s n past ≡ false = not_next (has_ready past) (attempts n past) _ (resumes_ready s r past may) in
+    rw (unready, now) (ap (λ (q : ℕ). Some (Resumed q)) (sym of))
+allowed_is_next s o past (Switched r) a may step =
+    let n = newest_of past in
+    let of = newest_in r past (and_parts (attempts r past) _ (and_parts (attempts r past && has_resumed past) _ (and_parts (attempts r past && has_resumed past && not (has_switched past)) _ may).0).0).0 in
+    let now : may_switch s n past ≡ true = subst (λ (q : ℕ). may_switch s q past ≡ true) of may in
+    let resumed = switches_resumed s r past may in
+    let unready : may_be_ready s n past ≡ false = not_next (has_ready past) (attempts n past) _ (was_ready s o past a resumed) in
+    let unresumed : may_resume s n past ≡ false = not_next (has_resumed past) (attempts n past && has_ready past) _ resumed in
+    rw (unready, unresumed, now) (ap (λ (q : ℕ). Some (Switched q)) (sym of))
+allowed_is_next s o past (Promoted r) a may step =
+    let n = newest_of past in
+    let both = and_parts (attempts r past && has_switched past) _ may in
+    let of = newest_in r past (and_parts (attempts r past) _ both.0).0 in
+    let now : may_promote s n past ≡ true = subst (λ (q : ℕ). may_promote s q past ≡ true) of may in
+    let switched = (and_parts (attempts r past) _ both.0).1 in
+    let resumed = had_resumed s o past a switched in
+    let unready : may_be_ready s n past ≡ false = not_next (has_ready past) (attempts n past) _ (was_ready s o past a resumed) in
+    let unresumed : may_resume s n past ≡ false = not_next (has_resumed past) (attempts n past && has_ready past) _ resumed in
+    let unswitched : may_switch s n past ≡ false = not_next (has_switched past) (attempts n past && has_resumed past) _ switched in
+    rw (unready, unresumed, unswitched, now) (ap (λ (q : ℕ). Some (Promoted q)) (sym of))
+allowed_is_next s o past (ScaledDown r) a may step = absurd (cc)
+allowed_is_next s o past (Removed r) a may step = absurd (cc)

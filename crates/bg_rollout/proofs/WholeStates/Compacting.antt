@@ -21,7 +21,7 @@ use Rattle.bg_history.specs.Compacted.{compacted, closed_after}
 use Rattle.bg_history_laws.specs.Compaction.{Answers, Compacts, Same}
 use Rattle.bg_rollout.specs.Compaction.{with_compacted}
 
-map-same : {X : Type 0} (f g : ℕ → X) → ((r : ℕ) → f r ≡ g r) → (xs : List ℕ) → map f xs ≡ map g xs
+pub map-same : {X : Type 0} (f g : ℕ → X) → ((r : ℕ) → f r ≡ g r) → (xs : List ℕ) → map f xs ≡ map g xs
 map-same f g h [] = refl
 map-same f g h (x ∷ xs) = rw (h x, map-same f g h xs) refl
 
@@ -49,7 +49,7 @@ phase-same s o a b h x = rw (x.post, x.sizing, x.paused, x.pre, x.scaling, x.ste
 selectors-same : (s : Strategy) (o : Opening) (a b : List Entry) → Same s o a b → Answers s o a b → selectors_of a ≡ selectors_of b
 selectors-same s o a b h x = rw (h.alike.active, x.preview, h.alike.stable, h.alike.newest) refl
 
-seats-same : (closed new : List ℕ) (a b : List Entry) → ((i : ℕ) → seat_of closed i a ≡ seat_of new i b) → (i n : ℕ) → seats_from closed a i n ≡ seats_from new b i n
+pub seats-same : (closed new : List ℕ) (a b : List Entry) → ((i : ℕ) → seat_of closed i a ≡ seat_of new i b) → (i n : ℕ) → seats_from closed a i n ≡ seats_from new b i n
 seats-same closed new a b same i zero = refl
 seats-same closed new a b same i (suc n) =
     ap (λ (v : Holding). v ∷ seats_from closed a (i + 1) n) (same i)

@@ -99,7 +99,7 @@ impl<N: Names> Rollout<N> {
     }
 
     /// Finds the fault of a moment.
-    fn check_tick(&self, moment: u64) -> Result<(), ControlFault>
+    pub(super) fn check_tick(&self, moment: u64) -> Result<(), ControlFault>
         ensures { result ≡ refuse (event_fault self.now.routing (control.Tick moment)) }
     {
         if moment > LAST_MOMENT {
@@ -112,7 +112,11 @@ impl<N: Names> Rollout<N> {
     }
 
     /// Finds the fault of a template, or the revision that has its name.
-    fn check_deploy(&self, name: &str, ports: &[u16]) -> Result<Option<u64>, ControlFault>
+    pub(super) fn check_deploy(
+        &self,
+        name: &str,
+        ports: &[u16],
+    ) -> Result<Option<u64>, ControlFault>
         ensures judged { MatchResult result
             (λ _. deploy_fault self.now.routing name.now ports.now ≡ None)
             (λ e. deploy_fault self.now.routing name.now ports.now ≡ Some e) }
@@ -149,7 +153,7 @@ impl<N: Names> Rollout<N> {
     }
 
     /// Finds the fault of a report of availability.
-    fn check_report(&self, revision: u64, size: u32) -> Result<(), ControlFault>
+    pub(super) fn check_report(&self, revision: u64, size: u32) -> Result<(), ControlFault>
         ensures { result ≡ refuse (event_fault self.now.routing (control.Available revision size)) }
     {
         laws::finds();

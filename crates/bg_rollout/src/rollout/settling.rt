@@ -1,5 +1,6 @@
 //! Finding and recording the outcomes that the past allows.
-ghost use Rattle.std.specs.Prelude.{◌≡◌, ◌≤◌, ◌+◌, false, List, length, Some, IsTrue, find, filter, option_copied};
+ghost use Rattle.std.specs.Prelude.{◌≡◌, ◌≤◌, ◌+◌, false, true, List, length, IsTrue, find, filter, option_copied};
+ghost use Rattle.bg_history.specs.Allowed.{is_allowed};
 ghost use Rattle.bg_history.specs.Deadlines.{may_remove, may_scale_down, is_empty};
 ghost use Rattle.bg_history.specs.Requests.{open_at};
 ghost use Rattle.bg_history.specs.Selections.{selectors_of};
@@ -86,7 +87,7 @@ impl<N: Names> Rollout<N> {
     }
 
     /// Whether a revision may be scaled down now: it is due, and no request is open at it.
-    fn may_scale_down(&self, revision: u64) -> bool
+    pub(super) fn may_scale_down(&self, revision: u64) -> bool
         ensures { result ≡ may_scale_down self.now.routing.strategy revision self.now.routing.past }
     {
         laws::reachable();
@@ -104,7 +105,7 @@ impl<N: Names> Rollout<N> {
     }
 
     /// The least old revision, if more are old than the strategy keeps.
-    fn next_removed(&self, selectors: Selectors) -> Option<u64>
+    pub(super) fn next_removed(&self, selectors: Selectors) -> Option<u64>
         requires { selectors ≡ selectors_of self.now.routing.past }
         ensures { let past = self.now.routing.past in
             result ≡ find (λ r. may_remove self.now.routing.strategy r past) (existing past) }
@@ -120,10 +121,10 @@ impl<N: Names> Rollout<N> {
         }
     }
 
-    /// Records the first allowed outcome.
-    fn record_outcome(&mut self, outcome: Outcome)
-        requires first { let b = self.old.routing in
-            first_allowed b.strategy b.past ≡ Some outcome }
+    /// Records an allowed outcome.
+    pub(super) fn record_outcome(&mut self, outcome: Outcome)
+        requires allowed { let b = self.old.routing in
+            is_allowed b.strategy b.opening (entry.Outcome outcome) b.past ≡ true }
         requires spare { 1 ≤ self.old.spare }
         ensures { Recorded (entry.Outcome outcome) self.old self.new }
     {

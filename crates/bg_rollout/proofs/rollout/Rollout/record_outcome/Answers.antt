@@ -10,7 +10,6 @@ use Rattle.bg_history.specs.declared.entry.Outcome.TheVariants.{Ready, Resumed, 
 use Rattle.bg_history.specs.Kept.{Opening, Kept}
 use Rattle.bg_history.specs.Sizes.{last_number, desired, is_scaled}
 use Rattle.bg_history.specs.AttemptBounds.{moment}
-use Rattle.bg_history.specs.Steps.{first_allowed}
 use Rattle.bg_promotion.specs.Core.{Core}
 use Rattle.bg_promotion.specs.Represents.{CoreRepresents, is_neutral}
 use Rattle.bg_history.specs.Promotion.{first_promotion}
@@ -21,22 +20,18 @@ use Rattle.bg_history_laws.specs.Reachable.{Reachable}
 use Rattle.bg_rollout.specs.RequestLists.{OpenAt, is_empty_at}
 use Rattle.bg_rollout.specs.PastState.{lists_of}
 use Rattle.bg_rollout.specs.declared.rollout.Rollout.TheInside.{Inside}
-use Rattle.bg_rollout.specs.Invariant.{RolloutModel, PartsRepresent, model_of, parts_of}
+use Rattle.bg_rollout.specs.Invariant.{PartsRepresent, model_of, parts_of}
 use Rattle.bg_rollout.proofs.ControlEvents.Events.{found_there, wants}
 use Rattle.std.proofs.lemmas.Bool.Decides.{nat_tests}
 use Rattle.bg_history.specs.Allowed.{is_allowed}
 use Rattle.bg_history.specs.Deadlines.{exists_in}
 use Rattle.bg_rollout.proofs.OpenRequests.Lists.{empty_list, lists-Removed}
 use Rattle.bg_rollout.proofs.Settlements.Marking.{room_for_next, scaled_inside}
-use Rattle.bg_rollout.proofs.Settlements.Outcomes.{first_is_allowed, step_is_first, no_step_is_neutral, resumed_is_newest, scaled_down_exists, removed_was}
-use Rattle.bg_rollout.proofs.WholeStates.Carrying.{Carries, represents_recorded, recorded_by, recorded_left}
+use Rattle.bg_rollout.proofs.Settlements.Outcomes.{allowed_is_next, no_step_is_neutral, resumed_is_newest, scaled_down_exists, removed_was}
+use Rattle.bg_rollout.proofs.WholeStates.Carrying.{Carries, represents_recorded, recorded_by, recorded_left, allowed_inside}
 use Rattle.bg_rollout.proofs.rollout.Rollout.record_outcome.Given.{Over}
 use Rattle.bg_rollout.proofs.rollout.Rollout.record_outcome.Goals as goal
 use Rattle.bg_rollout.proofs.rollout.Rollout.record_outcome.Goals.{After-push_reserved, in-Resumed, in-ScaledDown, in-Removed, in-Ready, in-Switched, in-Promoted}
-
--- the outcome is the first allowed one, in the fields of the rollout
-first_inside : (inside now : RolloutModel) (x : Outcome) → inside ≡ now → first_allowed now.routing.strategy now.routing.past ≡ Some x → first_allowed inside.routing.strategy inside.routing.past ≡ Some x
-first_inside inside now x is first = subst (λ (m : RolloutModel). first_allowed m.routing.strategy m.routing.past ≡ Some x) (sym is) first
 
 pub record-requires-clause-room : goal.record-requires-clause-room
 record-requires-clause-room g c =
@@ -54,7 +49,7 @@ set_desired-requires g c =
     let represents : PartsRepresent b (parts_of c.self.inside) = c.self.invariant in
     let reach : Reachable b.strategy b.opening b.past = c.reachable.ensures b.strategy b.opening b.past represents.routing.legal.allowed in
     let r = c.in-Resumed.revision in
-    let may = first_is_allowed b.strategy b.opening b.past c.args.outcome (first_inside _ _ c.args.outcome c.self.view_is c.requires.first) in
+    let may = allowed_inside _ _ (entry.Outcome c.args.outcome) c.self.view_is c.requires.allowed in
     let newest = resumed_is_newest b.strategy b.opening b.past r (subst (λ (x : Outcome). is_allowed b.strategy b.opening (entry.Outcome x) b.past ≡ true) c.in-Resumed.is may) in
     some_is _ _ (found_there b.strategy b.opening b.past r _ represents.revisions (c.finds.ensures.number b.strategy b.opening b.past r) (ap (λ (q : ℕ). exists_in q b.past) newest ∙ reach.newest))
 
@@ -63,7 +58,7 @@ set_desired-requires-in-ScaledDown g c =
     let b = (model_of c.self.inside).routing in
     let represents : PartsRepresent b (parts_of c.self.inside) = c.self.invariant in
     let r = c.in-ScaledDown.revision in
-    let may = first_is_allowed b.strategy b.opening b.past c.args.outcome (first_inside _ _ c.args.outcome c.self.view_is c.requires.first) in
+    let may = allowed_inside _ _ (entry.Outcome c.args.outcome) c.self.view_is c.requires.allowed in
     let there = scaled_down_exists b.strategy b.opening b.past r (subst (λ (x : Outcome). is_allowed b.strategy b.opening (entry.Outcome x) b.past ≡ true) c.in-ScaledDown.is may) in
     some_is _ _ (found_there b.strategy b.opening b.past r _ represents.revisions (c.finds.ensures.number b.strategy b.opening b.past r) there)
 
@@ -77,7 +72,7 @@ remove-requires g c =
     let b = (model_of c.self.inside).routing in
     let represents : PartsRepresent b (parts_of c.self.inside) = c.self.invariant in
     let r = c.in-Removed.revision in
-    let may = first_is_allowed b.strategy b.opening b.past c.args.outcome (first_inside _ _ c.args.outcome c.self.view_is c.requires.first) in
+    let may = allowed_inside _ _ (entry.Outcome c.args.outcome) c.self.view_is c.requires.allowed in
     let was = removed_was b.strategy b.opening b.past r (subst (λ (x : Outcome). is_allowed b.strategy b.opening (entry.Outcome x) b.past ≡ true) c.in-Removed.is may) in
     no_size _ b.strategy b.opening b.past r (found_there b.strategy b.opening b.past r _ represents.revisions (c.finds.ensures.number b.strategy b.opening b.past r) was.0) was.1
 
@@ -87,7 +82,7 @@ drop_list-requires g c =
     let represents : PartsRepresent b (parts_of c.self.inside) = c.self.invariant in
     let reach : Reachable b.strategy b.opening b.past = c.reachable.ensures b.strategy b.opening b.past represents.routing.legal.allowed in
     let r = c.in-Removed.revision in
-    let may = first_is_allowed b.strategy b.opening b.past c.args.outcome (first_inside _ _ c.args.outcome c.self.view_is c.requires.first) in
+    let may = allowed_inside _ _ (entry.Outcome c.args.outcome) c.self.view_is c.requires.allowed in
     let was = removed_was b.strategy b.opening b.past r (subst (λ (x : Outcome). is_allowed b.strategy b.opening (entry.Outcome x) b.past ≡ true) c.in-Removed.is may) in
     ap (is_empty_at r) represents.routing.lists ∙ empty_list b.past r (reach.unscaled_empty r was.1)
 
@@ -174,14 +169,14 @@ followed g c =
     ]
 
 -- the core after the outcome
-core_after : (s : Strategy) (past : List Entry) (old new : Core) (x : Outcome) (at : ℕ) → CoreRepresents s old past → at ≡ moment past → first_allowed s past ≡ Some x
+core_after : (s : Strategy) (past : List Entry) (old new : Core) (x : Outcome) (at : ℕ) → CoreRepresents s old past → at ≡ moment past → (is_step x ≡ true → first_promotion s past ≡ Some x)
     → ((t : Strategy) (before : List Entry) → CoreRepresents t old before → at ≡ moment before → first_promotion t before ≡ Some x → CoreRepresents t new (entry.Outcome x ∷ before))
     → (is_step x ≡ false → new ≡ old)
     → ((t : Strategy) (before : List Entry) (e : Entry) → is_neutral e ≡ true → CoreRepresents t old before → CoreRepresents t old (e ∷ before))
     → CoreRepresents s new (entry.Outcome x ∷ past)
 core_after s past old new x at represents now first next other neutral = go (is_step x) refl where
   go : (b : Bool) → is_step x ≡ b → CoreRepresents s new (entry.Outcome x ∷ past)
-  go true step = next s past represents now (step_is_first s past x first step)
+  go true step = next s past represents now (first step)
   go false none = subst (λ (k : Core). CoreRepresents s k (entry.Outcome x ∷ past)) (sym (other none)) (neutral s past (entry.Outcome x) (no_step_is_neutral x none) represents)
 
 last_same : (x : Outcome) (past : List Entry) → last_number (entry.Outcome x ∷ past) ≡ last_number past
@@ -195,7 +190,8 @@ carried g c =
     let b = (model_of inside).routing in
     let x = c.args.outcome in
     let represents : PartsRepresent b (parts_of inside) = c.self.invariant in
-    let first : first_allowed b.strategy b.past ≡ Some x = first_inside _ _ x c.self.view_is c.requires.first in
+    let may : is_allowed b.strategy b.opening (entry.Outcome x) b.past ≡ true = allowed_inside _ _ (entry.Outcome x) c.self.view_is c.requires.allowed in
+    let first : is_step x ≡ true → first_promotion b.strategy b.past ≡ Some x = allowed_is_next b.strategy b.opening b.past x represents.routing.legal.allowed may in
     let left = followed g c in
     let core : c.match-outcome.self-inside.core ≡ inside.core = ap (λ (i : Inside _). i.core) left.rest in
     let at : c.match-outcome.self-inside.moment ≡ inside.moment = ap (λ (i : Inside _). i.moment) left.rest in
@@ -206,7 +202,7 @@ carried g c =
     let other : is_step x ≡ false → c.apply.new.self ≡ c.match-outcome.self-inside.core =
     subst (λ (y : Outcome). is_step y ≡ false → c.apply.new.self ≡ c.match-outcome.self-inside.core) left.same c.apply.ensures.other in
     record {
-      allowed = first_is_allowed b.strategy b.opening b.past x first;
+      allowed = may;
       plain = record { requests = refl; numbers = refl; entered = refl; calls = λ i. refl };
       core = core_after b.strategy b.past c.match-outcome.self-inside.core c.apply.new.self x c.match-outcome.self-inside.moment
           (subst (λ (k : Core). CoreRepresents b.strategy k b.past) (sym core) represents.core) (at ∙ represents.moment) first next other

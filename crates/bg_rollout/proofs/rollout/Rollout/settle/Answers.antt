@@ -1,10 +1,16 @@
 use Rattle.std.proofs.Common.{sym, arith}
 use Rattle.bg_history_laws.specs.Reachable.{Reachable}
+use Rattle.bg_rollout.proofs.Settlements.Outcomes.{first_is_allowed}
 use Rattle.bg_rollout.proofs.Settlements.Reaching.{reached_none, reached_more, place_left, work_left, follow_few}
 use Rattle.bg_rollout.proofs.rollout.Rollout.settle.Goals as goal
 
 pub loop-outcome-init : goal.loop-outcome-init
 loop-outcome-init g c = (reached_none c.args.self.now.routing c.holds_invariant.ensures.lists c.holds_invariant.ensures.running, omega arith)
+
+pub record_outcome-requires-clause-allowed : goal.record_outcome-requires-clause-allowed
+record_outcome-requires-clause-allowed g c =
+    let b = c.loop-outcome.self.routing in
+    first_is_allowed b.strategy b.opening b.past c.in-Some.outcome (sym c.in-Some.ensures)
 
 pub record_outcome-requires-clause-spare : goal.record_outcome-requires-clause-spare
 record_outcome-requires-clause-spare g c =
