@@ -1,12 +1,11 @@
 #!/usr/bin/python3 -B
 """Makes the completions of bgctl and the manual pages of all commands of the package from their
-parsers, as they are placed below /usr/share: scripts/bgctl_share.py FOLDER. It needs python3-shtab,
+parsers, as they are placed below /usr/share: scripts/bgctl_share.py FOLDER. It needs
 python3-argcomplete and help2man of Debian. The page of the switch itself is packaging/bg_switch.1.
 
-zsh gets static completions by shtab. bash and fish get those of argcomplete, which ask bgctl
-itself: shtab has none for fish, and those for bash by its version 1.5.5 know the first command
-alone. They need python3-argcomplete also where they are used. They also complete the names of
-revisions, which bgctl reads from the switch and the plan.
+The completions ask bgctl itself by the protocol of argcomplete, and need python3-argcomplete also
+where they are used. So they know the names of revisions, which bgctl reads from the switch and the
+plan. argcomplete has the code for bash and fish; that for zsh is packaging/_bgctl.
 """
 import importlib
 import os
@@ -18,11 +17,11 @@ import tempfile
 from typing import Any
 
 TOP = pathlib.Path(__file__).resolve().parents[1]
+ZSH = TOP / "packaging" / "_bgctl"
 sys.path.insert(0, str(TOP / "lib"))
 
 from bg_switch_tools import VERSION  # noqa: E402  (the path stands above)
-from bg_switch_tools.bgctl.argument_parser import DESCRIPTION, parser  # noqa: E402
-from bg_switch_tools.bgctl.commands import BGCTL_COMMANDS  # noqa: E402
+from bg_switch_tools.bgctl.commands import BGCTL_COMMANDS, DESCRIPTION  # noqa: E402
 
 # The other tools, as the package names them: what each does.
 TOOLS = {
@@ -33,7 +32,6 @@ TOOLS = {
     "fleet": "rolls one plan out over the machines of a fleet",
 }
 DOCUMENTS = "/usr/share/doc/bg-switch"
-PACKAGES = {"shtab": "python3-shtab", "argcomplete": "python3-argcomplete"}
 COLUMNS = "500"  # so that no line of a help is wrapped: man(1) fills the lines
 
 
@@ -41,21 +39,18 @@ class Missing(Exception):
     """A tool is not installed. The text says how to install it."""
 
 
-def library(name: str) -> Any:
-    """A library of Debian. `Missing` where it is not installed."""
-    try:
-        return importlib.import_module(name)
-    except ImportError:
-        raise Missing(f"{sys.executable} has no {name}: apt-get install {PACKAGES[name]}") from None
-
-
 def completions() -> dict[str, str]:
-    """The completions, by their paths."""
-    shtab, argcomplete = library("shtab"), library("argcomplete")
+    """The completions, by their paths. `Missing` where argcomplete is not installed."""
+    try:
+        argcomplete: Any = importlib.import_module("argcomplete")
+    except ImportError:
+        raise Missing(
+            f"{sys.executable} has no argcomplete: apt-get install python3-argcomplete"
+        ) from None
     return {
         "bash-completion/completions/bgctl": argcomplete.shellcode(["bgctl"], shell="bash"),
         "fish/vendor_completions.d/bgctl.fish": argcomplete.shellcode(["bgctl"], shell="fish"),
-        "zsh/vendor-completions/_bgctl": shtab.complete(parser(shtab.FILE), shell="zsh"),
+        "zsh/vendor-completions/_bgctl": ZSH.read_text(encoding="utf-8"),
     }
 
 

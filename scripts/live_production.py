@@ -356,7 +356,8 @@ def stop_by_unit(setup: NginxSetup) -> None:
         .replace("${MAINPID}", str(setup.switch.process.pid)),
         "ExecStop",
     )
-    pending, asking = start_as_another_user(wait), start_as_another_user(shutdown)
+    check("a failure of the second command is ignored", wait[0], "-")
+    pending, asking = start_as_another_user(wait[1:]), start_as_another_user(shutdown)
     check(
         "the first command of the stop",
         (*asking.communicate(timeout=SOON), asking.returncode),

@@ -23,10 +23,10 @@ BELOW: Mapping[str, tuple[str, ...]] = {
     "switch": (),
     "analysis": ("switch",),
     "controller": ("switch", "analysis"),
-    "operator": ("switch", "controller"),
-    "fleet": ("switch", "controller", "analysis", "operator"),
+    "fleet": ("switch", "controller", "analysis"),
     "dashboard": ("switch", "controller", "fleet"),
-    "bgctl": ("switch", "controller", "analysis", "operator", "dashboard"),
+    "bgctl": ("switch", "controller", "analysis", "dashboard"),
+    "operator": ("switch", "bgctl"),
 }
 
 

@@ -107,7 +107,8 @@ class Unit:
     def stop(self, process: "subprocess.Popen[bytes]") -> list[int]:
         """Runs its commands of a stop, in turn. Gives their statuses."""
         commands = [
-            command.replace("${MAINPID}", str(process.pid)) for command in self.values("ExecStop")
+            command.removeprefix("-").replace("${MAINPID}", str(process.pid))
+            for command in self.values("ExecStop")
         ]
         reaper = threading.Thread(target=process.wait)
         reaper.start()

@@ -10,7 +10,7 @@ from collections.abc import Callable, Collection, Mapping, Sequence
 from unittest import mock
 
 from bg_switch_tools.controller.plan import PlannedRevision
-from bg_switch_tools.fleet import cli
+from bg_switch_tools.fleet import cli, commands
 from bg_switch_tools.fleet.record import (
     ATTEMPT,
     DEPLOYING,
@@ -179,7 +179,7 @@ class WithFleet(unittest.TestCase):
             with mock.patch("sys.stdin.isatty", return_value=at_terminal):
                 return cli.main(given, lambda file: self.store)
 
-        with mock.patch.object(cli, "login_name", return_value="alice"):
+        with mock.patch.object(commands, "login_name", return_value="alice"):
             return run_in_process(main, self.file, *words, lines=lines)
 
     def check_refused(self, reason: str, *words: str) -> None:

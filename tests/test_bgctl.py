@@ -8,15 +8,17 @@ import sys
 import tempfile
 import unittest
 import zipapp
+from typing import Any
 from unittest import mock
 
 from bg_switch_tools import VERSION
 from bg_switch_tools.bgctl import exit_statuses
 from bg_switch_tools.bgctl.argument_parser import in_order, long_options, parser, place_of_command
 from bg_switch_tools.bgctl.cli import main
-from bg_switch_tools.bgctl.commands import BGCTL_COMMANDS, FIRST_ONES, NAMES
+from bg_switch_tools.bgctl.commands import BGCTL_COMMANDS, FIRST_ONES
 from bg_switch_tools.dashboard import cli as dashboard_cli
 from bg_switch_tools.operator import cli as operator_cli
+from bg_switch_tools.switch.client import Reply, Switch
 from support.processes import Run
 from tests.fake_port import free_port
 from tests.fake_switch import FakeSwitch
@@ -33,7 +35,7 @@ class Words(unittest.TestCase):
         told = run()
         self.assertEqual((told.told, told.status, len(FIRST_ONES)), ("", 0, 5))
         for text in (
-            *(f"\n  {name} " for name in FIRST_ONES),
+            *(f"\n  {command.name} " for command in FIRST_ONES),
             "bgctl deploy web-v2 9201 9202",
             "docs/OPERATING.md",
         ):
@@ -149,12 +151,9 @@ class Words(unittest.TestCase):
         for option in long_options(dashboard_cli.parser()):
             self.assertIn(option, told)
 
-    def test_each_command_is_carried_out_by_a_method(self) -> None:
-        from bg_switch_tools.bgctl.cli import CommandRun
-
-        self.assertEqual(
-            [name for name in NAMES if not callable(getattr(CommandRun, name, None))], []
-        )
+    def test_each_command_has_a_function_of_its_own(self) -> None:
+        functions = [command.run for command in BGCTL_COMMANDS]
+        self.assertEqual(len(set(functions)), len(functions))
 
 
 class Operated(WithBook):
@@ -299,6 +298,7 @@ class Lines(Operated):
             ("bgctl: there is no line to send: bgctl line WORD.., or lines on standard input\n", 2),
         )
         self.assertEqual(self.bgctl("line", "tick", "999999")[::2], ("", 1))
+        self.assertEqual(self.bgctl("line", "tick 8\njump")[::2], ("ok 0\nfault UnknownWord\n", 1))
         self.assertEqual(self.bgctl("line", "--yes", "tick", "999999").status, 0)
 
     def test_a_shutdown_asks_at_a_terminal_alone(self) -> None:
@@ -308,18 +308,18 @@ class Lines(Operated):
         )
 
     def test_interrupted(self) -> None:
-        with mock.patch("bg_switch_tools.operator.cli.ask", side_effect=KeyboardInterrupt):
+        with mock.patch("bg_switch_tools.switch.client.ask", side_effect=KeyboardInterrupt):
             self.assertEqual(self.bgctl("status").status, 130)
 
 
 class OtherTools(Operated):
     """The commands that are tools of their own."""
 
-    def handed_on(self, function: str, *words: str, **variables: str) -> list[object]:
-        """What a tool is given."""
+    def handed_on(self, function: str, *words: str, **variables: str) -> Any:
+        """What the function of a tool is given first."""
         with mock.patch(f"bg_switch_tools.{function}", return_value=0) as tool:
             self.assertEqual(run(*words, **variables).status, 0)
-        return list(tool.call_args.args)
+        return tool.call_args.args[0]
 
     def test_check_and_controller(self) -> None:
         with tempfile.TemporaryDirectory() as folder:
@@ -345,42 +345,44 @@ class OtherTools(Operated):
                     ("", f"bgctl: the plan {path}x can't be read: No such file or directory\n", 2),
                 )
             for words in (("controller", path, "--json"), ("controller", "--json", "--plan", path)):
-                self.assertEqual(self.handed_on("controller.cli.run", *words), [path, True])
+                with mock.patch("bg_switch_tools.controller.cli.run", return_value=0) as tool:
+                    self.assertEqual(run(*words).status, 0)
+                self.assertEqual(tool.call_args.args, (path, True, b'{"control": 0}'))
 
     def test_analysis(self) -> None:
-        words = ["--log", "f", "--seconds", "1", "--revision", "web-v1"]
-        self.assertEqual(self.handed_on("analysis.cli.main", "analysis", *words), [words])
-        self.assertEqual(
-            self.handed_on(
-                "analysis.cli.main", "analysis", *words, "--control", "5", BG_CONTROL="6"
-            ),
-            [[*words, "--control", "5"]],
+        words = [
+            "analysis",
+            "--log",
+            "f",
+            "--seconds",
+            "1",
+            "--revision",
+            "1",
+            "--p99-at-most",
+            "1s",
+        ]
+        cases: tuple[tuple[list[str], list[str], dict[str, str], int | None], ...] = (
+            ([], [], {}, None),
+            ([], ["--control", "5"], {"BG_CONTROL": "6"}, 5),
+            ([], [], {"BG_CONTROL": "6"}, 6),
+            (["--control", "7"], [], {"BG_CONTROL": "6"}, 7),
         )
-        self.assertEqual(
-            self.handed_on("analysis.cli.main", "analysis", *words, BG_CONTROL="6"),
-            [[*words, "--control", "6"]],
-        )
-        self.assertEqual(
-            self.handed_on("analysis.cli.main", "--control", "7", "analysis", *words),
-            [[*words, "--control", "7"]],
-        )
+        for before, after, variables, control in cases:
+            given = self.handed_on("analysis.cli.judge", *before, *words, *after, **variables)
+            self.assertEqual((given.log, given.seconds, given.control), ("f", 1.0, control))
 
     def test_dashboard(self) -> None:
+        words = ["dashboard", "--listen", "8090", "--read-only"]
+        given = self.handed_on("dashboard.cli.show", *words, BG_CONTROL="6")
         self.assertEqual(
-            self.handed_on(
-                "dashboard.cli.main", "dashboard", "--listen", "8090", "--read-only", BG_CONTROL="6"
-            ),
-            [["6", "--listen", "8090", "--log", "", "--read-only"]],
+            (given.control, given.listen, given.log, given.plan, given.read_only),
+            (6, 8090, "", "", True),
         )
         with tempfile.TemporaryDirectory() as folder:
             plan = plan_of(folder, 7)
             plan.write([("web-v1", [1])])
-            self.assertEqual(
-                self.handed_on(
-                    "dashboard.cli.main", "dashboard", "--listen", "8090", BG_PLAN=plan.path
-                ),
-                [["7", "--listen", "8090", "--log", "", "--plan", plan.path]],
-            )
+            given = self.handed_on("dashboard.cli.show", *words, "--fleet", "f", BG_PLAN=plan.path)
+            self.assertEqual((given.control, given.plan, given.fleet), (7, plan.path, "f"))
 
     def test_prompt(self) -> None:
         with mock.patch("builtins.input", side_effect=["tick 5", "exit"]):
@@ -446,13 +448,11 @@ class WithoutAPlan(Operated):
         self.assertEqual((waited.status, "steady: active web-v2" in waited.printed), (0, True))
         self.by_hand("deploy web-v3 5 6")
 
-        def aborted_by_another(_: str) -> int:
+        def aborted_by_another(*_: object, **__: object) -> Reply:
             self.by_hand("abort")
-            return 0
+            return Reply("deploy web-v3 5 6", ["ok 0"], True, None)
 
-        with mock.patch(
-            "bg_switch_tools.bgctl.session.Session.line", side_effect=aborted_by_another
-        ):
+        with mock.patch.object(Switch, "deploy", side_effect=aborted_by_another):
             aborted = self.bgctl("deploy", "web-v3", "5", "6", "--wait", "--timeout", "5")
         self.assertEqual(
             (aborted.status, "the attempt of web-v3 was aborted" in aborted.told), (1, True)

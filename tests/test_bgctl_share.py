@@ -15,6 +15,19 @@ from tests.tool_runs import TOP
 PYTHON = "/usr/bin/python3"
 SCRIPT = TOP / "scripts" / "bgctl_share.py"
 
+# zsh completes at a terminal alone: one of its own, in which the keys ^T and ^O take all words, and
+# tell the line
+AT_A_TERMINAL = r"""
+zmodload zsh/zpty
+zpty shell zsh -f -i
+zpty -w shell 'PS1=; stty -echo; fpath=($SHARE/zsh/vendor-completions $fpath); autoload -Uz compinit; compinit -u -D'
+zpty -w shell 'all() { _main_complete; compstate[insert]=all compstate[list]= }; zle -C all complete-word all; bindkey "^T" all'
+zpty -w shell 'told() { print -r -- "$BUFFER" > $TOLD.new; mv $TOLD.new $TOLD; exit }; zle -N told; bindkey "^O" told'
+zpty -w -n shell "$LINE"$'\C-t\C-o'
+for try in {1..600}; do [[ -e $TOLD ]] && break; sleep 0.1; done
+cat $TOLD
+"""
+
 
 def output(words: list[str], **variables: str) -> str:
     """What a program prints; its status is 0."""
@@ -25,7 +38,7 @@ def output(words: list[str], **variables: str) -> str:
 
 def missing() -> list[str]:
     """What is not installed of what makes the files."""
-    libraries = ("shtab", "argcomplete") if os.path.exists(PYTHON) else ()
+    libraries = ("argcomplete",) if os.path.exists(PYTHON) else ()
     absent = [
         name
         for name in libraries
@@ -117,14 +130,31 @@ class Share(unittest.TestCase):
                 self.assertIn(".SH SYNOPSIS\n", text)
                 self.assertNotRegex(text, r"(?<!/)\bbin/|(?<!/)\bdocs/")
 
-    def test_bash(self) -> None:
-        self.assertEqual(self.completed_by_bash("bgctl --plan p de"), ["deploy"])
+    def completed_by_fish(self, line: str, **variables: str) -> list[str]:
+        """The words that fish completes at the end of a line."""
+        told = self.completed(
+            "fish",
+            f'source $SHARE/fish/vendor_completions.d/bgctl.fish; complete -C "{line}"',
+            **variables,
+        )
+        return [each.split("\t")[0] for each in told.splitlines()]
 
-    def test_revisions_conditions_and_lines(self) -> None:
+    def completed_by_zsh(self, line: str, **variables: str) -> str:
+        """The line of zsh at a terminal, where all words are taken that it completes at its end."""
+        told = pathlib.Path(self.folder / "told")
+        told.unlink(missing_ok=True)
+        return self.completed("zsh", AT_A_TERMINAL, LINE=line, TOLD=str(told), **variables).rstrip()
+
+    def switch(self) -> FakeSwitch:
         switch = FakeSwitch("pause")
         self.addCleanup(switch.kill)
         for line in ("open web-v1 1 2", "deploy web-v2 3 4"):
             switch.book.answer(line)
+        return switch
+
+    def test_bash(self) -> None:
+        self.assertEqual(self.completed_by_bash("bgctl --plan p de"), ["deploy"])
+        switch = self.switch()
         port = str(switch.port)
         # bash completes what stands behind the sign
         phases = ["preAnalysis", "paused", "postAnalysis"]
@@ -148,21 +178,41 @@ class Share(unittest.TestCase):
 
     def test_fish(self) -> None:
         self.needs("fish")
-        told = self.completed(
-            "fish",
-            "source $SHARE/fish/vendor_completions.d/bgctl.fish; complete -C 'bgctl de'; "
-            "complete -C 'bgctl deploy --w'",
-        )
-        self.assertEqual([line.split("\t")[0] for line in told.splitlines()], ["deploy", "--wait"])
+        port = str(self.switch().port)
+        for line, expected in (
+            ("bgctl de", ["deploy"]),
+            ("bgctl deploy --w", ["--wait"]),
+            ("bgctl undo --to w", ["web-v1", "web-v2"]),
+            ("bgctl wait phase=sc", ["phase=scaling"]),
+        ):
+            self.assertEqual(self.completed_by_fish(line, BG_CONTROL=port), expected, line)
 
     def test_zsh(self) -> None:
         self.needs("zsh")
-        path = self.folder / "zsh" / "vendor-completions" / "_bgctl"
-        output(["zsh", "-n", str(path)])
-        text = path.read_text(encoding="utf-8")
-        for command in BGCTL_COMMANDS:
-            self.assertIn(f'"{command.name}:', text)
-        self.assertIn('"--wait[', text)
+        switch = self.switch()
+        port = str(switch.port)
+        for line, expected in (
+            ("bgctl de", "bgctl deploy"),
+            ("bgctl --plan p de", "bgctl --plan p deploy"),
+            ("bgctl deploy --w", "bgctl deploy --wait"),
+            ("bgctl undo --to w", "bgctl undo --to web-v1 web-v2"),
+            ("bgctl undo --to=w", "bgctl undo --to=web-v1 --to=web-v2"),
+            ("true; sudo bgctl promote w", "true; sudo bgctl promote web-v1 web-v2"),
+            ("bgctl promote 'web-v2", "bgctl promote 'web-v2'"),
+            ("bgctl line dep", "bgctl line deploy"),
+            ("bgctl line deploy web-v1", "bgctl line deploy web-v1"),
+            ("bgctl wait phase=sc", "bgctl wait phase=scaling"),
+            ("bgctl wait newest=", "bgctl wait newest=web-v1 newest=web-v2"),
+            ("bgctl wait 'open(web-v1", "bgctl wait 'open(web-v1)="),
+            ("bgctl xyzzy", "bgctl xyzzy"),
+        ):
+            self.assertEqual(self.completed_by_zsh(line, BG_CONTROL=port), expected, line)
+        switch.kill()
+        self.assertEqual(
+            self.completed_by_zsh("bgctl promote web", BG_CONTROL=port),
+            "bgctl promote web",
+            "no answer is no fault",
+        )
 
 
 if __name__ == "__main__":

@@ -3,7 +3,7 @@ sent."""
 import unittest
 from collections.abc import Sequence
 
-from bg_switch_tools.operator.conditions import Conditions, WrongCondition, read_condition
+from bg_switch_tools.switch.conditions import Conditions, WrongCondition, read_condition
 from bg_switch_tools.switch.reports import Report, read_report
 
 HOLDS, MAY_COME = "holds", "may come"

@@ -7,7 +7,7 @@ from tests.tool_runs import TOP
 
 PATH = re.compile(r"`([\w./*-]+/[\w.*-]*|[\w-]+\.(?:rt|antt|py|md|txt))`")
 PLACEHOLDERS = ("NAME", "WHAT_IS_WRONG")
-MOST_LINES_OF_THE_GLOSSARY = 115
+MOST_LINES_OF_THE_GLOSSARY = 125
 MOST_LINES_OF_A_CHANGE = 25
 
 

@@ -9,7 +9,8 @@ from unittest import mock
 
 from bg_switch_tools.fleet import agent_process, cli
 from bg_switch_tools.fleet.agent_process import AgentArguments
-from bg_switch_tools.fleet.argument_parser import FLEET_COMMANDS, parser
+from bg_switch_tools.fleet.argument_parser import parser
+from bg_switch_tools.fleet.commands import FLEET_COMMANDS
 from bg_switch_tools.fleet.candidate import Candidate
 from bg_switch_tools.fleet.exit_statuses import TABLE
 from bg_switch_tools.fleet.fleet_file import FleetFile

@@ -7,7 +7,7 @@ from unittest import mock
 from bg_switch_tools.fleet.conditions import FleetConditions
 from bg_switch_tools.fleet.record import ATTEMPT, MACHINES, MEMBERS, PLAN
 from bg_switch_tools.fleet.store import StoreRefusal
-from bg_switch_tools.operator.conditions import HOLDS, MAY_COME, Outlook
+from bg_switch_tools.switch.conditions import HOLDS, MAY_COME, Outlook
 from support.processes import Run
 from tests.fleet_people import HOSTS, V1, V2, V3, WithFleet
 

@@ -6,6 +6,7 @@ import pathlib
 import tempfile
 import unittest
 
+from bg_switch_tools.bgctl.tools import TOOLS
 from module_map import (
     BELOW,
     LIBRARY,
@@ -57,13 +58,11 @@ class Imports(unittest.TestCase):
             (library / "switch" / "a.py").write_text(
                 "def f() -> None:\n    from bg_switch_tools.bgctl import cli\n", encoding="ascii"
             )
-            (library / "operator" / "b.py").write_text(
-                "import bg_switch_tools.switch.a\nfrom bg_switch_tools.analysis.c import D\n",
+            (library / "fleet" / "b.py").write_text(
+                "import bg_switch_tools.switch.a\nfrom bg_switch_tools.bgctl.c import D\n",
                 encoding="ascii",
             )
-            self.assertEqual(
-                wrong_imports(library), ["switch/a.py: bgctl", "operator/b.py: analysis"]
-            )
+            self.assertEqual(wrong_imports(library), ["switch/a.py: bgctl", "fleet/b.py: bgctl"])
 
 
 def unfit_statements(path: pathlib.Path) -> list[str]:
@@ -89,6 +88,36 @@ class Statements(unittest.TestCase):
             path = pathlib.Path(folder, "a.py")
             path.write_text("import os\nassert os\nos._exit(0)\n", encoding="ascii")
             self.assertEqual(unfit_statements(path), ["a.py:2: assert", "a.py:3: _exit"])
+
+
+def calls(path: pathlib.Path) -> set[str]:
+    """The names of the methods and functions of modules that a module calls: `a.b()` is `b`."""
+    nodes = ast.walk(ast.parse(path.read_text(encoding="utf-8")))
+    return {
+        node.func.attr
+        for node in nodes
+        if isinstance(node, ast.Call) and isinstance(node.func, ast.Attribute)
+    }
+
+
+class Words(unittest.TestCase):
+    """No tool makes words that another tool then reads."""
+
+    def modules_that_call(self, *names: str) -> set[str]:
+        return {
+            str(path.relative_to(LIBRARY))
+            for path in LIBRARY.rglob("*.py")
+            if calls(path) & set(names)
+        }
+
+    def test_each_command_line_is_read_by_its_tool_alone(self) -> None:
+        self.assertEqual(
+            self.modules_that_call("parse_args", "parse_intermixed_args", "parse_known_args"),
+            {f"{tool}/cli.py" for tool in TOOLS},
+        )
+
+    def test_a_tool_is_run_by_its_name_alone(self) -> None:
+        self.assertEqual(self.modules_that_call("main"), {"bgctl/tools.py"})
 
 
 class Listed(unittest.TestCase):

@@ -7,8 +7,12 @@ import threading
 import unittest
 from unittest import mock
 
+from bg_switch_tools.bgctl.commands import BGCTL_COMMANDS
+from bg_switch_tools.bgctl.line_commands import listed_commands
+from bg_switch_tools.bgctl.prompt import Prompt, PromptCommand
+from bg_switch_tools.operator import cli as operator_cli
 from bg_switch_tools.operator.cli import main
-from bg_switch_tools.operator.prompt import Prompt
+from bg_switch_tools.switch.client import Switch
 from support.processes import Run
 from tests.fake_port import free_port
 from tests.fake_switch import FakeSwitch
@@ -48,7 +52,7 @@ class Lines(Operated):
             self.assertEqual(run_in_process(main, path, "tick", "5"), ("ok 0\n", "", 0))
             with mock.patch("builtins.input", side_effect=["report", EOFError]) as asked:
                 with contextlib.redirect_stdout(io.StringIO()) as printed:
-                    Prompt(path, 5, {}).run()
+                    Prompt(Switch(path, 5), {}).run()
             self.assertIn(f"The switch at socket {path}.", printed.getvalue())
             asked.assert_called_with(f"{path}> ")
 
@@ -238,6 +242,12 @@ class Words(Operated):
             self.assertIn(example, told.printed)
 
 
+class Alias(unittest.TestCase):
+    def test_its_commands_are_those_of_bgctl(self) -> None:
+        for command in operator_cli.COMMANDS.values():
+            self.assertIn(command, BGCTL_COMMANDS)
+
+
 class Shutdowns(Operated):
     def test_it_asks(self) -> None:
         self.assertEqual(self.operator("shutdown").status, 2)
@@ -253,7 +263,8 @@ class Prompts(Operated):
         with contextlib.redirect_stdout(printed), mock.patch(
             "builtins.input", side_effect=[*lines, EOFError]
         ):
-            Prompt(self.switch.port, 2, {"status": lambda _: print("the status")}).run()
+            commands: dict[str, PromptCommand] = {"status": lambda _: print("the status")}
+            Prompt(Switch(self.switch.port, 2), commands, listed_commands()).run()
         return printed.getvalue()
 
     def test_lines_and_their_meaning(self) -> None:
@@ -286,7 +297,7 @@ class Prompts(Operated):
         with contextlib.redirect_stdout(printed), mock.patch(
             "builtins.input", side_effect=["tick 1", "tick 2", EOFError]
         ):
-            Prompt(self.switch.port, 0.1, {}).run()
+            Prompt(Switch(self.switch.port, 0.1), {}).run()
         self.assertEqual(printed.getvalue().count("can't be reached"), 2)
 
 

@@ -199,7 +199,7 @@ class Files(Staged):
     def test_each_command_of_the_units_is_there(self) -> None:
         for unit in UNITS:
             for command in [*values(unit, "ExecStart"), *values(unit, "ExecStop")]:
-                place = command.split()[0]
+                place = command.removeprefix("-").split()[0]
                 if place != "/usr/bin/tail":
                     with self.subTest(f"{unit}: {command}"):
                         self.assertTrue(os.access(self.root / place[1:], os.X_OK))

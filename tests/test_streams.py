@@ -41,6 +41,19 @@ class Streams(unittest.TestCase):
         run = ["sh", "-c", command, "sh", *words]
         return subprocess.run(run, capture_output=True, timeout=WAIT, check=False, env=environment)
 
+    def says(self, plan: bytes, text: bytes) -> bool:
+        """Whether a controller that runs by the plan prints a line with the text. It is ended then,
+        or after WAIT seconds."""
+        with subprocess.Popen([TOOLS / "controller", plan], stdout=subprocess.PIPE) as process:
+            limit = threading.Timer(WAIT, process.kill)
+            limit.start()
+            assert process.stdout is not None
+            try:
+                return any(text in line for line in process.stdout)
+            finally:
+                limit.cancel()
+                process.terminate()
+
     def check(self, run: subprocess.CompletedProcess[bytes], status: int) -> None:
         self.assertEqual((run.returncode, b"Traceback" in run.stderr), (status, False), run.stderr)
 
@@ -59,6 +72,25 @@ class Streams(unittest.TestCase):
             self.assertEqual(
                 run.stderr, b"operator: the input or the output fails: No space left on device\n"
             )
+
+    def test_an_output_that_is_full_or_has_no_reader_is_one_to_bgctl_too(self) -> None:
+        run = self.shell("bgctl --control $1 status > /dev/full", str(self.switch.port))
+        self.check(run, 1)
+        self.assertEqual(
+            run.stderr, b"bgctl: the input or the output fails: No space left on device\n"
+        )
+        reader, writer = os.pipe()
+        os.close(reader)
+        with open(writer, "wb") as broken:
+            run = subprocess.run(
+                [str(TOOLS / "bgctl"), "--control", str(self.switch.port), "line", "report"],
+                stdout=broken,
+                stderr=subprocess.PIPE,
+                timeout=WAIT,
+                check=False,
+            )
+        self.check(run, 1)
+        self.assertEqual(run.stderr, b"")
 
     def test_a_controller_whose_standard_error_nobody_reads(self) -> None:
         plan = Plan(str(self.folder), self.switch.port)
@@ -111,8 +143,7 @@ class Streams(unittest.TestCase):
         run = self.shell('controller check "$1"', path)
         self.check(run, 0)
         self.assertIn(b"is a plan", run.stdout)
-        run = self.shell('timeout -s TERM 2 controller "$1"', path)
-        self.assertIn(b"is not used, since there is none", run.stdout)
+        self.assertTrue(self.says(path, b"is not used, since there is none"))
 
 
 class Signals(unittest.TestCase):

@@ -31,8 +31,9 @@ from support.examples import start_switch  # noqa: E402
 from support.traffic import Traffic, prepared_log  # noqa: E402
 
 # isort: split; `support` tells where the tools' package is
-from bg_switch_tools.operator.conditions import Conditions  # noqa: E402
-from bg_switch_tools.operator.wait import WaitLimits, wait_for  # noqa: E402
+from bg_switch_tools.switch.client import Switch  # noqa: E402
+from bg_switch_tools.switch.conditions import Conditions  # noqa: E402
+from bg_switch_tools.switch.wait import wait_for  # noqa: E402
 
 ACTIVE, PREVIEW, CONTROL, PAGE, DRIVER = 31780, 31781, 31782, 31790, 31791
 REVISIONS = {"web-v1": (31811, 31812), "web-v2": (31821, 31822)}
@@ -99,7 +100,7 @@ def ended(process: subprocess.Popen[str]) -> Iterator[None]:
 
 
 def await_state(*conditions: str) -> None:
-    waited = wait_for(CONTROL, Conditions(conditions), WaitLimits(LONGEST, LONGEST), lambda _: None)
+    waited = wait_for(Switch(CONTROL, LONGEST), Conditions(conditions), LONGEST, lambda _: None)
     if waited.status != 0:
         sys.exit(f"{' '.join(conditions)} did not come: {waited.reason}")
 

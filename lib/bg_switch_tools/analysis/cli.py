@@ -17,6 +17,7 @@ from bg_switch_tools.switch.durations import (
     positive_duration_of,
     value_of,
 )
+from bg_switch_tools.switch.frame import Frame
 from bg_switch_tools.switch.installed_names import named
 
 USAGE = """bin/analysis --log FILE [--revision NAME] --seconds N [options]
@@ -43,7 +44,7 @@ Exit status: 0 if the limits held to the end; 1 as soon as more measurements tha
 can't be judged: too few requests came, the log can't be read, measurements are inconclusive, Prometheus gives no answer, or the
 words are wrong.
 """
-INTERRUPTED = 130
+FRAME = Frame("analysis", has_whole_lines=True)
 OF_LOG = ("errors_at_most", "p99_at_most", "requests_at_least", "by_endpoint", "silence_allowed")
 OF_PROMETHEUS = (
     "query",
@@ -77,6 +78,12 @@ def parser(
         epilog=END,
         formatter_class=argparse.RawDescriptionHelpFormatter,
     )
+    add_options(made)
+    return made
+
+
+def add_options(made: argparse.ArgumentParser) -> None:
+    """Adds the options of an analysis."""
     source = made.add_mutually_exclusive_group(required=True)
     source.add_argument(
         "--log", metavar="FILE", help="the access log of the switch, BG_SWITCH_ACCESS_LOG"
@@ -114,7 +121,6 @@ def parser(
     )
     add_log_options(made.add_argument_group("by the access log"))
     add_prometheus_options(made.add_argument_group("by Prometheus"))
-    return made
 
 
 def add_log_options(group: "argparse._ArgumentGroup") -> None:
@@ -230,11 +236,16 @@ def fault_of_words(words: Sequence[str]) -> str:
 
 
 def judge(given: argparse.Namespace) -> int:
-    if given.log is not None:
-        return judge_by_log(given)
-    from bg_switch_tools.analysis import prometheus_options
+    """Judges a revision. Gives the exit status, as the verdict has it."""
+    try:
+        if given.log is not None:
+            return judge_by_log(given)
+        from bg_switch_tools.analysis import prometheus_options
 
-    return prometheus_options.judge(given)
+        return prometheus_options.judge(given)
+    except NotJudged as reason:
+        tell(f"analysis: it can't be judged: {reason}")
+        return NOT_JUDGED
 
 
 def main(words: Sequence[str]) -> int:
@@ -242,10 +253,4 @@ def main(words: Sequence[str]) -> int:
     given = made.parse_args(words)
     if fault := fault_of(given):
         made.error(fault)
-    try:
-        return judge(given)
-    except NotJudged as reason:
-        tell(f"analysis: it can't be judged: {reason}")
-        return NOT_JUDGED
-    except KeyboardInterrupt:
-        return INTERRUPTED
+    return FRAME.run(lambda: judge(given))

@@ -1,13 +1,15 @@
 """What a shell completes behind bgctl beside its own words: revisions, conditions and the words of
 lines, as argcomplete asks for them."""
 import argparse
+import contextlib
 from typing import Any
 
-from bg_switch_tools.bgctl.target import Target, Unusable
-from bg_switch_tools.operator.conditions import CONDITION_SYNTAX
-from bg_switch_tools.switch.connection import Unreachable, ask
-from bg_switch_tools.switch.lines import LINES
-from bg_switch_tools.switch.reports import PHASES, NoReport, read_report
+from bg_switch_tools.bgctl.target import Unusable, target_of
+from bg_switch_tools.switch.client import Switch
+from bg_switch_tools.switch.conditions import CONDITION_SYNTAX
+from bg_switch_tools.switch.connection import Unreachable
+from bg_switch_tools.switch.lines import LINE_WORDS
+from bg_switch_tools.switch.reports import PHASES, NoReport
 
 SOON = 0.5  # seconds that a switch has: a person waits for the completion
 
@@ -16,16 +18,16 @@ def names_of_revisions(
     prefix: str = "", parsed_args: argparse.Namespace | None = None, **_: Any
 ) -> list[str]:
     """The names of the revisions of the switch and of the plan; none where neither can be read."""
-    target, names = Target(parsed_args or argparse.Namespace()), dict[str, None]()
-    try:
-        plan = target.plan()
-        names |= dict.fromkeys(revision.name for revision in plan.revisions) if plan else {}
-        report = read_report(ask(target.control(), b"report", SOON))
-        names |= (
-            dict.fromkeys(revision.name for revision in report.revisions.values()) if report else {}
-        )
-    except (Unusable, Unreachable, NoReport):
-        pass
+    names: dict[str, None] = {}
+    with contextlib.closing(target_of(parsed_args or argparse.Namespace())) as target:
+        try:
+            plan = target.plan()
+            names |= dict.fromkeys(each.name for each in plan.revisions) if plan else {}
+            report = Switch(target.control(), SOON).report()
+            known = report.revisions.values() if report else ()
+            names |= dict.fromkeys(each.name for each in known)
+        except (Unusable, Unreachable, NoReport):
+            pass
     return [name for name in names if name.startswith(prefix)]
 
 
@@ -47,9 +49,8 @@ def line_words(
 ) -> list[str]:
     """The first word of each line; behind it the names of the revisions."""
     given = getattr(parsed_args, "words", None)
-    firsts = list(dict.fromkeys(line.syntax.split()[0] for line in LINES))
     return (
         names_of_revisions(prefix, parsed_args)
         if given
-        else [word for word in firsts if word.startswith(prefix)]
+        else [word for word in LINE_WORDS if word.startswith(prefix)]
     )

@@ -1,8 +1,9 @@
 """The exit statuses of bgctl. `bgctl --help` and its manual page show this table, and no other page
 repeats it."""
-from bg_switch_tools.operator.cli import DARK, HELD_BACK, INTERRUPTED, NO_CONTROLLER
+from bg_switch_tools.switch.frame import INTERRUPTED
 
 DONE, REFUSED, NO_ANSWER = 0, 1, 2
+DARK, HELD_BACK, NO_CONTROLLER = 3, 4, 5  # of `status`
 FAULT = 70
 
 TABLE = (

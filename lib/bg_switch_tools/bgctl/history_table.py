@@ -1,11 +1,5 @@
-"""Shows the history of a plan's rollout."""
-import json
-
-from bg_switch_tools.bgctl.exit_statuses import DONE, REFUSED
-from bg_switch_tools.bgctl.session import tell
+"""The history of a plan's rollout as a table, and as JSON."""
 from bg_switch_tools.controller.attempts import BEGINNINGS, DEPLOYED, UNDEPLOYED, Attempt
-from bg_switch_tools.controller.history_file import HistoryFile
-from bg_switch_tools.controller.log import local_time
 
 TITLES = ("WHEN", "REVISION", "BY", "HOW IT ENDED", "LIVE FOR")
 UNITS = (("d", 86400), ("h", 3600), ("m", 60), ("s", 1))
@@ -81,24 +75,3 @@ def table(attempts: list[Attempt], now: str) -> list[str]:
             *(f"  {result.title()}: {result.outcome()}" for result in analyses),
         )
     ]
-
-
-def show(plan_path: str, last: int, is_json: bool) -> int:
-    """Prints the latest attempts, `last` of them at most, the oldest first. Gives the exit
-    status."""
-    file, now = HistoryFile(plan_path), local_time()
-    try:
-        attempts, unreadable = file.read()
-    except OSError as error:
-        tell(f"{file.path} can't be read: {error.strerror}")
-        return REFUSED
-    shown = attempts.all[-last:] if last else []
-    if unreadable:
-        tell(f"{file.path} has {unreadable} lines that are no events")
-    if not attempts.all:
-        tell(f"{file.path} has no attempt yet: the controller of the plan writes it")
-    elif is_json:
-        print("\n".join(json.dumps(as_json(attempt, now)) for attempt in shown))
-    else:
-        print("\n".join(table(shown, now)))
-    return DONE

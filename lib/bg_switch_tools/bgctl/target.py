@@ -4,7 +4,7 @@ import os
 from typing import Any
 
 from bg_switch_tools.controller.plan import Plan
-from bg_switch_tools.controller.plan_file import read_whole_plan
+from bg_switch_tools.controller.plan_file import OpenPlan, plan_of, unreadable
 from bg_switch_tools.controller.plan_reader import WrongPlan
 from bg_switch_tools.switch.arguments import control_of
 from bg_switch_tools.switch.control import Control
@@ -26,38 +26,54 @@ def _option(given: argparse.Namespace, name: str) -> Any:
     return getattr(given, BEFORE + name, None) if told is None else told
 
 
-def readable(path: str) -> str:
-    """The path of a plan, whose file can be read. `Unusable` where it can't."""
-    try:
-        with open(path, "rb"):
-            return path
-    except OSError as error:
-        raise Unusable(f"the plan {path} can't be read: {error.strerror}") from None
-
-
 class Target:
-    """The plan, and the control port or socket: each by its option, or else by its variable. A port
-    or socket that neither names is the plan's."""
+    """The plan, and the control port or socket. A port or socket that nothing else names is the
+    plan's. The plan is read once."""
 
-    def __init__(self, given: argparse.Namespace) -> None:
-        self.given_control: Control | None = _option(given, "control")
-        self.path: str | None = _option(given, "plan") or os.environ.get(PLAN) or None
+    def __init__(self, control: Control | None, path: str | None) -> None:
+        self.given_control = control
+        self.path = path
+        self.file = OpenPlan(path or "")
+
+    def close(self) -> None:
+        """Closes the file of the plan."""
+        self.file.close()
+
+    def take_path(self, path: str | None) -> None:
+        """Takes a plan that stands after the command, in the place of the one that it had."""
+        if path:
+            self.path, self.file = path, OpenPlan(path)
 
     def needed_path(self, why: str) -> str:
         """The path of the plan, whose file can be read. `Unusable` where none is named (then `why`
         says what it is for)."""
         if self.path is None:
             raise Unusable(f"{why}: --plan FILE or the variable {PLAN} names the plan")
-        return readable(self.path)
+        try:
+            self.file.text()
+        except OSError as error:
+            raise Unusable(f"the plan {self.path} can't be read: {error.strerror}") from None
+        return self.path
 
     def plan(self) -> Plan | None:
         """The plan; None where none is named. `Unusable` where it is wrong, or can't be read."""
-        if self.path is None:
-            return None
         try:
-            return read_whole_plan(self.path)
+            return self._plan()
         except WrongPlan as wrong:
             raise Unusable(f"{self.path} is not a plan: {wrong}") from None
+
+    def plan_if_right(self) -> Plan | None:
+        """The plan; None where none is named, or it is wrong."""
+        try:
+            return self._plan()
+        except WrongPlan:
+            return None
+
+    def _plan(self) -> Plan | None:
+        try:
+            return None if self.path is None else plan_of(self.file.text())
+        except OSError as error:
+            raise unreadable(error) from None
 
     def known_control(self) -> Control | None:
         """The control port or socket; None where nothing names it. `Unusable` where what names it
@@ -82,3 +98,16 @@ class Target:
                 f"(--plan FILE, {PLAN})"
             )
         return control
+
+
+class GivenTarget(Target):
+    """The control port or socket that stands first among the words. A plan that is named besides is
+    judged only by the commands that go by it."""
+
+    def known_control(self) -> Control | None:
+        return self.given_control
+
+
+def target_of(given: argparse.Namespace) -> Target:
+    """What the options of bgctl name, or else its variables."""
+    return Target(_option(given, "control"), _option(given, "plan") or os.environ.get(PLAN) or None)

@@ -8,6 +8,8 @@ import sys
 from collections.abc import Sequence
 
 TOOLS = ("bgctl", "operator", "controller", "analysis", "dashboard", "fleet")  # each a package
+# those whose output has a question mark for each character that it can't have, as drawings need it
+DRAWING = ("bgctl", "operator", "fleet")
 
 
 def prepare_streams() -> None:
@@ -38,6 +40,8 @@ def run(name: str, words: Sequence[str]) -> int:
     """Runs a tool. Gives the exit status."""
     prepare_streams()
     # the others are not imported, so that each starts fast
+    if name in DRAWING and isinstance(sys.stdout, io.TextIOWrapper):
+        sys.stdout.reconfigure(errors="replace")
     status: int = importlib.import_module(f"bg_switch_tools.{name}.cli").main(words)
     finish_streams()
     return status

@@ -1,7 +1,7 @@
 """Which revision an undo takes again."""
 from collections.abc import Sequence
 
-from bg_switch_tools.bgctl.suggestion import did_you_mean
+from bg_switch_tools.switch.suggestion import did_you_mean
 from bg_switch_tools.bgctl.target import Unusable
 from bg_switch_tools.controller.attempts import STABLE, Attempt
 from bg_switch_tools.controller.kept_ports import Kept

@@ -1,7 +1,7 @@
 """Which deploy a plan has announced and its controller has not carried out yet, and what the
 controller holds back."""
+import contextlib
 from collections.abc import Collection
-from typing import NamedTuple
 
 from bg_switch_tools.controller.controller_life import life_of
 from bg_switch_tools.controller.plan import Plan, PlannedRevision
@@ -9,29 +9,18 @@ from bg_switch_tools.controller.plan_author import Author
 from bg_switch_tools.controller.plan_file import PlanFile
 from bg_switch_tools.controller.plan_reader import WrongPlan
 from bg_switch_tools.controller.state_file import HeldBack, NoState, State, StateFile
-
-
-class Announcement(NamedTuple):
-    """The name of the revision whose deploy is announced; None where none is. `refusal` says why it
-    is held back, `absence` why no controller deploys it, and `trouble` why it is not deployed yet;
-    empty where nothing prevents it. `overtaken` says that another edit has overtaken a deploy that
-    is awaited."""
-
-    name: str | None = None
-    refusal: str = ""
-    absence: str = ""
-    trouble: str = ""
-    overtaken: str = ""
+from bg_switch_tools.switch.wait import Announcement
 
 
 class AnnouncedDeploy:
     """Looks at a plan and at the state file that its controller keeps beside it."""
 
-    def __init__(self, path: str, awaited: Collection[str] = ()) -> None:
-        """`awaited` are the names of the revisions whose deploy is awaited. `WrongPlan` where the
-        file is not a plan."""
-        self.file = PlanFile(path)
+    def __init__(self, path: str, awaited: Collection[str] = (), text: bytes | None = None) -> None:
+        """`awaited` are the names of the revisions whose deploy is awaited, `text` is the plan where
+        it was read already. `WrongPlan` where the file is not a plan."""
+        self.file = PlanFile(path, text)
         self.plan: Plan = self.file.first()
+        self.was_read = True  # and not looked at yet
         self.state = StateFile(path)
         self.author = Author(path)
         self.path = path
@@ -47,7 +36,7 @@ class AnnouncedDeploy:
         before, self.pending = self.pending, None if last == deployed else last
         if last == before:
             return
-        self.overtaken |= {each.name: each.text() for each in self.author.overtaken()}
+        self.overtaken |= {each.name: each.text() for each in self.author.overtaken(self.file.text)}
         if before and before != deployed:
             self.overtaken[
                 before.name
@@ -57,10 +46,10 @@ class AnnouncedDeploy:
     def look(self) -> Announcement:
         """The plan's last revision, where it was not deployed for the plan yet. A plan that turns
         wrong announces what it did before, as the controller continues by the one before."""
-        try:
-            self.plan = self.file.read() or self.plan
-        except WrongPlan:
-            pass
+        if not self.was_read:
+            with contextlib.suppress(WrongPlan):
+                self.plan = self.file.read() or self.plan
+        self.was_read = False
         try:
             state = self.state.read()[0]
         except NoState:
@@ -82,12 +71,13 @@ class AnnouncedDeploy:
         )
 
 
-def held_back(path: str) -> list[HeldBack]:
-    """What the controller of a plan holds back of the revisions that the plan names now, also since
-    the start of its last one fails; none where no state tells it."""
+def held_back(path: str, plan: Plan | None = None) -> list[HeldBack]:
+    """What the controller of a plan holds back of the revisions that the plan names, also since the
+    start of its last one fails; none where no state tells it. The plan is read where it is not
+    given."""
     try:
         state = StateFile(path).read()[0]
-        plan = PlanFile(path).first()
+        plan = plan or PlanFile(path).first()
     except (NoState, WrongPlan):
         return []
     failing = [each for each in state.failing if each.revision == plan.last != state.deployed]

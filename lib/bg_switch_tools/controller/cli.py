@@ -1,11 +1,9 @@
 """bin/controller: runs a rollout by a plan, or judges a plan."""
 import argparse
-import signal
+import contextlib
 import sys
 import threading
-import time
-from collections.abc import Sequence
-from types import FrameType
+from collections.abc import Callable, Sequence
 
 from bg_switch_tools.controller.book_opener import CannotOpen
 from bg_switch_tools.controller.controller import Controller, files_beside
@@ -13,12 +11,13 @@ from bg_switch_tools.controller.log import Log
 from bg_switch_tools.controller.plan import Plan
 from bg_switch_tools.controller.plan_check import problems_of
 from bg_switch_tools.controller.plan_edit import OtherPorts, deploy_by_plan
-from bg_switch_tools.controller.plan_file import PlanFile, read_whole_plan
+from bg_switch_tools.controller.plan_file import OpenPlan, PlanFile, plan_of
 from bg_switch_tools.controller.plan_reader import WrongPlan
 from bg_switch_tools.controller.probes import Probes
 from bg_switch_tools.controller.state_file import IsLocked, StateLock
 from bg_switch_tools.controller.switch_silence import SwitchSilence
 from bg_switch_tools.switch.connection import Connection, Unreachable
+from bg_switch_tools.switch.frame import Frame, Signals, list_of
 from bg_switch_tools.switch.installed_names import named
 from bg_switch_tools.switch.reports import NoReport
 
@@ -69,11 +68,12 @@ editors: share/plan.schema.json. docs/OPERATING.md says what each line of the lo
 Exit status: 0 after SIGTERM or ctrl-C, and for a plan in which `check` finds nothing wrong; 1 if the plan is wrong when it starts,
 by `check` or after `deploy`, if the switch can't be opened with it, or if another controller runs it; 2 if the words are wrong.
 """
+FRAME = Frame("controller")
+FAULT = 70  # the exit status after a fault of its own
 # seconds within which a connection is taken, and for the answers of a round
 CONNECT, ANSWER = (1.0, 10.0)
 RETRY = 0.2  # seconds between two tries where the switch gives no answer
 MINUTE = 60.0
-LOOK = 0.05  # seconds between two looks at whether a signal has come
 LONGEST_END = 1.2  # seconds for the round to end after a signal
 
 
@@ -153,30 +153,21 @@ class Runner:
             self.lock.release()
 
 
-def tell(text: str) -> None:
-    """Tells the user something beside the log."""
-    print(f"controller: {text}", file=sys.stderr)
-
-
-def tell_problems(title: str, wrong: WrongPlan) -> None:
-    """Tells what is wrong with a plan, a line for each problem."""
-    tell("\n".join([f"{title}:", *(f"  {problem}" for problem in wrong.problems)]))
-
-
-def run(path: str, as_json: bool) -> int:
-    """Runs a plan, unless another controller does. Gives the exit status."""
-    file = PlanFile(path)
+def run(path: str, as_json: bool, text: bytes | None = None) -> int:
+    """Runs a plan, unless another controller does. `text` is that of its file where it was read
+    already. Gives the exit status."""
+    file = PlanFile(path, text)
     try:
         plan = file.first()
         lock = StateLock(path)
     except WrongPlan as wrong:
-        tell_problems(f"{path} is not a plan", wrong)
+        FRAME.tell(list_of(f"{path} is not a plan:", wrong.problems))
         return 1
     except IsLocked as reason:
-        tell(str(reason))
+        FRAME.tell(str(reason))
         return 1
     except OSError as error:
-        tell(
+        FRAME.tell(
             f"the lock file beside {path} cannot be made, so a second controller is not noticed: {error.strerror}"
         )
         return run_locked(file, plan, as_json, None)
@@ -185,34 +176,34 @@ def run(path: str, as_json: bool) -> int:
 
 def run_locked(file: PlanFile, plan: Plan, as_json: bool, lock: StateLock | None) -> int:
     """Runs a plan until a signal comes. Gives the exit status."""
-    signals: list[int] = []
-
-    def note(number: int, _: FrameType | None) -> None:
-        signals.append(number)
-
-    for number in (signal.SIGTERM, signal.SIGINT):
-        signal.signal(number, note)
+    signals = Signals()
     runner = Runner(file, plan, Log(sys.stdout, as_json), lock)
     runner.thread.start()
-    while runner.thread.is_alive() and not signals:
-        time.sleep(LOOK)
+    signals.wait_while(runner.thread.is_alive)
     runner.stop()
     if runner.unfit:
-        tell(runner.unfit)
+        FRAME.tell(runner.unfit)
         return 1
-    return 70 if runner.has_fault and not runner.thread.is_alive() else 0
+    return FAULT if runner.has_fault and not runner.thread.is_alive() else 0
 
 
 def check(path: str, rollout: str | None = None) -> int:
-    """Prints what is wrong with a plan, with its commands, and with its revisions by the files
-    beside it; and in what the Rollout of this file does not fit the plan. Gives the exit status."""
+    """Prints what is wrong with the plan of a file, as `check_text` does."""
     try:
-        with open(path, "rb"):
-            pass
-        problems = problems_of(path, read_whole_plan(path), rollout)
+        with contextlib.closing(OpenPlan(path)) as plan:
+            text = plan.text()
     except OSError as error:
-        tell(f"{path} can't be read: {error.strerror}")
+        FRAME.tell(f"{path} can't be read: {error.strerror}")
         return 1
+    return check_text(path, text, rollout)
+
+
+def check_text(path: str, text: bytes, rollout: str | None) -> int:
+    """Prints what is wrong with the plan of this file and text, with its commands, and with its
+    revisions by the files beside it; and in what the Rollout of this file does not fit the plan.
+    Gives the exit status."""
+    try:
+        problems = problems_of(path, plan_of(text), rollout)
     except WrongPlan as wrong:
         problems = wrong.problems
     print("\n".join(problems) if problems else f"{path} is a plan")
@@ -225,13 +216,17 @@ def deploy(path: str, name: str, ports: Sequence[str]) -> int:
     try:
         print(deploy_by_plan(path, name, [port_or_none(port) for port in ports]))
     except OtherPorts as wrong:
-        tell_problems(f"{path} stays as it is", wrong)
+        FRAME.tell(list_of(f"{path} stays as it is:", wrong.problems))
         return 1
     except WrongPlan as wrong:
-        tell_problems(f"{path} stays as it is, since with {name} it would not be a plan", wrong)
+        FRAME.tell(
+            list_of(
+                f"{path} stays as it is, since with {name} it would not be a plan:", wrong.problems
+            )
+        )
         return 1
     except OSError as error:
-        tell(f"{path} can't be written: {error.strerror}")
+        FRAME.tell(f"{path} can't be written: {error.strerror}")
         return 1
     return 0
 
@@ -239,6 +234,20 @@ def deploy(path: str, name: str, ports: Sequence[str]) -> int:
 def port_or_none(text: str) -> int:
     """A port as a word; 0, which no plan may have, where it is not a number."""
     return int(text) if text.isascii() and text.isdigit() and len(text) <= 9 else 0
+
+
+def command_of(given: argparse.Namespace) -> Callable[[], int] | None:
+    """What the words ask for; None where that is nothing."""
+    first, *others = given.words
+    if first not in ("check", "deploy") and not others and given.rollout is None:
+        return lambda: run(first, given.json)
+    if given.json:
+        return None
+    if first == "check" and len(others) == 1:
+        return lambda: check(others[0], given.rollout)
+    if first == "deploy" and len(others) >= 3 and given.rollout is None:
+        return lambda: deploy(others[0], others[1], others[2:])
+    return None
 
 
 def main(words: Sequence[str]) -> int:
@@ -265,21 +274,9 @@ def main(words: Sequence[str]) -> int:
         help="`check` compares the plan with this Rollout, with which the switch is started",
     )
     given = parser.parse_args(words)
-    if (
-        len(given.words) == 1
-        and given.words[0] not in ("check", "deploy")
-        and given.rollout is None
-    ):
-        return run(given.words[0], given.json)
-    if len(given.words) == 2 and given.words[0] == "check" and not given.json:
-        return check(given.words[1], given.rollout)
-    if (
-        len(given.words) >= 4
-        and given.words[0] == "deploy"
-        and not given.json
-        and given.rollout is None
-    ):
-        return deploy(given.words[1], given.words[2], given.words[3:])
-    parser.error(
-        "give the file of one plan: PLAN runs it, check PLAN checks it, and deploy PLAN NAME PORT.. deploys a revision by it"
-    )
+    command = command_of(given)
+    if command is None:
+        parser.error(
+            "give the file of one plan: PLAN runs it, check PLAN checks it, and deploy PLAN NAME PORT.. deploys a revision by it"
+        )
+    return FRAME.run(command)

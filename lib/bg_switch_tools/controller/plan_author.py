@@ -7,8 +7,8 @@ import pwd
 from collections.abc import Mapping
 
 from bg_switch_tools.controller.log import local_time
-from bg_switch_tools.controller.plan import Plan
-from bg_switch_tools.controller.plan_reader import LARGEST, WrongPlan, read_plan
+from bg_switch_tools.controller.plan_file import PlanEdit, plan_of
+from bg_switch_tools.controller.plan_reader import LARGEST
 from bg_switch_tools.controller.state_file import SUFFIX, NoState, StateFile, write_whole
 from bg_switch_tools.switch.json_values import NAME, decoded
 
@@ -76,57 +76,57 @@ class Author:
         self.plan_path = plan_path
         self.path = plan_path + SUFFIX + AUTHOR
 
-    def sign(self, text: bytes) -> None:
-        """Notes the caller as the author of the text that the plan is about to have, and what that
-        text overtakes. `OSError` where the file can't be written."""
+    def sign(self, edit: PlanEdit) -> None:
+        """Notes the caller as the author of an edit that is about to be put in place, and what it
+        overtakes. `OSError` where the file can't be written."""
         when = local_time()
         told = {
             "who": login_name(),
             "when": when,
-            "digest": _digest(text),
-            "overtaken": [
-                dataclasses.asdict(each) for each in self._overtaken_by(read_plan(text), when)
-            ],
+            "digest": _digest(edit.after),
+            "overtaken": [dataclasses.asdict(each) for each in self._overtaken_by(edit, when)],
         }
         write_for_all(self.path, told)
 
-    def _overtaken_by(self, plan: Plan, when: str) -> list[Overtaken]:
-        """What was overtaken, once this plan takes the place of the one in the file; what went
-        before the latest deploy is past."""
+    def _overtaken_by(self, edit: PlanEdit, when: str) -> list[Overtaken]:
+        """What is overtaken, once an edit is in place; what went before the latest deploy is
+        past."""
+        last, following = plan_of(edit.before).last, plan_of(edit.after).last
         try:
-            with open(self.plan_path, "rb") as file:
-                last = read_plan(file.read(LARGEST + 1)).last
             deployed = StateFile(self.plan_path).read()[0].deployed
-        except (OSError, WrongPlan, NoState):
+        except NoState:
             return []
         if last == deployed:
             return []
         more = (
             []
-            if last.name == plan.last.name
-            else [Overtaken(last.name, self.name() or PLAN, plan.last.name, when)]
+            if last.name == following.name
+            else [Overtaken(last.name, self.name(edit.before) or PLAN, following.name, when)]
         )
-        return [*self.overtaken(), *more][-MOST_OVERTAKEN:]
+        return [*self.overtaken(edit.before), *more][-MOST_OVERTAKEN:]
 
-    def _told(self) -> Mapping[str, object]:
-        """What the file says of the plan's file as it is now; nothing where nobody has edited it
-        with bgctl since."""
+    def _told(self, text: bytes | None) -> Mapping[str, object]:
+        """What the file says of the plan of this text, or where it is None of the plan's file as it
+        is now; nothing where nobody has edited it with bgctl since."""
         try:
-            with open(self.path, "rb") as file, open(self.plan_path, "rb") as plan:
-                told, digest = decoded(file.read(MOST_BYTES)), _digest(plan.read(LARGEST + 1))
+            with open(self.path, "rb") as file:
+                told = decoded(file.read(MOST_BYTES))
+            if text is None:
+                with open(self.plan_path, "rb") as plan:
+                    text = plan.read(LARGEST + 1)
         except (OSError, ValueError):
             return {}
-        return told if isinstance(told, dict) and told.get("digest") == digest else {}
+        return told if isinstance(told, dict) and told.get("digest") == _digest(text) else {}
 
-    def name(self) -> str | None:
-        """The author of the plan's file as it is now; None where nobody has edited it with bgctl
-        since."""
-        who = self._told().get("who")
+    def name(self, text: bytes | None = None) -> str | None:
+        """The author of the plan of this text, or of the plan's file as it is now; None where nobody
+        has edited it with bgctl since."""
+        who = self._told(text).get("who")
         return who[:LONGEST_NAME] if isinstance(who, str) and who else None
 
-    def overtaken(self) -> list[Overtaken]:
-        """The revisions that the edits with bgctl have overtaken, up to the plan's file as it is
-        now, the oldest first."""
-        told = self._told().get("overtaken")
+    def overtaken(self, text: bytes | None = None) -> list[Overtaken]:
+        """The revisions that the edits with bgctl have overtaken, up to the plan of this text, or to
+        the plan's file as it is now, the oldest first."""
+        told = self._told(text).get("overtaken")
         found = [_read_overtaken(one) for one in told] if isinstance(told, list) else []
         return [one for one in found if one is not None]

@@ -8,8 +8,8 @@ from collections.abc import Callable, Sequence
 from bg_switch_tools.controller.kept_ports import by_name, kept_revisions, why_refused
 from bg_switch_tools.controller.plan import Plan, PlannedRevision
 from bg_switch_tools.controller.plan_edit_lock import EditLock
-from bg_switch_tools.controller.plan_file import PlanFile
-from bg_switch_tools.controller.plan_reader import MOST_REVISIONS, WrongPlan, read_plan
+from bg_switch_tools.controller.plan_file import OpenPlan, PlanEdit, plan_of, unreadable
+from bg_switch_tools.controller.plan_reader import MOST_REVISIONS, WrongPlan
 from bg_switch_tools.controller.state_file import write_whole
 from bg_switch_tools.switch.json_values import decoded
 
@@ -37,7 +37,7 @@ def with_last(told: object, name: str, ports: Sequence[int]) -> object:
     return {**told, "revisions": [*others[-(MOST_REVISIONS - 1) :], last]}
 
 
-def _unsigned(_: bytes) -> None:
+def _unsigned(_: PlanEdit) -> None:
     """An edit whose author is not noted."""
 
 
@@ -64,31 +64,46 @@ def _put_in_place(path: str, text: bytes) -> None:
     write_whole(whole, text)
 
 
-def deploy_by_plan(
-    path: str, name: str, ports: Sequence[int], sign: Callable[[bytes], None] = _unsigned
-) -> str:
-    """Makes a revision the last one of a plan's file, in one step, and says so. A file that names
-    it last with these ports stays as it is. `sign` is given the new text before it is in place.
-    `WrongPlan` where the result is not a plan, or the name has other ports (`OtherPorts`), and
-    `OSError` where the file can't be written, or another edit does not end: then nothing is
-    changed.
+def make_last(
+    plan: OpenPlan, revision: PlannedRevision, sign: Callable[[PlanEdit], None] = _unsigned
+) -> PlanEdit:
+    """Makes a revision the last one of a plan's file, in one step. A file that names it last with
+    these ports stays as it is. `sign` is given the edit before it is in place. `WrongPlan` where the
+    result is not a plan, or the name has other ports (`OtherPorts`), and `OSError` where the file
+    can't be written, or another edit does not end: then nothing is changed.
     """
-    with EditLock(path):
-        file = PlanFile(path)
-        plan = file.first()
-        judge_ports(path, plan, PlannedRevision(name, tuple(ports)))
-        if (plan.last.name, plan.last.ports) == (name, tuple(ports)):
-            return f"{name} is the last revision of {path} already"
+    with EditLock(plan.path):
         try:
-            told = decoded(file.text or b"")
+            text = plan.latest()
+        except OSError as error:
+            raise unreadable(error) from None
+        judge_ports(plan.path, plan_of(text), revision)
+        if plan_of(text).last == revision:
+            return PlanEdit(text, text)
+        try:
+            told = decoded(text)
         except ValueError:
             raise WrongPlan(
                 [
                     "it is YAML, whose comments this edit would lose: name the revision in the file by hand"
                 ]
             ) from None
-        edited = (json.dumps(with_last(told, name, ports), indent=2) + "\n").encode("ascii")
-        read_plan(edited)
-        sign(edited)
-        _put_in_place(path, edited)
-    return f"{name} is the last revision of {path}"
+        whole = with_last(told, revision.name, revision.ports)
+        edit = PlanEdit(text, (json.dumps(whole, indent=2) + "\n").encode("ascii"))
+        plan_of(edit.after)
+        sign(edit)
+        _put_in_place(plan.path, edit.after)
+    return edit
+
+
+def told_of(edit: PlanEdit, path: str, name: str) -> str:
+    """What an edit has done, in a sentence."""
+    return f"{name} is the last revision of {path}{'' if edit.has_changed else ' already'}"
+
+
+def deploy_by_plan(
+    path: str, name: str, ports: Sequence[int], sign: Callable[[PlanEdit], None] = _unsigned
+) -> str:
+    """Makes a revision the last one of a plan's file, as `make_last` does, and says so."""
+    with contextlib.closing(OpenPlan(path)) as plan:
+        return told_of(make_last(plan, PlannedRevision(name, tuple(ports)), sign), path, name)

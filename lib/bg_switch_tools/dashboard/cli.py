@@ -8,6 +8,7 @@ from bg_switch_tools.dashboard.board import Board
 from bg_switch_tools.dashboard.fleet_agent import local_agent
 from bg_switch_tools.fleet.fleet_file import FleetFile, WrongFleetFile, read_whole_fleet_file
 from bg_switch_tools.switch.arguments import control_of, numbered_port
+from bg_switch_tools.switch.frame import REFUSED, Frame
 from bg_switch_tools.switch.installed_names import named
 
 USAGE = "bin/dashboard [PORT] [--fleet FLEET.json] [--agent-state PATH] --listen PORT [--log FILE] [--plan PLAN] [--read-only]"
@@ -20,6 +21,10 @@ It needs aiohttp and prometheus_client: apt-get install python3-aiohttp python3-
 Exit status: 0 after SIGTERM or ctrl-C; 1 if the port cannot be used, the fleet file is wrong, or a library is missing; 2 if the
 words are wrong.
 """
+FRAME = Frame("dashboard")
+OF_AN_AGENT = (
+    "--agent-state is of the agent of a switch: name its control port and the fleet file too"
+)
 PACKAGES = {"aiohttp": "python3-aiohttp", "prometheus_client": "python3-prometheus-client"}
 
 
@@ -42,6 +47,18 @@ def parser() -> argparse.ArgumentParser:
         metavar="PORT",
         help="the control port of the switch, or the path of its control socket",
     )
+    add_options(made)
+    made.add_argument(
+        "--plan",
+        default="",
+        metavar="PLAN",
+        help="the plan of the switch's controller, which is shown too",
+    )
+    return made
+
+
+def add_options(made: argparse.ArgumentParser) -> None:
+    """Adds the options of a dashboard that name neither the switch nor the plan."""
     made.add_argument(
         "--fleet",
         default="",
@@ -64,33 +81,30 @@ def parser() -> argparse.ArgumentParser:
         help="the access log of the switch, BG_SWITCH_ACCESS_LOG",
     )
     made.add_argument(
-        "--plan",
-        default="",
-        metavar="PLAN",
-        help="the plan of the switch's controller, which is shown too",
-    )
-    made.add_argument(
         "--read-only",
         action="store_true",
         help="the page has no buttons, and no line can be sent through it",
     )
-    return made
 
 
-def judge(made: argparse.ArgumentParser, given: argparse.Namespace) -> None:
-    """Ends with status 2 where the words say nothing that can be shown."""
-    if given.control is None and not given.fleet:
-        made.error(
+def fault_beside_a_switch(given: argparse.Namespace) -> str:
+    """What is wrong with the words where a switch is shown; empty where nothing is."""
+    return OF_AN_AGENT if given.agent_state and not given.fleet else ""
+
+
+def fault_of(given: argparse.Namespace) -> str:
+    """Why the words say nothing that can be shown; empty where they do."""
+    if given.control is not None:
+        return fault_beside_a_switch(given)
+    if not given.fleet:
+        return (
             "name what is shown: the control port of a switch, a fleet file with --fleet, or both"
         )
-    if given.control is None and given.log:
-        made.error("--log is the access log of a switch: name its control port too")
-    if given.control is None and given.plan:
-        made.error("--plan is that of the controller of a switch: name its control port too")
-    if given.agent_state and (given.control is None or not given.fleet):
-        made.error(
-            "--agent-state is of the agent of a switch: name its control port and the fleet file too"
-        )
+    if given.log:
+        return "--log is the access log of a switch: name its control port too"
+    if given.plan:
+        return "--plan is that of the controller of a switch: name its control port too"
+    return OF_AN_AGENT if given.agent_state else ""
 
 
 def fleet_file(path: str) -> FleetFile | None:
@@ -98,10 +112,8 @@ def fleet_file(path: str) -> FleetFile | None:
     return read_whole_fleet_file(path) if path else None
 
 
-def main(words: Sequence[str]) -> int:
-    made = parser()
-    given = made.parse_args(words)
-    judge(made, given)
+def show(given: argparse.Namespace) -> int:
+    """Shows what the words name, until a signal comes. Gives the exit status."""
     try:
         # here, so that the other tools need no more than python's standard library
         from bg_switch_tools.dashboard import server
@@ -109,12 +121,11 @@ def main(words: Sequence[str]) -> int:
         package = PACKAGES.get(str(missing.name).split(".")[0])
         if package is None:
             raise
-        print(
-            f"dashboard: {sys.executable} has no {missing.name}. On Debian: apt-get install {package}, which installs it for "
-            "/usr/bin/python3",
-            file=sys.stderr,
+        FRAME.tell(
+            f"{sys.executable} has no {missing.name}. On Debian: apt-get install {package}, which installs it for "
+            "/usr/bin/python3"
         )
-        return 1
+        return REFUSED
     try:
         board = (
             None
@@ -128,12 +139,17 @@ def main(words: Sequence[str]) -> int:
         server.run(board, file, agent, given.listen)
     except WrongFleetFile as wrong:
         for problem in wrong.problems:
-            print(f"dashboard: {given.fleet}: {problem}", file=sys.stderr)
-        return 1
+            FRAME.tell(f"{given.fleet}: {problem}")
+        return REFUSED
     except OSError as error:
-        print(
-            f"dashboard: port {given.listen} cannot be used: {os.strerror(error.errno or 0)}",
-            file=sys.stderr,
-        )
-        return 1
+        FRAME.tell(f"port {given.listen} cannot be used: {os.strerror(error.errno or 0)}")
+        return REFUSED
     return 0
+
+
+def main(words: Sequence[str]) -> int:
+    made = parser()
+    given = made.parse_args(words)
+    if fault := fault_of(given):
+        made.error(fault)
+    return FRAME.run(lambda: show(given))

@@ -4,12 +4,10 @@ import dataclasses
 import math
 import os
 import pathlib
-import signal
 import sys
 import threading
 import time
 from collections.abc import Callable, Mapping
-from types import FrameType
 
 from bg_switch_tools.controller.controller import ROUND, ControllerFiles
 from bg_switch_tools.controller.log import Log
@@ -30,9 +28,9 @@ from bg_switch_tools.fleet.status_text import plain
 from bg_switch_tools.fleet.store import Store, StoreFault
 from bg_switch_tools.fleet.store_threads import Leading, StoreTurns, Watch
 from bg_switch_tools.fleet.time_limit import TimeLimit
+from bg_switch_tools.switch.frame import Signals
 
 TURN = 0.3  # seconds
-LOOK = 0.05  # seconds between two looks at whether a signal has come
 LONGEST_END = 1.2  # seconds for the round to end after a signal
 LONGEST_CALLS = 2.0  # seconds for the calls of the store to end that were begun before
 LONGEST_REVOKE = 2.0  # seconds of a call that ends a lease
@@ -266,13 +264,7 @@ def run_agent(file: FleetFile, arguments: AgentArguments) -> int:
 
 
 def _run_locked(file: FleetFile, settings: MachineSettings, arguments: AgentArguments) -> int:
-    signals: list[int] = []
-
-    def note(number: int, _: FrameType | None) -> None:
-        signals.append(number)
-
-    for number in (signal.SIGTERM, signal.SIGINT):
-        signal.signal(number, note)
+    signals = Signals()
     log = PlainLog(sys.stdout, arguments.as_json)
     for problem in missing_files(file):
         log.say("plan", problem)
@@ -284,8 +276,7 @@ def _run_locked(file: FleetFile, settings: MachineSettings, arguments: AgentArgu
         lambda seconds: EtcdStore(file.etcd._replace(timeout=seconds), file.fleet),
     )
     process.start()
-    while not process.stopping.is_set() and not signals:
-        time.sleep(LOOK)
+    signals.wait_while(lambda: not process.stopping.is_set())
     process.stop()
     if process.has_fault:
         return FAULT

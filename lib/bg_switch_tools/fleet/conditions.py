@@ -23,7 +23,7 @@ from bg_switch_tools.fleet.record import (
 )
 from bg_switch_tools.fleet.status_text import attempt_title
 from bg_switch_tools.fleet.store import Snapshot
-from bg_switch_tools.operator.conditions import HOLDS, MAY_COME, Outlook, WrongCondition
+from bg_switch_tools.switch.conditions import HOLDS, MAY_COME, Outlook, WrongCondition
 from bg_switch_tools.switch.json_values import NAME
 
 # `ready`: it is deploying, and all members are ready

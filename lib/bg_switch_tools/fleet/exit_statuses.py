@@ -1,6 +1,6 @@
 """The exit statuses of bin/fleet. `fleet --help` shows this table, and docs/FLEET.md repeats it."""
-from bg_switch_tools.operator.cli import INTERRUPTED
-from bg_switch_tools.operator.wait import NEVER, REACHED
+from bg_switch_tools.switch.frame import INTERRUPTED
+from bg_switch_tools.switch.wait import NEVER, REACHED
 
 DONE, REFUSED, WRONG_WORDS, NO_ANSWER, TAKEN, FAULT = REACHED, NEVER, 2, 4, 5, 70
 

@@ -8,7 +8,7 @@ from bg_switch_tools.fleet.status import status_of
 from bg_switch_tools.fleet.status_text import draw
 from bg_switch_tools.fleet.store import Snapshot, StoreFault
 from bg_switch_tools.fleet.wait import LONGEST_WATCH, PAUSE, wait_for_change
-from bg_switch_tools.operator.watch import CLEAR, fitting
+from bg_switch_tools.switch.watch import CLEAR, fitting
 
 
 class Drawing:

@@ -1,1 +1,1 @@
-"""bin/operator: it sends lines to a switch, shows its state, and waits for conditions."""
+"""bin/operator: an alias of bgctl for scripts, which names the control port first."""

@@ -52,6 +52,8 @@ LINES = (
     Line("quit", "shuts the switch down: no operator is answered any more", "quit"),
 )
 
+LINE_WORDS = tuple(dict.fromkeys(line.syntax.split()[0] for line in LINES))  # their first words
+
 # The sentences of the switch itself: those of its error types. tests/test_sentences.py compares
 # them.
 REFUSALS = {

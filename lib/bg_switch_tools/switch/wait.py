@@ -3,23 +3,27 @@ import time
 from collections.abc import Callable
 from typing import NamedTuple
 
-from bg_switch_tools.controller.announced_deploy import Announcement
-from bg_switch_tools.operator.conditions import Conditions
-from bg_switch_tools.switch.connection import Unreachable, ask
-from bg_switch_tools.switch.control import Control
+from bg_switch_tools.switch.client import Switch
+from bg_switch_tools.switch.conditions import Conditions
+from bg_switch_tools.switch.connection import Unreachable
 from bg_switch_tools.switch.report_text import in_one_line
-from bg_switch_tools.switch.reports import NoReport, Report, read_report
+from bg_switch_tools.switch.reports import NoReport, Report
 
 PAUSE = 0.2  # seconds between two reports
 REACHED, NEVER, TOO_LATE = 0, 1, 2
 
 
-class WaitLimits(NamedTuple):
-    """The seconds that a wait has, and those within which the switch has to answer each
-    question."""
+class Announcement(NamedTuple):
+    """The name of the revision whose deploy is announced; None where none is. `refusal` says why it
+    is held back, `absence` why no controller deploys it, and `trouble` why it is not deployed yet;
+    empty where nothing prevents it. `overtaken` says that another edit has overtaken a deploy that
+    is awaited."""
 
-    whole: float
-    answer: float
+    name: str | None = None
+    refusal: str = ""
+    absence: str = ""
+    trouble: str = ""
+    overtaken: str = ""
 
 
 class WaitResult(NamedTuple):
@@ -37,27 +41,25 @@ def nothing_comes() -> Announcement:
 
 
 def wait_for(
-    control: Control,
+    switch: Switch,
     conditions: Conditions,
-    limits: WaitLimits,
+    longest: float,
     see: Callable[[Report], None],
     announced: Callable[[], Announcement] = nothing_comes,
 ) -> WaitResult:
-    """Waits for conditions, as long as the limits say. `see` is given each report. `announced`
-    gives the revision whose deploy a plan announces: up to that deploy the wait goes on, unless the
-    deploy was refused.
+    """Waits for conditions, for `longest` seconds. `see` is given each report. `announced` gives the
+    revision whose deploy a plan announces: up to that deploy the wait goes on, unless the deploy
+    was refused.
 
     A switch that does not answer in time, or has no book yet, is asked again.
     """
-    deadline = time.monotonic() + limits.whole
+    deadline = time.monotonic() + longest
     report: Report | None = None
     state = "the switch was not asked"
     while True:
         coming = announced()  # before the report: what was deployed by then, the report shows
         try:
-            report = read_report(
-                ask(control, b"report", max(min(limits.answer, deadline - time.monotonic()), PAUSE))
-            )
+            report = switch.report(max(min(switch.wait, deadline - time.monotonic()), PAUSE))
             state = in_one_line(report)
         except (Unreachable, NoReport) as error:
             report, state = None, str(error)
@@ -83,6 +85,6 @@ def wait_for(
     state += "".join(f"; {why}" for why in (coming.trouble, coming.absence) if why)
     return WaitResult(
         TOO_LATE,
-        f"{' '.join(conditions.texts)} does not hold after {limits.whole:g} seconds: {state}",
+        f"{' '.join(conditions.texts)} does not hold after {longest:g} seconds: {state}",
         report,
     )

@@ -4,11 +4,10 @@ import sys
 import time
 from collections.abc import Sequence
 
-from bg_switch_tools.switch.connection import ask
-from bg_switch_tools.switch.control import Control
+from bg_switch_tools.switch.client import Switch
 from bg_switch_tools.switch.report_changes import changes
 from bg_switch_tools.switch.report_text import draw
-from bg_switch_tools.switch.reports import Report, read_report
+from bg_switch_tools.switch.reports import Report
 
 SECONDS = 1  # between two drawings
 CLEAR = "\x1b[H\x1b[J"  # to the upper left corner, and empties the screen
@@ -29,9 +28,8 @@ def dated(before: Report | None, now: Report | None) -> list[str]:
     return [moment + change for change in changes(before, now)]
 
 
-def watch(control: Control, wait: float) -> None:
-    """Draws until it is interrupted, or the switch does not answer for so many seconds
-    (`Unreachable`).
+def watch(switch: Switch) -> None:
+    """Draws until it is interrupted, or the switch does not answer in time (`Unreachable`).
 
     At a terminal the screen is drawn anew each second. Elsewhere a block of plain text is written
     at first, and then after each change of anything but the moment and the numbers of open
@@ -41,7 +39,7 @@ def watch(control: Control, wait: float) -> None:
     seen: list[str] = []
     before: Report | None = None
     while True:
-        report = read_report(ask(control, b"report", wait))
+        report = switch.report()
         new = [] if is_first else dated(before, report)
         seen = (seen + new)[-MOST_SEEN:]
         if is_terminal:

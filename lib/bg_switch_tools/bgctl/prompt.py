@@ -1,11 +1,11 @@
 """A prompt at a terminal."""
 from collections.abc import Callable, Sequence
 
-from bg_switch_tools.operator.commands import help_lines
-from bg_switch_tools.operator.line_sender import Reply, send_line
+from bg_switch_tools.bgctl.target import Unusable
+from bg_switch_tools.switch.client import Reply, Switch
 from bg_switch_tools.switch.connection import Unreachable, words_of
 from bg_switch_tools.switch.control import Control, place_of
-from bg_switch_tools.switch.lines import with_meaning
+from bg_switch_tools.switch.lines import LINES, Line, with_meaning
 from bg_switch_tools.switch.reports import NoReport
 
 try:
@@ -14,7 +14,15 @@ except ImportError:
     pass
 
 LEAVE = ("quit", "exit")
+HELP = Line("help", "lists the lines and commands", "help")
+LEAVING = Line("quit, exit, ctrl-D", "leave this prompt; the switch continues", "exit")
+WIDTH = 20  # of the column of the forms
 PromptCommand = Callable[[Sequence[str]], object]
+
+
+def listed(lines: Sequence[Line]) -> list[str]:
+    """A line for each, with what it does."""
+    return [f"  {line.syntax:{WIDTH}} {line.meaning}" for line in lines]
 
 
 def show_at_terminal(reply: Reply) -> None:
@@ -38,12 +46,18 @@ def confirm_shutdown(control: Control) -> bool:
 
 
 class Prompt:
-    """Carries out the lines of a terminal. `commands` are those that are no lines of the switch."""
+    """Carries out the lines of a terminal. `commands` are those that are no lines of the switch;
+    `described` is what its help says of them."""
 
-    def __init__(self, control: Control, wait: float, commands: dict[str, PromptCommand]) -> None:
-        self.control = control
-        self.wait = wait
+    def __init__(
+        self,
+        switch: Switch,
+        commands: dict[str, PromptCommand],
+        described: Sequence[Line] = (),
+    ) -> None:
+        self.switch = switch
         self.commands = commands
+        self.described = described
 
     def run_line(self, text: str) -> bool:
         """Runs a command, or sends a line. Gives whether the prompt goes on."""
@@ -54,13 +68,14 @@ class Prompt:
         if words[0] in LEAVE and len(words) == 1:
             return False
         if words == ["help"]:
-            print("\n".join(help_lines(at_prompt=True)))
+            sent = [line for line in LINES if line.syntax != "quit"]  # which leaves the prompt
+            print("\n".join(listed([*sent, *self.described, HELP, LEAVING])))
         elif words == ["shutdown"]:
             return not self.shut_down()
         elif words[0] in self.commands:
             self.run_command(words)
         else:
-            show_at_terminal(send_line(self.control, line, self.wait, is_idempotent=False))
+            show_at_terminal(self.switch.send(line))
         return True
 
     def run_command(self, words: Sequence[str]) -> None:
@@ -72,10 +87,10 @@ class Prompt:
 
     def shut_down(self) -> bool:
         """Asks, and sends `quit`. Gives whether it did."""
-        if not confirm_shutdown(self.control):
+        if not confirm_shutdown(self.switch.control):
             print("The switch continues.")
             return False
-        send_line(self.control, b"quit", self.wait, is_idempotent=False)
+        self.switch.shut_down()
         print("The switch shuts down.")
         return True
 
@@ -83,13 +98,13 @@ class Prompt:
         """Carries lines out until `quit`, `exit`, the end of the input or ctrl-C. A line that is
         refused ends nothing."""
         print(
-            f"The switch at {place_of(self.control)}. help lists the lines; quit leaves this prompt."
+            f"The switch at {place_of(self.switch.control)}. help lists the lines; quit leaves this prompt."
         )
         goes_on = True
         while goes_on:
             try:
-                goes_on = self.run_line(input(f"{self.control}> "))
-            except (Unreachable, NoReport, ValueError) as reason:
+                goes_on = self.run_line(input(f"{self.switch.control}> "))
+            except (Unreachable, NoReport, Unusable, ValueError) as reason:
                 print(reason)
             except (EOFError, KeyboardInterrupt):
                 print()

@@ -1,0 +1,125 @@
+"""A command of bgctl, declared once: its name, what it does, its arguments, and the function that
+carries it out."""
+import argparse
+import dataclasses
+import json
+import sys
+from collections.abc import Callable, Mapping
+from typing import Any
+
+from bg_switch_tools.bgctl.exit_statuses import DONE, REFUSED
+from bg_switch_tools.bgctl.target import Target
+from bg_switch_tools.switch.arguments import seconds_of
+from bg_switch_tools.switch.client import WAIT, Reply, Switch
+from bg_switch_tools.switch.frame import Frame
+from bg_switch_tools.switch.lines import Line, with_meaning
+
+LONGEST_WAIT = 600.0  # seconds that a command waits, where nothing else is said
+Completer = Callable[..., list[str]]
+
+
+@dataclasses.dataclass(frozen=True)
+class Argument:
+    """An argument or an option: its word, and what argparse is told of it. `completer` gives the
+    words that can stand there, as argcomplete asks for them."""
+
+    word: str
+    settings: Mapping[str, Any]
+    completer: Completer | None = None
+
+    def add_to(self, parser: argparse.ArgumentParser) -> None:
+        action = parser.add_argument(self.word, **self.settings)
+        if self.completer is not None:
+            setattr(action, "completer", self.completer)
+
+
+def argument(
+    word: str, metavar: str, help: str, completer: Completer | None = None, **settings: Any
+) -> Argument:
+    """A word that a command takes by its place, or an option with a value."""
+    return Argument(word, {"metavar": metavar, "help": help, **settings}, completer)
+
+
+def flag(word: str, help: str) -> Argument:
+    """An option without a value."""
+    return Argument(word, {"action": "store_true", "help": help})
+
+
+JSON = flag("--json", "prints JSON")
+UNTIL_THE_END = flag("--wait", "waits for the end of the attempt, which gives the exit status")
+
+
+def timeout_of(what: str) -> Argument:
+    text = f"how long {what} waits ({LONGEST_WAIT:g})"
+    return argument("--timeout", "SECONDS", text, type=seconds_of, default=LONGEST_WAIT)
+
+
+class CommandRun:
+    """A run of a command: the words that were given, the switch and the plan that they are about,
+    and what is shown and told. `explain` prints the help of a command, or of all."""
+
+    def __init__(
+        self,
+        frame: Frame,
+        given: argparse.Namespace,
+        target: Target,
+        explain: Callable[[str | None], None],
+    ) -> None:
+        self.frame = frame
+        self.given = given
+        self.target = target
+        self.explain = explain
+        self.is_json: bool = getattr(given, "json", False)
+
+    def at(self, target: Target) -> "CommandRun":
+        """The same about another switch or plan."""
+        return CommandRun(self.frame, self.given, target, self.explain)
+
+    def tell(self, text: str) -> None:
+        """Writes a line to standard error, with the name of the tool."""
+        self.frame.tell(text)
+
+    def switch(self) -> Switch:
+        """The switch. `Unusable` where nothing names it."""
+        return Switch(self.target.control(), getattr(self.given, "request_timeout", WAIT))
+
+    def show_json(self, told: object) -> None:
+        print(json.dumps(told), flush=True)
+
+    def show(self, reply: Reply) -> int:
+        """Prints a reply. What it means is no part of it: away from a terminal that goes to
+        standard error. Gives the exit status."""
+        is_plain_terminal = sys.stdout.isatty() and not self.is_json
+        if self.is_json:
+            self.show_json(reply.as_json())
+        for line in [] if self.is_json else reply.lines:
+            print(with_meaning(line) if is_plain_terminal else line, flush=True)
+        if reply.note:
+            self.tell(reply.note)
+        elif reply.meaning and not is_plain_terminal:
+            self.tell(f"{reply.lines[0]}: {reply.meaning}")
+        return DONE if reply.carried_out else REFUSED
+
+
+def no_fault(_: argparse.Namespace) -> str:
+    """Nothing is wrong with words that are each right."""
+    return ""
+
+
+@dataclasses.dataclass(frozen=True)
+class Command:
+    """A command. `more` is told by its help alone. `fault` says what is wrong with words that are each
+    right. `line` is what the prompt and bin/operator say of it, where they have it too. A command that
+    is a tool of its own adds the options of that tool by `add_options`. One with a target has the
+    options that name the switch and the plan."""
+
+    name: str
+    meaning: str
+    example: str
+    run: Callable[[CommandRun], int]
+    arguments: tuple[Argument, ...] = ()
+    more: str = ""
+    fault: Callable[[argparse.Namespace], str] = no_fault
+    line: Line | None = None
+    add_options: Callable[[argparse.ArgumentParser], None] | None = None
+    has_target: bool = True
