@@ -1,5 +1,5 @@
 -- The outcome of a connection, and the bytes that were written to its client.
-use Rattle.std.specs.Prelude.{◌≡◌, ◌⊎◌, ℕ, IfSome, if◌then◌else◌, List}
+use Rattle.std.specs.Prelude.{◌≡◌, ◌⊎◌, ℕ, IfSome, if◌then◌else◌, false, List}
 use Rattle.std.specs.Prelude.{[], ◌++◌, Option, Some, None, Result, Ok, Err, ⊤}
 use Rattle.std.specs.Io.KnownBytes.{Appends}
 use Rattle.bg_rollout.specs.declared.ticket.Ticket.{Ticket}
@@ -70,7 +70,7 @@ MayEnd (Ok request) (Some t) e = MayEndInside e
 -- the text of a response with this code to the request that was read
 abbrev pub IsResponseText : ReadOutcome → ℕ → List ℕ → Type 0
 IsResponseText (Ok request) code text =
-    (response : Response) × (response.code ≡ code) × (text ≡ response_text request response)
+    (response : Response) × (response.code ≡ code) × (text ≡ response_text false request response)
 IsResponseText (Err fault) code text = ⊥
 
 -- the bytes that are written to the client last, by the end of the connection

@@ -1,5 +1,5 @@
 //! Handles a request that entered, and answers its client.
-ghost use Rattle.std.specs.Prelude.{◌≡◌, ◌<◌, ◌⊎◌, [], IfErr, IfOk, IfSome, IsTrue, None, OnOk, Ok};
+ghost use Rattle.std.specs.Prelude.{◌≡◌, ◌<◌, ◌⊎◌, [], false, IfErr, IfOk, IfSome, IsTrue, None, OnOk, Ok};
 ghost use Rattle.std.specs.Io.KnownBytes.{Appends, Keeps};
 ghost use Rattle.bg_http.specs.Statuses.{is_refusal};
 ghost use Rattle.bg_http.specs.Texts.{refusal_text, request_text, response_text};
@@ -18,7 +18,9 @@ use crate::serving::{End, Worker};
 use crate::streams::ClientStream;
 use bg_book::GoOn;
 use bg_dial::{Dial, Dialled};
-use bg_http::{MOST_TURNS, Request, Response, write_refusal, write_request, write_response};
+use bg_http::{
+    MOST_TURNS, Persistence, Request, Response, write_refusal, write_request, write_response,
+};
 use bg_http_read::ResponseParser;
 use bg_ledger::{Names, Seat};
 use std::io;
@@ -104,9 +106,9 @@ fn send_request<S: Write>(
 ) -> io::Result<()>
     requires { held upstream.old ≡ [] }
     ensures { OnOk result (Appends (S.contents (stream_of upstream.old))
-        (S.contents (stream_of upstream.new)) (request_text request.now port)) }
+        (S.contents (stream_of upstream.new)) (request_text false request.now port)) }
 {
-    write_request(request, port, upstream)?;
+    write_request(request, port, Persistence::Close, upstream)?;
     upstream.flush()
 }
 
@@ -211,9 +213,9 @@ fn send_response<S: Write>(
 ) -> io::Result<()>
     requires { held client.old ≡ [] }
     ensures { OnOk result (Appends (S.contents (stream_of client.old))
-        (S.contents (stream_of client.new)) (response_text request.now response.now)) }
+        (S.contents (stream_of client.new)) (response_text false request.now response.now)) }
 {
-    write_response(request, response, client)?;
+    write_response(request, response, Persistence::Close, client)?;
     client.flush()
 }
 

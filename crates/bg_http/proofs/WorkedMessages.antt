@@ -173,12 +173,17 @@ get_request =
       body = None;
     }
 
-get_goes_on : request_text get_request 9001
+get_goes_on : request_text false get_request 9001
     ≡ codes "GET /a HTTP/1.1\r\nHost: x\r\nVia: 1.1 bg-switch\r\nConnection: close\r\n\r\n"
 get_goes_on = refl
 
+-- on a connection that is kept, no line speaks of the connection
+get_goes_on_kept : request_text true get_request 9001
+    ≡ codes "GET /a HTTP/1.1\r\nHost: x\r\nVia: 1.1 bg-switch\r\n\r\n"
+get_goes_on_kept = refl
+
 -- a request in version 1.0 without Host is forwarded with a Host that names the endpoint
-old_goes_on : request_text (record {
+old_goes_on : request_text false (record {
   method = codes "POST";
   target = codes "/p";
   minor = 0;
@@ -190,7 +195,7 @@ unfolding digits
 old_goes_on = refl
 
 -- a chunked body is forwarded with a length, and an answered expectation isn't forwarded
-chunks_go_on : request_text (record {
+chunks_go_on : request_text false (record {
   method = codes "POST";
   target = codes "/p";
   minor = 1;
@@ -202,7 +207,7 @@ unfolding digits
 chunks_go_on = refl
 
 -- names in any case are removed, but never Host; Via is kept; an empty body is sent with a length
-fields_go_on : request_text (record {
+fields_go_on : request_text false (record {
   method = codes "PUT";
   target = codes "/";
   minor = 1;
@@ -297,7 +302,7 @@ not_told_of_204 : length_told (answer 1 204 (length_field (codes "5") ∷ [])) �
 not_told_of_204 = refl
 
 -- responses as they are forwarded
-chunks_go_back : response_text get_request (record {
+chunks_go_back : response_text false get_request (record {
   code = 200;
   reason = codes "OK";
   fields = coding_field (codes "chunked") ∷ [];
@@ -308,7 +313,19 @@ chunks_go_back : response_text get_request (record {
 unfolding digits
 chunks_go_back = refl
 
-head_goes_back : response_text head_request (record {
+-- on a connection that is kept, no line speaks of the connection
+answer_goes_back_kept : response_text true get_request (record {
+  code = 200;
+  reason = codes "OK";
+  fields = (codes "Connection", codes "keep-alive, X-Drop") ∷ (codes "X-Drop", codes "1") ∷ [];
+  length = Some (codes "3");
+  body = codes "abc";
+})
+    ≡ codes "HTTP/1.1 200 OK\r\nContent-Length: 3\r\n\r\nabc"
+unfolding digits
+answer_goes_back_kept = refl
+
+head_goes_back : response_text false head_request (record {
   code = 200;
   reason = codes "OK";
   fields = length_field (codes "10") ∷ [];
@@ -319,7 +336,7 @@ head_goes_back : response_text head_request (record {
 unfolding digits
 head_goes_back = refl
 
-nothing_goes_back : response_text get_request (record {
+nothing_goes_back : response_text false get_request (record {
   code = 204;
   reason = codes "No Content";
   fields = length_field (codes "5") ∷ [];
@@ -331,7 +348,7 @@ unfolding digits
 nothing_goes_back = refl
 
 -- Via and Expect of a response are kept, and so is the space before an empty reason
-fields_go_back : response_text get_request (record {
+fields_go_back : response_text false get_request (record {
   code = 200;
   reason = [];
   fields = (codes "Via", codes "1.1 b") ∷ (codes "Expect", codes "100-continue") ∷ (codes "X", codes "1") ∷ (codes "connection", codes "x") ∷ [];

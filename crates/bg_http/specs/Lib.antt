@@ -5,6 +5,7 @@ pub mod Laws
 pub mod Lengths
 pub mod Names
 pub mod FieldPlaces
+pub mod Persistences
 pub mod Removed
 pub mod RequestRules
 pub mod ResponseRules

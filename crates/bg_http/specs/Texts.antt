@@ -1,5 +1,5 @@
 -- The bytes in which messages are written (RFC 9112 sections 2.1, 3, 4 and 5).
-use Rattle.std.specs.Prelude.{ℕ, not, if◌then◌else◌, ◌==◌, ◌&&◌, List, [], ◌++◌, length, flat_map, codes, Option, Some, None}
+use Rattle.std.specs.Prelude.{ℕ, Bool, true, false, not, if◌then◌else◌, ◌==◌, ◌&&◌, List, [], ◌++◌, length, flat_map, codes, Option, Some, None}
 use Rattle.std.specs.Fmt.{decimal}
 use Rattle.bg_http.specs.Elements.{Field, has_field}
 use Rattle.bg_http.specs.Removed.{kept_in_request, kept_in_response}
@@ -36,16 +36,17 @@ abbrev pub bytes_of : Option (List ℕ) → List ℕ
 bytes_of None = []
 bytes_of (Some body) = body
 
--- the last line of each head, and the empty line after it
-abbrev pub end_of_head : List ℕ
-end_of_head = codes "Connection: close\r\n\r\n"
+-- the end of a head: on a connection that is not kept, its last line says so
+abbrev pub end_of_head : Bool → List ℕ
+end_of_head true = codes "\r\n"
+end_of_head false = codes "Connection: close\r\n\r\n"
 
--- a request as it is forwarded to the port
-abbrev pub request_text : Request → ℕ → List ℕ
-request_text request port =
+-- a request as it is forwarded to the port, on a connection that is kept or not
+abbrev pub request_text : Bool → Request → ℕ → List ℕ
+request_text keeps request port =
     request_line request ++ host_line request port
     ++ flat_map field_line (kept_in_request request.fields)
-    ++ via_line request ++ size_line request.body ++ end_of_head ++ bytes_of request.body
+    ++ via_line request ++ size_line request.body ++ end_of_head keeps ++ bytes_of request.body
 
 -- the space before the reason is always there
 abbrev pub status_line : Response → List ℕ
@@ -64,11 +65,11 @@ length_line (Some digits) = digits_line digits
 abbrev pub body_sent : Request → Response → List ℕ
 body_sent request response = if has_no_body request response.code then [] else response.body
 
--- a response as it is forwarded to the client
-abbrev pub response_text : Request → Response → List ℕ
-response_text request response =
+-- a response as it is forwarded to the client, on a connection that is kept or not
+abbrev pub response_text : Bool → Request → Response → List ℕ
+response_text keeps request response =
     status_line response ++ flat_map field_line (kept_in_response response.fields)
-    ++ length_line response.length ++ end_of_head ++ body_sent request response
+    ++ length_line response.length ++ end_of_head keeps ++ body_sent request response
 
 -- the reason of a refusal (RFC 9110 section 15, RFC 6585 section 5)
 abbrev pub reason_of : ℕ → List ℕ

@@ -4,6 +4,7 @@
 //! fails, a part of the text may have been written.
 ghost use Rattle.std.specs.Prelude.{◌≡◌, OnOk, IsTrue, flat_map};
 ghost use Rattle.std.specs.Io.KnownBytes.{Appends};
+ghost use Rattle.bg_http.specs.Persistences.{keeps};
 ghost use Rattle.bg_http.specs.Removed.{kept_in_request, kept_in_response};
 ghost use Rattle.bg_http.specs.Statuses.{is_refusal};
 ghost use Rattle.bg_http.specs.Texts as spec;
@@ -13,6 +14,7 @@ use crate::elements::has_field;
 use crate::field::Field;
 use crate::fields::Fields;
 use crate::names::RuledName;
+use crate::persistence::Persistence;
 use crate::removed::{is_removed, is_removed_from_request};
 use crate::request::Request;
 use crate::response::Response;
@@ -22,23 +24,40 @@ use std::io::Write;
 
 /// Writes a request as it is forwarded to 127.0.0.1 at `port`: its first line in version 1.1; a
 /// Host if a request of version 1.0 has none; the fields that are not removed, in order; Via with
-/// the version that was received; Content-Length if there is a body; `Connection: close`; the body
-/// (RFC 9110 section 7.6, RFC 9112 section 3.2). On Ok it has written exactly this.
+/// the version that was received; Content-Length if there is a body; `Connection: close` unless the
+/// connection is kept; the body (RFC 9110 section 7.6, RFC 9112 sections 3.2 and 9.3). On Ok it has
+/// written exactly this.
 ///
 /// It removes Connection and each field that it names, except Host; Keep-Alive, Proxy-Connection,
 /// TE, Transfer-Encoding, Upgrade, Trailer and Content-Length; and an Expect whose value is
 /// `100-continue`.
-pub fn write_request<W: Write>(request: &Request, port: u16, writer: &mut W) -> io::Result<()>
+pub fn write_request<W: Write>(
+    request: &Request,
+    port: u16,
+    persistence: Persistence,
+    writer: &mut W,
+) -> io::Result<()>
     ensures { OnOk result (Appends (W.contents writer.old) (W.contents writer.new)
-        (spec.request_text request.now port)) }
+        (spec.request_text (keeps persistence) request.now port)) }
 {
     write_request_line(request, writer)?;
     write_host(request, port, writer)?;
     write_request_fields(&request.fields, writer)?;
     write_via(request, writer)?;
     write_size(&request.body, writer)?;
-    writer.write_all(b"Connection: close\r\n\r\n")?;
+    write_end_of_head(persistence, writer)?;
     write_given(&request.body, writer)
+}
+
+/// Ends a head, and says first that the connection is closed, unless it is kept.
+fn write_end_of_head<W: Write>(persistence: Persistence, writer: &mut W) -> io::Result<()>
+    ensures { OnOk result (Appends (W.contents writer.old) (W.contents writer.new)
+        (spec.end_of_head (keeps persistence))) }
+{
+    match persistence {
+        Persistence::Close => writer.write_all(b"Connection: close\r\n\r\n"),
+        Persistence::Keep => writer.write_all(b"\r\n"),
+    }
 }
 
 fn write_request_line<W: Write>(request: &Request, writer: &mut W) -> io::Result<()>
@@ -121,23 +140,25 @@ fn write_given<W: Write>(body: &Option<Bytes>, writer: &mut W) -> io::Result<()>
 
 /// Writes the response to a request as it is forwarded to the client: its first line in version
 /// 1.1; the fields that are not removed, in order; Content-Length if `length` gives one;
-/// `Connection: close`; the body, unless the method is HEAD or the code is 204 or 304 (RFC 9110
-/// section 7.6, RFC 9112 section 6.3). On Ok it has written exactly this.
+/// `Connection: close` unless the connection is kept; the body, unless the method is HEAD or the
+/// code is 204 or 304 (RFC 9110 section 7.6, RFC 9112 sections 6.3 and 9.3). On Ok it has written
+/// exactly this.
 ///
 /// It removes Connection and each field that it names, except Host; Keep-Alive, Proxy-Connection,
 /// TE, Transfer-Encoding, Upgrade, Trailer and Content-Length.
 pub fn write_response<W: Write>(
     request: &Request,
     response: &Response,
+    persistence: Persistence,
     writer: &mut W,
 ) -> io::Result<()>
     ensures { OnOk result (Appends (W.contents writer.old) (W.contents writer.new)
-        (spec.response_text request.now response.now)) }
+        (spec.response_text (keeps persistence) request.now response.now)) }
 {
     write_status_line(response, writer)?;
     write_response_fields(&response.fields, writer)?;
     write_length(&response.length, writer)?;
-    writer.write_all(b"Connection: close\r\n\r\n")?;
+    write_end_of_head(persistence, writer)?;
     write_sent(request, response, writer)
 }
 

@@ -14,16 +14,16 @@ use Rattle.bg_http.specs.Elements.{Field}
 use Rattle.bg_http.specs.Removed.{is_removed, kept_in_response}
 use Rattle.bg_http.specs.ResponseRules.{digits_or_zero, has_no_body, is_bad_code, is_interim}
 use Rattle.bg_http.specs.Lengths.{without_zeros}
-use Rattle.bg_http.specs.Texts.{body_sent, field_line, length_line, status_line}
+use Rattle.bg_http.specs.Texts.{body_sent, field_line, length_line, response_text, status_line}
 use Rattle.bg_http.specs.declared.request.Request.{Request}
 use Rattle.bg_http.specs.declared.response.Response.{Response}
 use Rattle.bg_http.specs.declared.response.ResponseHead.{ResponseHead}
-use Rattle.bg_http_read.specs.AnsweredRequests.{kept_response_text, length_fields}
+use Rattle.bg_http_read.specs.AnsweredRequests.{length_fields}
 use Rattle.bg_http_read.specs.ForwardedRequests.{closing_fields}
-use Rattle.bg_http_read.specs.ResponseHeads.{response_parts}
+use Rattle.bg_http_read.specs.Heads.{response_parts}
 use Rattle.bg_http_read.specs.Responses.{most_response_body}
 use Rattle.bg_http_read.proofs.FieldTexts.{IsGood, as_field, good_closing, good_length, goods_are_fields, goods_are_read, lines_are, nothing_good, one_good}
-use Rattle.bg_http_read.proofs.ForwardedHeads.{end_is, end_of}
+use Rattle.bg_http_read.proofs.ForwardedHeads.{end_is}
 
 -- the length is a number
 abbrev pub IsNumber : Option (List ℕ) → Type 0
@@ -97,20 +97,12 @@ regroup_of : (a s d r e k l c b : List ℕ)
     ≡ a ++ (s ++ d) ++ (s ++ r) ++ e ++ ((k ++ (l ++ c)) ++ e) ++ b
 regroup_of a s d r e k l c b = simp append_assoc
 
-text_ends : (keeps : Bool) (request : Request) (response : Response)
-    → kept_response_text keeps request response
-    ≡ status_line response ++ flat_map field_line (kept_in_response response.fields)
-    ++ length_line response.length ++ end_of keeps ++ body_sent request response
-text_ends true request response = refl
-text_ends false request response = refl
-
 text_is : (keeps : Bool) (request : Request) (response : Response)
-    → kept_response_text keeps request response
+    → response_text keeps request response
     ≡ print_response (tree_of keeps response) ++ body_sent request response
 unfolding print_response
 text_is keeps request response =
-    text_ends keeps request response
-    ∙ ap (λ e. status_line response ++ flat_map field_line (kept_in_response response.fields)
+    ap (λ e. status_line response ++ flat_map field_line (kept_in_response response.fields)
     ++ length_line response.length ++ e ++ body_sent request response) (sym (end_is keeps))
     ∙ regroup_of (codes "HTTP/1.1") (32 ∷ []) (decimal response.code) response.reason crlf_bytes
     (flat_map field_line (kept_in_response response.fields)) (length_line response.length)
@@ -131,7 +123,7 @@ answered_head keeps response = record {
 pub one_head_is_answered : (keeps : Bool) (request : Request) (response : Response) (more : List ℕ)
     → IsWritable request response
     → (tree : grammar.ResponseHead)
-    × grammar.ReadsResponse (kept_response_text keeps request response ++ more) tree (body_sent request response ++ more)
+    × grammar.ReadsResponse (response_text keeps request response ++ more) tree (body_sent request response ++ more)
     × (answered_head keeps response ≡ response_parts tree)
 one_head_is_answered keeps request response more w =
     let goods = good_fields keeps request response w in (

@@ -8,16 +8,16 @@ use Rattle.std.proofs.lemmas.List.Sums.{AllPass-from_list_all}
 use Rattle.httparse.specs.Grammar.{crlf, is_value_byte, print_response}
 use Rattle.httparse.proofs.GrammarLemmas.{response_unique}
 use Rattle.bg_http.specs.ResponseRules.{has_no_body, response_framing}
-use Rattle.bg_http.specs.Texts.{body_sent, reason_of, refusal_text}
+use Rattle.bg_http.specs.Texts.{body_sent, reason_of, refusal_text, response_text}
 use Rattle.bg_http.specs.declared.request.Request.{Request}
 use Rattle.bg_http.specs.declared.response.Response.{Response}
 use Rattle.bg_http.specs.declared.response.ResponseHead.{ResponseHead}
 use Rattle.bg_http.specs.declared.response_rules.ResponseFraming.{ResponseFraming}
 use Rattle.bg_http.specs.declared.response_rules.ResponseFraming.TheVariants as framing
-use Rattle.bg_http_read.specs.AnsweredRequests.{Answer, Answering, AreReadAsAnswered, IsAnswered, MayAnswer, answer_text, answered, client_text, forwarded_response, forwards, kept_response_text, refusal, refuses, response_of}
+use Rattle.bg_http_read.specs.AnsweredRequests.{Answer, Answering, AreReadAsAnswered, IsAnswered, MayAnswer, answer_text, answered, client_text, forwarded_response, forwards, refusal, refuses, response_of}
 use Rattle.bg_http_read.specs.AnySize.{JudgedOfAnySize, ReadsAfterInterim, ReadsResponseOfAnySize}
 use Rattle.bg_http_read.specs.Requests.{continue_text}
-use Rattle.bg_http_read.specs.ResponseHeads.{response_parts}
+use Rattle.bg_http_read.specs.Heads.{response_parts}
 use Rattle.bg_http_read.specs.Responses.{ReadsResponseBody}
 use Rattle.bg_http_read.proofs.AnsweredHeads.{IsWritable, answered_head, one_head_is_answered}
 use Rattle.bg_http_read.proofs.AnsweredRules.{answer_is, answer_passes, answered_framing}
@@ -94,7 +94,7 @@ continue_is_interim request rest = record {
 
 response_is_read : NoneGoesOn (codes "transfer-encoding") → NoneGoesOn (codes "content-length") → (keeps : Bool)
     (request : Request) (response : Response) (more : List ℕ) → IsWritable request response
-    → ReadsAfterInterim request 0 (forwarded_response keeps response) (kept_response_text keeps request response ++ more) more
+    → ReadsAfterInterim request 0 (forwarded_response keeps response) (response_text keeps request response ++ more) more
 response_is_read codings lengths keeps request response more w =
     let found = one_head_is_answered keeps request response more w in (
       answered_head keeps response,
@@ -110,7 +110,7 @@ response_is_read codings lengths keeps request response more w =
     )
 
 -- a refusal is written as a response without fields
-refusal_is : (request : Request) (status : ℕ) → refusal_text status ≡ kept_response_text false request (refusal status)
+refusal_is : (request : Request) (status : ℕ) → refusal_text status ≡ response_text false request (refusal status)
 refusal_is request status =
     parts (codes "HTTP/1.1 ") (decimal status) (codes " ") (reason_of status) (codes "\r\n")
     (codes "Content-Length: 0\r\n") (codes "Connection: close\r\n\r\n")

@@ -10,10 +10,11 @@ use Rattle.bg_http_read.specs.declared.message_fault.MessageFault.TheVariants as
 use Rattle.bg_http_read.specs.BodyFaults.{Failure, malformed, large, cut, LineFails, LineEndFails, TrailersFail, FailsAt, at_line, at_size, after_data, at_trailers, ChunksFail, LengthFails}
 use Rattle.bg_http_read.specs.Chunks.{ReadsChunk, Leads}
 use Rattle.bg_http_read.specs.HeadFaults.{RequestHeadFails}
+use Rattle.bg_http_read.specs.Heads.{request_heads}
 use Rattle.bg_http_read.specs.Requests.{FramedBodyFails, RequestBodyFails, RequestFails}
 use Rattle.bg_http_read.proofs.ChunkLines.{line_more, malformed_line_more}
 use Rattle.bg_http_read.proofs.InterimOrder.{compare}
-use Rattle.bg_http_read.proofs.RequestHeadsFound.{request_head_more, request_head_fails_more}
+use Rattle.bg_http_read.proofs.HeadsFound.{head_fails_more, head_more, request_laws}
 use Rattle.bg_http_read.proofs.TrailersFound.{malformed_trailers_more}
 
 line_stays : (failure : Failure) (input more : List ℕ) → (failure ≡ cut → ⊥)
@@ -141,9 +142,9 @@ head_stays : (input more : List ℕ) (e : RequestFault) → (e ≡ fault.Closed 
 head_stays input more fault.ReadFailed whole h = tt
 head_stays input more fault.WriteFailed whole h = h
 head_stays input more fault.HeadTooLarge whole h =
-    request_head_fails_more input more message_fault.HeadTooLarge h
+    head_fails_more request_heads request_laws input more message_fault.HeadTooLarge h
 head_stays input more fault.Bad whole h =
-    request_head_fails_more input more message_fault.Bad h
+    head_fails_more request_heads request_laws input more message_fault.Bad h
 head_stays input more fault.Closed whole h = absurd (whole refl)
 head_stays input more fault.NotDone whole h = h
 head_stays input more fault.TooLarge whole h = h
@@ -154,7 +155,7 @@ pub fault_stays : (input more : List ℕ) (e : RequestFault) → (e ≡ fault.Cl
 fault_stays input more e whole (inl (inl h)) = inl (inl (record {
   head = h.head;
   after = h.after ++ more;
-  reads = request_head_more input more h.head h.after h.reads;
+  reads = head_more request_heads request_laws input more h.head h.after h.reads;
   judged = h.judged;
 }))
 fault_stays input more e whole (inl (inr h)) = inl (inr (head_stays input more e whole h))
@@ -163,7 +164,7 @@ fault_stays input more e whole (inr (inl h)) = inr (inl (record {
   framing = h.framing;
   after = h.after ++ more;
   begins = record {
-    reads = request_head_more input more h.head h.after h.begins.reads;
+    reads = head_more request_heads request_laws input more h.head h.after h.begins.reads;
     judged = h.begins.judged;
   };
   holds = body_stays h.framing h.after more e whole h.holds;
@@ -175,7 +176,7 @@ fault_stays input more e whole (inr (inr (is, h))) = inr (inr (
     framing = h.framing;
     after = h.after ++ more;
     begins = record {
-      reads = request_head_more input more h.head h.after h.begins.reads;
+      reads = head_more request_heads request_laws input more h.head h.after h.begins.reads;
       judged = h.begins.judged;
     };
     holds = h.holds;

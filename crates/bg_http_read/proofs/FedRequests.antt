@@ -13,9 +13,8 @@ use Rattle.bg_http.specs.declared.request_rules.Framing.TheVariants as framing
 use Rattle.bg_http_read.specs.Bodies.{Follows, KeepsLimit, Reads, Fails, Refuses, announced, can_end, is_whole}
 use Rattle.bg_http_read.specs.BodyFaults.{Failure, malformed, large, cut}
 use Rattle.bg_http_read.specs.HeadEnds.{after_bytes, is_over}
-use Rattle.bg_http_read.specs.HeadFaults.{RequestHeadFails}
 use Rattle.bg_http_read.specs.MessageFaults.{as_request}
-use Rattle.bg_http_read.specs.RequestHeads.{ReadsRequestHead, RequestHeadIsCut}
+use Rattle.bg_http_read.specs.Heads.{HeadFails, HeadIsCut, ReadsRequestHead, request_heads}
 use Rattle.bg_http_read.specs.Requests.{FramedBodyFails, JudgedHead, ReadsRequestBody, RequestBodyFails, RequestFails}
 use Rattle.bg_http_read.specs.RequestStates.{FailsAsked, IsReadThen, IsRefusedAsked, LacksRequest, OwesContinue}
 use Rattle.bg_http_read.specs.RequestsFed.{Advances, AdvancesTo, AwaitsHead, HasParts, IsAt, IsFedBody, IsFedStage, IsOpenStage, IsSeen, LacksHead, StartsBody, first_stage, framed_body, is_head, most_of, stage_seen, was_asked}
@@ -35,14 +34,14 @@ use Rattle.bg_http_read.specs.declared.request_step.RequestStep.TheVariants as s
 use Rattle.bg_http_read.proofs.BodyLoop.{follows_behind, follows_both, follows_itself, whole_reads}
 use Rattle.bg_http_read.proofs.FramedBodies.{framed_fails, framed_reads}
 use Rattle.bg_http_read.proofs.HeadsOver.{after_bytes-append, no_request_yet}
-use Rattle.bg_http_read.proofs.RequestHeadsFound.{request_head_fails_more, request_head_more}
+use Rattle.bg_http_read.proofs.HeadsFound.{head_fails_more, head_more, request_head_fails, request_laws}
 use Rattle.bg_http_read.proofs.RequestOrFault.{request_or_fault}
 
 -- a head that passes the rules does so in every continuation
 pub judged_more : (input more : List ℕ) (head : RequestHead) (named : Framing) (after : List ℕ)
     → JudgedHead input head named after → JudgedHead (input ++ more) head named (after ++ more)
 judged_more input more head named after h =
-    record { reads = request_head_more input more head after h.reads; judged = h.judged }
+    record { reads = head_more request_heads request_laws input more head after h.reads; judged = h.judged }
 
 -- the head was found, and no byte of the body was taken
 pub fed_head : (head : RequestHead) (named : Framing) (p : RequestBody) (waits seen : List ℕ)
@@ -177,9 +176,10 @@ fed_cut_off p waits seen asked h owes fails =
     (framed p waits seen [] cut h (subst (Fails p.body cut) (sym (append-nil waits)) fails)))
 
 -- there is no head
-pub head_refused : (seen : List ℕ) (e : MessageFault) → RequestHeadFails seen (as_request e)
+pub head_refused : (seen : List ℕ) (e : MessageFault) → HeadFails request_heads seen e
     → IsRefusedAsked false (as_request e) seen
-head_refused seen e h more = inl (inr (request_head_fails_more seen more e h), refl)
+head_refused seen e h more =
+    inl (inr (request_head_fails (seen ++ more) e (head_fails_more request_heads request_laws seen more e h)), refl)
 
 -- the head breaks a rule
 pub rule_refused : (seen after : List ℕ) (head : RequestHead) (e : RequestFault)
@@ -188,14 +188,14 @@ rule_refused seen after head e reads broken more = inl (
   inl (record {
     head = head;
     after = after ++ more;
-    reads = request_head_more seen more head after reads;
+    reads = head_more request_heads request_laws seen more head after reads;
     judged = broken;
   }),
   refl,
 )
 
 -- the head is cut off
-pub head_cut_off : (seen : List ℕ) → RequestHeadIsCut seen → FailsAsked false seen fault.Closed
+pub head_cut_off : (seen : List ℕ) → HeadIsCut request_heads seen → FailsAsked false seen fault.Closed
 head_cut_off seen h = inl (inr h, refl)
 
 -- nothing is said about an allocation failure

@@ -22,7 +22,7 @@ use Rattle.bg_http_read.specs.declared.message_fault.MessageFault.TheVariants as
 use Rattle.bg_http_read.specs.declared.response_body.ResponseBody.{ResponseBody}
 use Rattle.bg_http_read.specs.HeadEnds.{after_bytes, is_over}
 use Rattle.bg_http_read.specs.declared.head_end.HeadEnd.TheVariants as head_end
-use Rattle.bg_http_read.specs.ResponseHeads.{ReadsResponseHead}
+use Rattle.bg_http_read.specs.Heads.{ReadsResponseHead}
 use Rattle.httparse.specs.Grammar.{HasNoResponse}
 use Rattle.bg_http_read.proofs.HeadsOver.{after_bytes-append, no_response_yet}
 use Rattle.bg_http_read.proofs.InterimOrder.{IsInterim, in_order, final_or_interim}

@@ -11,12 +11,12 @@ use Rattle.httparse.specs.Grammar.{AllPass, IsToken, crlf, is_token_byte, is_uri
 use Rattle.httparse.specs.Spans.{name_and_value}
 use Rattle.bg_http.specs.Elements.{Field, has_field}
 use Rattle.bg_http.specs.Removed.{is_removed_from_request, kept_in_request}
-use Rattle.bg_http.specs.Texts.{bytes_of, end_of_head, field_line, host_line, request_line, size_line, via_line}
+use Rattle.bg_http.specs.Texts.{bytes_of, end_of_head, field_line, host_line, request_line, request_text, size_line, via_line}
 use Rattle.bg_http.specs.declared.request.Request.{Request}
 use Rattle.bg_http.specs.declared.request.RequestHead.{RequestHead}
 use Rattle.bg_http_read.specs.AnySize.{head_of}
-use Rattle.bg_http_read.specs.ForwardedRequests.{closing_fields, forwarded, forwarded_fields, host_fields, kept_text, size_fields, via_field}
-use Rattle.bg_http_read.specs.RequestHeads.{request_parts}
+use Rattle.bg_http_read.specs.ForwardedRequests.{closing_fields, forwarded, forwarded_fields, host_fields, size_fields, via_field}
+use Rattle.bg_http_read.specs.Heads.{request_parts}
 use Rattle.bg_http_read.specs.Requests.{ReadsRequest}
 use Rattle.bg_http_read.proofs.FieldTexts.{IsGood, as_field, decimal_digits, good_closing, good_length, good_number, good_text, goods_are_fields, goods_are_read, lines_are, nothing_good, one_good, reads_are_good}
 
@@ -87,12 +87,7 @@ size_is : (body : Option (List ℕ)) → flat_map field_line (size_fields body) 
 size_is None = refl
 size_is (Some body) = append-nil (field_line (codes "Content-Length", decimal (length body)))
 
--- the end of a head
-abbrev pub end_of : Bool → List ℕ
-end_of true = crlf_bytes
-end_of false = end_of_head
-
-pub end_is : (keeps : Bool) → flat_map field_line (closing_fields keeps) ++ crlf_bytes ≡ end_of keeps
+pub end_is : (keeps : Bool) → flat_map field_line (closing_fields keeps) ++ crlf_bytes ≡ end_of_head keeps
 end_is true = refl
 end_is false = refl
 
@@ -125,19 +120,11 @@ regroup_of : (m a t c h f v s d e b : List ℕ)
     ≡ m ++ (a ++ t) ++ (a ++ c) ++ e ++ (h ++ (f ++ (v ++ (s ++ d))) ++ e) ++ b
 regroup_of m a t c h f v s d e b = simp append_assoc
 
-text_ends : (keeps : Bool) (request : Request) (port : ℕ)
-    → kept_text keeps request port
-    ≡ request_line request ++ host_line request port ++ flat_map field_line (kept_in_request request.fields)
-    ++ via_line request ++ size_line request.body ++ end_of keeps ++ bytes_of request.body
-text_ends true request port = refl
-text_ends false request port = refl
-
 text_is : (keeps : Bool) (request : Request) (port : ℕ)
-    → kept_text keeps request port ≡ print_request (tree_of keeps request port) ++ bytes_of request.body
+    → request_text keeps request port ≡ print_request (tree_of keeps request port) ++ bytes_of request.body
 unfolding print_request
 text_is keeps request port =
-    text_ends keeps request port
-    ∙ ap (λ e. request_line request ++ host_line request port ++ flat_map field_line (kept_in_request request.fields)
+    ap (λ e. request_line request ++ host_line request port ++ flat_map field_line (kept_in_request request.fields)
     ++ via_line request ++ size_line request.body ++ e ++ bytes_of request.body) (sym (end_is keeps))
     ∙ regroup_of request.method (32 ∷ []) request.target (codes "HTTP/1.1") (host_line request port)
     (flat_map field_line (kept_in_request request.fields)) (via_line request) (size_line request.body)
@@ -154,7 +141,7 @@ forwarded_head keeps request port =
 pub one_head_is_forwarded : (keeps : Bool) (input rest more : List ℕ) (request : Request) (port : ℕ)
     → ReadsRequest input request rest → port < 2 ^ 16 → length (bytes_of request.body) < 2 ^ 64
     → (tree : grammar.RequestHead)
-    × grammar.ReadsRequest (kept_text keeps request port ++ more) tree (bytes_of request.body ++ more)
+    × grammar.ReadsRequest (request_text keeps request port ++ more) tree (bytes_of request.body ++ more)
     × (request_parts tree ≡ forwarded_head keeps request port)
 one_head_is_forwarded keeps input rest more request port r small fits =
     let goods = good_fields keeps input rest request port r small fits in

@@ -7,7 +7,7 @@ use Rattle.bg_http.specs.Texts.{bytes_of}
 use Rattle.bg_http.specs.declared.request.Request.{Request}
 use Rattle.bg_http_read.specs.AnySize.{ReadsRequestOfAnySize, head_of}
 use Rattle.bg_http_read.specs.ForwardedRequests.{AreReadAsForwarded, Forwarding, WasRead, forwarded, forwarded_text}
-use Rattle.bg_http_read.specs.RequestHeads.{request_parts}
+use Rattle.bg_http_read.specs.Heads.{request_parts}
 use Rattle.bg_http_read.specs.Requests.{ReadsRequestBody}
 use Rattle.bg_http_read.proofs.ForwardedHeads.{one_head_is_forwarded}
 use Rattle.bg_http_read.proofs.ForwardedRules.{NoneGoesOn, body_within, forwarded_framing, forwarded_passes}

@@ -1,33 +1,26 @@
 -- Two places after interim responses, in order.
 use Rattle.std.proofs.Common.{◌≡◌, ◌⊎◌, ℕ, zero, suc, ◌<◌, ◌≤◌, true, IsFalse, List, refl, ap, sym, ◌∙◌, arith, subst, Ok, inl, inr}
 use Rattle.std.proofs.Math.Nat.{eq-or-lt_of_le}
-use Rattle.httparse.proofs.GrammarLemmas.{response_unique}
 use Rattle.bg_http.specs.ResponseRules.{response_framing}
 use Rattle.bg_http.specs.declared.request.Request.{Request}
 use Rattle.bg_http.specs.declared.response.ResponseHead.{ResponseHead}
 use Rattle.bg_http.specs.declared.response_rules.ResponseFraming.{ResponseFraming}
 use Rattle.bg_http.specs.declared.response_rules.ResponseFraming.TheVariants as framing
-use Rattle.bg_http_read.specs.ResponseHeads.{response_parts, ReadsResponseHead}
+use Rattle.bg_http_read.specs.Heads.{ReadsResponseHead, response_heads}
 use Rattle.bg_http_read.specs.Responses.{JudgedResponse, SkipsInterim, names_another}
+use Rattle.bg_http_read.proofs.HeadsFound.{one_head, response_laws}
 
 -- the input begins with an interim response
 abbrev pub IsInterim : Request → List ℕ → Type 0
 IsInterim request input =
     (head : ResponseHead) × (next : List ℕ) × JudgedResponse request input head framing.Interim next
 
--- an input begins with at most one head
-pub one_response_head : (input : List ℕ) (one other : ResponseHead) (a b : List ℕ)
-    → ReadsResponseHead input one a → ReadsResponseHead input other b → (one ≡ other) × (a ≡ b)
-one_response_head input one other a b h k =
-    let same = response_unique input h.tree k.tree a b h.reads k.reads in
-    (h.head_is ∙ ap response_parts same.0 ∙ sym k.head_is, same.1)
-
 one_place : (request : Request) (count : ℕ) (input a b : List ℕ)
     → SkipsInterim request count input a → SkipsInterim request count input b → a ≡ b
 one_place request zero input a b h k = sym h ∙ k
 one_place request (suc count) input a b (before, head, skips, judged) (other, second, more, found) =
     let same = one_place request count input before other skips more in
-    (one_response_head before head second a b judged.reads
+    (one_head response_heads response_laws before head second a b judged.reads
     (subst (λ l. ReadsResponseHead l second b) (sym same) found.reads)).1
 
 -- after any smaller number of interim responses there is another one
@@ -87,7 +80,7 @@ pub final_or_interim : (request : Request) (input : List ℕ) (head : ResponseHe
     (named : ResponseFraming) (after : List ℕ) → JudgedResponse request input head named after
     → IsFalse (names_another named) → IsInterim request input → ⊥
 final_or_interim request input head named after h last (second, next, found) =
-    let same = one_response_head input head second after next h.reads found.reads in
+    let same = one_head response_heads response_laws input head second after next h.reads found.reads in
     let both : Ok named ≡ Ok framing.Interim =
     sym h.judged ∙ ap (response_framing request) same.0 ∙ found.judged in
     let is : named ≡ framing.Interim = cc in

@@ -7,20 +7,19 @@ use Rattle.bg_http.specs.declared.response_fault.ResponseFault.{ResponseFault}
 use Rattle.bg_http.specs.declared.response_fault.ResponseFault.TheVariants as fault
 use Rattle.bg_http.specs.declared.response_rules.ResponseFraming.{ResponseFraming}
 use Rattle.bg_http.specs.declared.response_rules.ResponseFraming.TheVariants as framing
-use Rattle.bg_http_read.specs.HeadFaults.{ResponseHeadFails}
 use Rattle.bg_http_read.specs.MessageFaults.{as_response}
-use Rattle.bg_http_read.specs.ResponseHeads.{ReadsResponseHead}
+use Rattle.bg_http_read.specs.Heads.{HeadFails, ReadsResponseHead, response_heads}
 use Rattle.bg_http_read.specs.Responses.{AfterInterim, IsFinalHead, JudgedResponse, ResponseFails, SkipsInterim, names_another, breaks_rule, no_head, many_interim}
 use Rattle.bg_http_read.specs.ResponseStates.{IsRefused}
 use Rattle.bg_http_read.specs.declared.message_fault.MessageFault.{MessageFault}
-use Rattle.bg_http_read.proofs.ResponseHeadsFound.{response_head_more, response_head_fails_more}
+use Rattle.bg_http_read.proofs.HeadsFound.{head_fails_more, head_more, response_head_fails, response_laws}
 
 -- a head that passes the rules does so in every continuation
 judged_more : (request : Request) (input more : List ℕ) (head : ResponseHead)
     (named : ResponseFraming) (after : List ℕ) → JudgedResponse request input head named after
     → JudgedResponse request (input ++ more) head named (after ++ more)
 judged_more request input more head named after h =
-    record { reads = response_head_more input more head after h.reads; judged = h.judged }
+    record { reads = head_more response_heads response_laws input more head after h.reads; judged = h.judged }
 
 pub skips_behind : (request : Request) (count : ℕ) (input after more : List ℕ)
     → SkipsInterim request count input after
@@ -83,19 +82,20 @@ rule_refuses request count input before after head e few skips reads broken more
   few = few;
   after = before ++ more;
   skips = skips_behind request count input before more skips;
-  holds = (head, after ++ more, response_head_more before more head after reads, broken);
+  holds = (head, after ++ more, head_more response_heads response_laws before more head after reads, broken);
 })
 
 -- no head can come
 pub head_refuses : (request : Request) (count : ℕ) (input before : List ℕ) (e : MessageFault)
-    → count ≤ 16 → SkipsInterim request count input before → ResponseHeadFails before (as_response e)
+    → count ≤ 16 → SkipsInterim request count input before → HeadFails response_heads before e
     → IsRefused request (as_response e) input
 head_refuses request count input before e few skips fails more = no_head (record {
   count = count;
   few = few;
   after = before ++ more;
   skips = skips_behind request count input before more skips;
-  holds = response_head_fails_more before more e fails;
+  holds = response_head_fails (before ++ more) e
+      (head_fails_more response_heads response_laws before more e fails);
 })
 
 -- too many interim responses came

@@ -4,6 +4,7 @@ pub mod AnsweredRules
 pub mod BodyLoop
 pub mod BodyOrFault
 pub mod ChunkLines
+pub mod CopiedHeads
 pub mod DataSteps
 pub mod FaultStays
 pub mod FedRequests
@@ -16,6 +17,7 @@ pub mod FramedBodies
 pub mod Fronts
 pub mod GivenLength
 pub mod HeadLengths
+pub mod HeadsFound
 pub mod HeadsOver
 pub mod InterimOrder
 pub mod InterimTaken
@@ -30,13 +32,11 @@ pub mod OneSequence
 pub mod Pieces
 pub mod RefusedHeads
 pub mod RequestBodies
-pub mod RequestHeadsFound
 pub mod RequestOrFault
 pub mod RequestPieces
 pub mod RequestSteps
 pub mod RequestsRead
 pub mod ResponseBodies
-pub mod ResponseHeadsFound
 pub mod ResponseOrFault
 pub mod ResponseSteps
 pub mod RuleFaults

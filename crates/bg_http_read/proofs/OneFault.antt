@@ -1,6 +1,5 @@
 -- An input has at most one fault of a request.
-use Rattle.std.proofs.Common.{◌≡◌, ◌⊎◌, ℕ, true, false, List, [], take, refl, ap, sym, ◌∙◌, arith, subst, take_all, Ok, Err, inl, inr}
-use Rattle.std.proofs.lemmas.List.{append-nil}
+use Rattle.std.proofs.Common.{◌≡◌, ◌⊎◌, ℕ, true, false, List, [], take, refl, ap, sym, ◌∙◌, subst, Ok, Err, inl, inr}
 use Rattle.httparse.specs.Grammar as grammar
 use Rattle.bg_http.specs.RequestRules.{request_framing}
 use Rattle.bg_http.specs.declared.request_rules.Framing.{Framing}
@@ -10,9 +9,10 @@ use Rattle.bg_http.specs.declared.request_fault.RequestFault.TheVariants as faul
 use Rattle.bg_http_read.specs.BodyFaults.{Failure, malformed, large, cut}
 use Rattle.bg_http_read.specs.HeadFaults.{RequestHeadFails}
 use Rattle.bg_http_read.specs.Laws.{is_of_machine, EndsInManyTrailers, EndsInWrongTarget, IsUndecided}
-use Rattle.bg_http_read.specs.RequestHeads.{RequestHeadIsMalformed, RequestHeadIsLarge, RequestHeadIsCut}
+use Rattle.bg_http_read.specs.Heads.{request_heads}
 use Rattle.bg_http_read.specs.Requests.{HeadRefused, BodyRefused, FramedBodyFails, RequestBodyFails, RequestFails}
-use Rattle.bg_http_read.proofs.RequestOrFault.{one_request_head, head_or_fault}
+use Rattle.bg_http_read.proofs.HeadsFound.{large_or_cut, large_or_malformed, malformed_or_cut, one_head, request_laws}
+use Rattle.bg_http_read.proofs.RequestOrFault.{head_or_fault}
 use Rattle.bg_http_read.proofs.OneFailure.{one_body_failure, one_length_failure}
 
 of_both : {A : Type 0} (e : RequestFault) → is_of_machine e ≡ true → is_of_machine e ≡ false → A
@@ -22,29 +22,10 @@ of_both e is isnt = absurd (differ (sym is ∙ isnt))
     differ h = cc
 
 -- the beginning of a head is not malformed unless it ends within its target
-malformed_or_begun : (bytes : List ℕ) → grammar.NeverHasRequest bytes → grammar.MayBecomeRequest bytes
-    → EndsInWrongTarget bytes
-malformed_or_begun bytes never (inl (more, head, reads)) = absurd (never more head [] reads)
-malformed_or_begun bytes never (inr ends) = (ends, never)
-
-large_or_malformed : (input : List ℕ) → RequestHeadIsLarge input → RequestHeadIsMalformed input
-    → EndsInWrongTarget (take 16384 input)
-large_or_malformed input (inl (tree, rest, reads, many)) never =
-    absurd (never [] tree rest (reads.0, append-nil (take 16384 input) ∙ reads.1))
-large_or_malformed input (inr (full, none, may)) never =
-    malformed_or_begun (take 16384 input) never may
-
-large_or_cut : (input : List ℕ) → RequestHeadIsLarge input → RequestHeadIsCut input → ⊥
-large_or_cut input (inl (tree, rest, reads, many)) (few, none, may) =
-    let same = take_all 16384 input (omega (arith, few)) in
-    none tree rest (subst (λ l. grammar.ReadsRequest l tree rest) same reads)
-large_or_cut input (inr (full, none, may)) (few, other, begun) = omega (arith, full, few)
-
-malformed_or_cut : (input : List ℕ) → RequestHeadIsMalformed input → RequestHeadIsCut input
-    → EndsInWrongTarget (take 16384 input)
-malformed_or_cut input never (few, none, may) =
-    let same = take_all 16384 input (omega (arith, few)) in
-    malformed_or_begun (take 16384 input) never (subst grammar.MayBecomeRequest (sym same) may)
+malformed_or_begun : (bytes : List ℕ)
+    → grammar.NeverHasRequest bytes × grammar.MayBecomeRequest bytes → EndsInWrongTarget bytes
+malformed_or_begun bytes (never, inl (more, head, reads)) = absurd (never more head [] reads)
+malformed_or_begun bytes (never, inr ends) = (ends, never)
 
 one_head_fault : (input : List ℕ) (one other : RequestFault) → RequestHeadFails input one
     → RequestHeadFails input other → is_of_machine one ≡ false → is_of_machine other ≡ false
@@ -57,23 +38,23 @@ one_head_fault input fault.TooLarge other h k isnt neither = absurd h
 one_head_fault input fault.HeadTooLarge fault.ReadFailed h k isnt neither = of_both fault.ReadFailed refl neither
 one_head_fault input fault.HeadTooLarge fault.WriteFailed h k isnt neither = absurd k
 one_head_fault input fault.HeadTooLarge fault.HeadTooLarge h k isnt neither = inl refl
-one_head_fault input fault.HeadTooLarge fault.Bad h k isnt neither = inr (large_or_malformed input h k)
-one_head_fault input fault.HeadTooLarge fault.Closed h k isnt neither = absurd (large_or_cut input h k)
+one_head_fault input fault.HeadTooLarge fault.Bad h k isnt neither = inr (malformed_or_begun (take 16384 input) (large_or_malformed request_heads input h k))
+one_head_fault input fault.HeadTooLarge fault.Closed h k isnt neither = absurd (large_or_cut request_heads input h k)
 one_head_fault input fault.HeadTooLarge fault.NotDone h k isnt neither = absurd k
 one_head_fault input fault.HeadTooLarge fault.TooLarge h k isnt neither = absurd k
 one_head_fault input fault.HeadTooLarge fault.OutOfMemory h k isnt neither = of_both fault.OutOfMemory refl neither
 one_head_fault input fault.Bad fault.ReadFailed h k isnt neither = of_both fault.ReadFailed refl neither
 one_head_fault input fault.Bad fault.WriteFailed h k isnt neither = absurd k
-one_head_fault input fault.Bad fault.HeadTooLarge h k isnt neither = inr (large_or_malformed input k h)
+one_head_fault input fault.Bad fault.HeadTooLarge h k isnt neither = inr (malformed_or_begun (take 16384 input) (large_or_malformed request_heads input k h))
 one_head_fault input fault.Bad fault.Bad h k isnt neither = inl refl
-one_head_fault input fault.Bad fault.Closed h k isnt neither = inr (malformed_or_cut input h k)
+one_head_fault input fault.Bad fault.Closed h k isnt neither = inr (malformed_or_begun (take 16384 input) (malformed_or_cut request_heads input h k))
 one_head_fault input fault.Bad fault.NotDone h k isnt neither = absurd k
 one_head_fault input fault.Bad fault.TooLarge h k isnt neither = absurd k
 one_head_fault input fault.Bad fault.OutOfMemory h k isnt neither = of_both fault.OutOfMemory refl neither
 one_head_fault input fault.Closed fault.ReadFailed h k isnt neither = of_both fault.ReadFailed refl neither
 one_head_fault input fault.Closed fault.WriteFailed h k isnt neither = absurd k
-one_head_fault input fault.Closed fault.HeadTooLarge h k isnt neither = absurd (large_or_cut input k h)
-one_head_fault input fault.Closed fault.Bad h k isnt neither = inr (malformed_or_cut input k h)
+one_head_fault input fault.Closed fault.HeadTooLarge h k isnt neither = absurd (large_or_cut request_heads input k h)
+one_head_fault input fault.Closed fault.Bad h k isnt neither = inr (malformed_or_begun (take 16384 input) (malformed_or_cut request_heads input k h))
 one_head_fault input fault.Closed fault.Closed h k isnt neither = inl refl
 one_head_fault input fault.Closed fault.NotDone h k isnt neither = absurd k
 one_head_fault input fault.Closed fault.TooLarge h k isnt neither = absurd k
@@ -125,7 +106,7 @@ one_refused : (input : List ℕ) (one other : RequestFault) → HeadRefused inpu
     → HeadRefused input other → is_of_machine one ≡ false → is_of_machine other ≡ false
     → (one ≡ other) ⊎ IsUndecided input
 one_refused input one other (inl h) (inl k) isnt neither =
-    let same = one_request_head input h.head k.head h.after k.after h.reads k.reads in
+    let same = one_head request_heads request_laws input h.head k.head h.after k.after h.reads k.reads in
     let both : Err one ≡ Err other =
     sym h.judged ∙ ap request_framing same.0 ∙ k.judged in
     inl cc
@@ -145,7 +126,7 @@ one_refused input one other (inr fails) (inr lacks) isnt neither =
 refused_or_body : (input : List ℕ) (one other : RequestFault) → HeadRefused input one
     → BodyRefused input other → is_of_machine one ≡ false → ⊥
 refused_or_body input one other (inl h) k isnt =
-    let same = one_request_head input h.head k.head h.after k.after h.reads k.begins.reads in
+    let same = one_head request_heads request_laws input h.head k.head h.after k.after h.reads k.begins.reads in
     let both : Err one ≡ Ok k.framing =
     sym h.judged ∙ ap request_framing same.0 ∙ k.begins.judged in
     cc
@@ -156,7 +137,7 @@ bodies : (input : List ℕ) (one other : RequestFault) → BodyRefused input one
     → BodyRefused input other → is_of_machine one ≡ false → is_of_machine other ≡ false
     → (one ≡ other) ⊎ IsUndecided input
 bodies input one other h k isnt neither =
-    let same = one_request_head input h.head k.head h.after k.after h.begins.reads k.begins.reads in
+    let same = one_head request_heads request_laws input h.head k.head h.after k.after h.begins.reads k.begins.reads in
     let both : Ok h.framing ≡ Ok k.framing =
     sym h.begins.judged ∙ ap request_framing same.0 ∙ k.begins.judged in
     let framings : h.framing ≡ k.framing = cc in

@@ -14,7 +14,8 @@ use Rattle.bg_http_read.specs.Requests.{ReadsRequest, ReadsRequestBody}
 use Rattle.bg_http_read.proofs.ChunkLines.{one_line}
 use Rattle.bg_http_read.proofs.Fronts.{equal_front, prefix_of}
 use Rattle.bg_http_read.proofs.InterimOrder.{compare}
-use Rattle.bg_http_read.proofs.RequestOrFault.{one_request_head}
+use Rattle.bg_http_read.specs.Heads.{request_heads}
+use Rattle.bg_http_read.proofs.HeadsFound.{one_head, request_laws}
 
 -- an input begins with at most one of each part
 one_trailers : (input one other : List ℕ) → ReadsTrailers input one → ReadsTrailers input other → one ≡ other
@@ -62,7 +63,7 @@ one_body (framing.Length size) input one other rest left (a, is, long, whole) (b
 pub one_request : (input : List ℕ) (one other : Request) (rest left : List ℕ)
     → ReadsRequest input one rest → ReadsRequest input other left → (one ≡ other) × (rest ≡ left)
 one_request input one other rest left h k =
-    let heads = one_request_head input h.head k.head h.after k.after h.begins.reads k.begins.reads in
+    let heads = one_head request_heads request_laws input h.head k.head h.after k.after h.begins.reads k.begins.reads in
     let both : Ok h.framing ≡ Ok k.framing =
     sym h.begins.judged ∙ ap request_framing heads.0 ∙ k.begins.judged in
     let framings : h.framing ≡ k.framing = cc in

@@ -8,7 +8,9 @@ use Rattle.bg_http.specs.declared.response_rules.ResponseFraming.{ResponseFramin
 use Rattle.bg_http.specs.declared.response_rules.ResponseFraming.TheVariants as framing
 use Rattle.bg_http_read.specs.Responses.{IsFinalHead, IsResponse, ReadsResponseBody, ReadsResponseThen, length_of_response}
 use Rattle.bg_http_read.proofs.Fronts.{equal_front}
-use Rattle.bg_http_read.proofs.InterimOrder.{IsInterim, final_or_interim, in_order, one_response_head}
+use Rattle.bg_http_read.specs.Heads.{response_heads}
+use Rattle.bg_http_read.proofs.HeadsFound.{one_head, response_laws}
+use Rattle.bg_http_read.proofs.InterimOrder.{IsInterim, final_or_interim, in_order}
 use Rattle.bg_http_read.proofs.OneRequest.{one_chunks}
 
 pub one_response_body : (named : ResponseFraming) (input one other rest left : List ℕ)
@@ -56,7 +58,7 @@ one_final : (request : Request) (input : List ℕ) (one other : Response) (head 
     → IsResponse one head named after rest → IsResponse other second called next left
     → (one ≡ other) × (rest ≡ left)
 one_final request input one other head second named called after next rest left h k is was =
-    let heads = one_response_head input head second after next h.0.reads k.0.reads in
+    let heads = one_head response_heads response_laws input head second after next h.0.reads k.0.reads in
     let both : Ok named ≡ Ok called =
     sym h.0.judged ∙ ap (response_framing request) heads.0 ∙ k.0.judged in
     let names : named ≡ called = cc in

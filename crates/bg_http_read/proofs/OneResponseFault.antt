@@ -1,6 +1,5 @@
 -- An input has at most one fault of a response.
-use Rattle.std.proofs.Common.{◌≡◌, ◌⊎◌, ℕ, true, false, List, [], take, refl, ap, sym, ◌∙◌, arith, subst, take_all, Ok, Err, inl, inr}
-use Rattle.std.proofs.lemmas.List.{append-nil}
+use Rattle.std.proofs.Common.{◌≡◌, ◌⊎◌, ℕ, true, false, List, [], take, refl, ap, sym, ◌∙◌, arith, subst, Ok, Err, inl, inr}
 use Rattle.httparse.specs.Grammar as grammar
 use Rattle.bg_http.specs.ResponseRules.{response_framing}
 use Rattle.bg_http.specs.declared.request.Request.{Request}
@@ -11,9 +10,10 @@ use Rattle.bg_http.specs.declared.response_fault.ResponseFault.TheVariants as fa
 use Rattle.bg_http_read.specs.BodyFaults.{Failure, malformed, large, cut, EndFails}
 use Rattle.bg_http_read.specs.HeadFaults.{ResponseHeadFails}
 use Rattle.bg_http_read.specs.Laws.{is_of_reading, EndsInManyTrailers, IsUndecidedResponse}
-use Rattle.bg_http_read.specs.ResponseHeads.{ResponseHeadIsMalformed, ResponseHeadIsLarge, ResponseHeadIsCut}
+use Rattle.bg_http_read.specs.Heads.{response_heads}
 use Rattle.bg_http_read.specs.Responses.{FramedResponseBodyFails, ResponseBodyFails, AfterInterim, HasManyInterim, BreaksResponseRule, FinalHeadThen, ResponseFails, breaks_rule, no_head, many_interim, no_body}
-use Rattle.bg_http_read.proofs.InterimOrder.{IsInterim, one_response_head, in_order, interim_earlier, final_or_interim}
+use Rattle.bg_http_read.proofs.HeadsFound.{large_or_cut, large_or_malformed, malformed_or_cut, one_head, response_laws}
+use Rattle.bg_http_read.proofs.InterimOrder.{IsInterim, in_order, interim_earlier, final_or_interim}
 use Rattle.bg_http_read.proofs.ResponseOrFault.{head_or_fault}
 use Rattle.bg_http_read.proofs.OneFailure.{one_body_failure, one_length_failure}
 
@@ -23,22 +23,10 @@ of_both e is isnt = absurd (differ (sym is ∙ isnt))
     differ : true ≡ false → ⊥
     differ h = cc
 
-large_or_malformed : (input : List ℕ) → ResponseHeadIsLarge input → ResponseHeadIsMalformed input
-    → ⊥
-large_or_malformed input (inl (tree, rest, reads, many)) never =
-    never [] tree rest (reads.0, append-nil (take 16384 input) ∙ reads.1)
-large_or_malformed input (inr (full, none, may)) never = never may.0 may.1 [] may.2
-
-large_or_cut : (input : List ℕ) → ResponseHeadIsLarge input → ResponseHeadIsCut input → ⊥
-large_or_cut input (inl (tree, rest, reads, many)) (few, none, may) =
-    let same = take_all 16384 input (omega (arith, few)) in
-    none tree rest (subst (λ l. grammar.ReadsResponse l tree rest) same reads)
-large_or_cut input (inr (full, none, may)) (few, other, begun) = omega (arith, full, few)
-
-malformed_or_cut : (input : List ℕ) → ResponseHeadIsMalformed input → ResponseHeadIsCut input → ⊥
-malformed_or_cut input never (few, none, may) =
-    let same = take_all 16384 input (omega (arith, few)) in
-    subst grammar.NeverHasResponse same never may.0 may.1 [] may.2
+-- the beginning of a head is not malformed
+malformed_or_begun : (bytes : List ℕ)
+    → grammar.NeverHasResponse bytes × grammar.MayBecomeResponse bytes → ⊥
+malformed_or_begun bytes (never, (more, head, reads)) = never more head [] reads
 
 one_head_fault : (input : List ℕ) (one other : ResponseFault) → ResponseHeadFails input one
     → ResponseHeadFails input other → is_of_reading one ≡ false → is_of_reading other ≡ false
@@ -48,19 +36,19 @@ one_head_fault input fault.TooLarge other h k isnt neither = absurd h
 one_head_fault input fault.OutOfMemory other h k isnt neither = of_both fault.OutOfMemory refl isnt
 one_head_fault input fault.HeadTooLarge fault.ReadFailed h k isnt neither = of_both fault.ReadFailed refl neither
 one_head_fault input fault.HeadTooLarge fault.HeadTooLarge h k isnt neither = refl
-one_head_fault input fault.HeadTooLarge fault.Bad h k isnt neither = absurd (large_or_malformed input h k)
+one_head_fault input fault.HeadTooLarge fault.Bad h k isnt neither = absurd (malformed_or_begun (take 16384 input) (large_or_malformed response_heads input h k))
 one_head_fault input fault.HeadTooLarge fault.TooLarge h k isnt neither = absurd k
-one_head_fault input fault.HeadTooLarge fault.Closed h k isnt neither = absurd (large_or_cut input h k)
+one_head_fault input fault.HeadTooLarge fault.Closed h k isnt neither = absurd (large_or_cut response_heads input h k)
 one_head_fault input fault.HeadTooLarge fault.OutOfMemory h k isnt neither = of_both fault.OutOfMemory refl neither
 one_head_fault input fault.Bad fault.ReadFailed h k isnt neither = of_both fault.ReadFailed refl neither
-one_head_fault input fault.Bad fault.HeadTooLarge h k isnt neither = absurd (large_or_malformed input k h)
+one_head_fault input fault.Bad fault.HeadTooLarge h k isnt neither = absurd (malformed_or_begun (take 16384 input) (large_or_malformed response_heads input k h))
 one_head_fault input fault.Bad fault.Bad h k isnt neither = refl
 one_head_fault input fault.Bad fault.TooLarge h k isnt neither = absurd k
-one_head_fault input fault.Bad fault.Closed h k isnt neither = absurd (malformed_or_cut input h k)
+one_head_fault input fault.Bad fault.Closed h k isnt neither = absurd (malformed_or_begun (take 16384 input) (malformed_or_cut response_heads input h k))
 one_head_fault input fault.Bad fault.OutOfMemory h k isnt neither = of_both fault.OutOfMemory refl neither
 one_head_fault input fault.Closed fault.ReadFailed h k isnt neither = of_both fault.ReadFailed refl neither
-one_head_fault input fault.Closed fault.HeadTooLarge h k isnt neither = absurd (large_or_cut input k h)
-one_head_fault input fault.Closed fault.Bad h k isnt neither = absurd (malformed_or_cut input k h)
+one_head_fault input fault.Closed fault.HeadTooLarge h k isnt neither = absurd (large_or_cut response_heads input k h)
+one_head_fault input fault.Closed fault.Bad h k isnt neither = absurd (malformed_or_begun (take 16384 input) (malformed_or_cut response_heads input k h))
 one_head_fault input fault.Closed fault.TooLarge h k isnt neither = absurd k
 one_head_fault input fault.Closed fault.Closed h k isnt neither = refl
 one_head_fault input fault.Closed fault.OutOfMemory h k isnt neither = of_both fault.OutOfMemory refl neither
@@ -126,7 +114,7 @@ data Stops (request : Request) (e : ResponseFault) (place : List ℕ) : Type 0 w
 stops_or_interim : (request : Request) (e : ResponseFault) (place : List ℕ) → Stops request e place
     → IsInterim request place → is_of_reading e ≡ true
 stops_or_interim request e place (by_rule (head, after, reads, broken)) (other, next, judged) =
-    let same = one_response_head place head other after next reads judged.reads in
+    let same = one_head response_heads response_laws place head other after next reads judged.reads in
     let both : Err e ≡ Ok framing.Interim =
     sym broken ∙ ap (response_framing request) same.0 ∙ judged.judged in
     cc
@@ -141,14 +129,14 @@ one_stop : (request : Request) (one other : ResponseFault) (place : List ℕ)
     → is_of_reading other ≡ false
     → (one ≡ other) ⊎ FinalHeadThen request (λ named after. EndsInManyTrailers after) place
 one_stop request one other place (by_rule (head, after, reads, broken)) (by_rule (second, next, found, wrong)) isnt neither =
-    let same = one_response_head place head second after next reads found in
+    let same = one_head response_heads response_laws place head second after next reads found in
     let both : Err one ≡ Err other =
     sym broken ∙ ap (response_framing request) same.0 ∙ wrong in
     inl cc
 one_stop request one other place (by_rule (head, after, reads, broken)) (by_head fails) isnt neither =
     of_both other (head_or_fault place head after other reads fails) neither
 one_stop request one other place (by_rule (head, after, reads, broken)) (by_body (second, named, next, final, fails)) isnt neither =
-    let same = one_response_head place head second after next reads final.0.reads in
+    let same = one_head response_heads response_laws place head second after next reads final.0.reads in
     let both : Err one ≡ Ok named =
     sym broken ∙ ap (response_framing request) same.0 ∙ final.0.judged in
     cc
@@ -159,14 +147,14 @@ one_stop request one other place (by_head fails) (by_head lacks) isnt neither =
 one_stop request one other place (by_head fails) (by_body (head, named, after, final, lacks)) isnt neither =
     of_both one (head_or_fault place head after one final.0.reads fails) isnt
 one_stop request one other place (by_body (head, named, after, final, fails)) (by_rule (second, next, reads, broken)) isnt neither =
-    let same = one_response_head place head second after next final.0.reads reads in
+    let same = one_head response_heads response_laws place head second after next final.0.reads reads in
     let both : Ok named ≡ Err other =
     sym final.0.judged ∙ ap (response_framing request) same.0 ∙ broken in
     cc
 one_stop request one other place (by_body (head, named, after, final, fails)) (by_head lacks) isnt neither =
     of_both other (head_or_fault place head after other final.0.reads lacks) neither
 one_stop request one other place (by_body (head, named, after, final, fails)) (by_body (second, ending, next, last, lacks)) isnt neither =
-    let same = one_response_head place head second after next final.0.reads last.0.reads in
+    let same = one_head response_heads response_laws place head second after next final.0.reads last.0.reads in
     let both : Ok named ≡ Ok ending =
     sym final.0.judged ∙ ap (response_framing request) same.0 ∙ last.0.judged in
     let framings : named ≡ ending = cc in

@@ -7,7 +7,7 @@ use Rattle.bg_http.specs.declared.request_fault.RequestFault.{RequestFault}
 use Rattle.bg_http.specs.declared.request_rules.Framing.{Framing}
 use Rattle.bg_http.specs.declared.request_fault.RequestFault.TheVariants as fault
 use Rattle.bg_http_read.specs.RefusedHeads.{BeginsRefused, TellsHead}
-use Rattle.bg_http_read.specs.RequestHeads.{ReadsRequestHead, RequestHeadIsCut}
+use Rattle.bg_http_read.specs.Heads.{HeadIsCut, ReadsRequestHead, request_heads}
 use Rattle.bg_http_read.specs.Requests.{JudgedHead}
 use Rattle.bg_http_read.specs.RequestStates.{FailsAsked, IfWhole, goes_on}
 use Rattle.bg_http_read.specs.RequestsFed.{AdvancesTo, IsAt, IsFedBody, IsFedStage, LacksHead, head_after, LacksHead, known_head, was_asked}
@@ -68,7 +68,7 @@ tells_after_step old new seen left (step.Whole request) h none =
     subst (TellsHead seen fault.OutOfMemory) (sym none) tt
 
 -- the input ends, and no head was found
-cut_head : (seen : List ℕ) → FailsAsked false seen fault.Closed → HasNoRequest seen → RequestHeadIsCut seen
+cut_head : (seen : List ℕ) → FailsAsked false seen fault.Closed → HasNoRequest seen → HeadIsCut request_heads seen
 cut_head seen (inl (inl broken, none)) lacks = absurd (lacks broken.reads.tree broken.after broken.reads.reads)
 cut_head seen (inl (inr cut, none)) lacks = cut
 cut_head seen (inr found) lacks =

@@ -1,8 +1,5 @@
 -- An input that begins with a request has no fault of the input.
-use Rattle.std.proofs.Common.{◌≡◌, ℕ, true, List, [], length, take, drop, refl, ap, sym, ◌∙◌, arith, subst, Option, Ok, Err, inl, inr}
-use Rattle.std.proofs.lemmas.List.{append-nil}
-use Rattle.httparse.specs.Grammar as grammar
-use Rattle.httparse.proofs.GrammarLemmas.{request_unique}
+use Rattle.std.proofs.Common.{◌≡◌, ℕ, true, List, refl, ap, sym, ◌∙◌, subst, Option, Ok, Err, inl, inr}
 use Rattle.bg_http.specs.RequestRules.{request_framing}
 use Rattle.bg_http.specs.declared.request.Request.{Request}
 use Rattle.bg_http.specs.declared.request.RequestHead.{RequestHead}
@@ -13,45 +10,22 @@ use Rattle.bg_http.specs.declared.request_fault.RequestFault.TheVariants as faul
 use Rattle.bg_http_read.specs.BodyFaults.{Failure, malformed, large, cut}
 use Rattle.bg_http_read.specs.HeadFaults.{RequestHeadFails}
 use Rattle.bg_http_read.specs.Laws.{is_of_machine}
-use Rattle.bg_http_read.specs.RequestHeads.{request_parts, ReadsRequestHead}
+use Rattle.bg_http_read.specs.Heads.{ReadsRequestHead, request_heads}
 use Rattle.bg_http_read.specs.Requests.{ReadsRequest, ReadsRequestBody, FramedBodyFails, RequestBodyFails, RequestFails}
-use Rattle.bg_http_read.proofs.BodyOrFault.{text_in_front, body_or_fault, length_or_fault}
-
--- an input begins with at most one head
-pub one_request_head : (input : List ℕ) (one other : RequestHead) (a b : List ℕ)
-    → ReadsRequestHead input one a → ReadsRequestHead input other b → (one ≡ other) × (a ≡ b)
-one_request_head input one other a b h k =
-    let same = request_unique input h.tree k.tree a b h.reads k.reads in
-    (h.head_is ∙ ap request_parts same.0 ∙ sym k.head_is, same.1)
-
-head_in_front : (input : List ℕ) (head : RequestHead) (after : List ℕ)
-    → (h : ReadsRequestHead input head after)
-    → grammar.ReadsRequest (take 16384 input) h.tree
-    (drop (length (grammar.print_request h.tree)) (take 16384 input))
-head_in_front input head after h =
-    let text = grammar.print_request h.tree in
-    (h.reads.0, text_in_front 16384 input text after h.reads.1 h.size)
+use Rattle.bg_http_read.proofs.BodyOrFault.{body_or_fault, length_or_fault}
+use Rattle.bg_http_read.proofs.HeadsFound.{not_cut, not_large, not_malformed, one_head, request_laws}
 
 pub head_or_fault : (input : List ℕ) (head : RequestHead) (after : List ℕ) (e : RequestFault)
     → ReadsRequestHead input head after → RequestHeadFails input e
     → is_of_machine e ≡ true
 head_or_fault input head after fault.ReadFailed h f = refl
 head_or_fault input head after fault.WriteFailed h f = absurd f
-head_or_fault input head after fault.HeadTooLarge h (inl (tree, rest, reads, many)) =
-    let front = head_in_front input head after h in
-    let same = request_unique (take 16384 input) tree h.tree rest
-    (drop (length (grammar.print_request h.tree)) (take 16384 input)) reads front in
-    let count = ap (λ t. length t.fields) same.0 in
-    let few = h.count in
-    absurd (omega (arith, count, few, many))
-head_or_fault input head after fault.HeadTooLarge h (inr (full, none, may)) =
-    absurd (none h.tree (drop (length (grammar.print_request h.tree)) (take 16384 input))
-    (head_in_front input head after h))
-head_or_fault input head after fault.Bad h never =
-    let front = head_in_front input head after h in
-    absurd (never [] h.tree (drop (length (grammar.print_request h.tree)) (take 16384 input))
-    (front.0, append-nil (take 16384 input) ∙ front.1))
-head_or_fault input head after fault.Closed h (few, none, may) = absurd (none h.tree after h.reads)
+head_or_fault input head after fault.HeadTooLarge h f =
+    absurd (not_large request_heads request_laws input head after h f)
+head_or_fault input head after fault.Bad h f =
+    absurd (not_malformed request_heads request_laws input head after h f)
+head_or_fault input head after fault.Closed h f =
+    absurd (not_cut request_heads input head after h f)
 head_or_fault input head after fault.NotDone h f = absurd f
 head_or_fault input head after fault.TooLarge h f = absurd f
 head_or_fault input head after fault.OutOfMemory h f = refl
@@ -83,14 +57,14 @@ request_body_or_fault named input body rest fault.OutOfMemory h f = refl
 pub request_or_fault : (input rest : List ℕ) (request : Request) (e : RequestFault)
     → ReadsRequest input request rest → RequestFails input e → is_of_machine e ≡ true
 request_or_fault input rest request e h (inl (inl broken)) =
-    let same = one_request_head input h.head broken.head h.after broken.after h.begins.reads broken.reads in
+    let same = one_head request_heads request_laws input h.head broken.head h.after broken.after h.begins.reads broken.reads in
     let both : Ok h.framing ≡ Err e =
     sym h.begins.judged ∙ ap request_framing same.0 ∙ broken.judged in
     cc
 request_or_fault input rest request e h (inl (inr fails)) =
     head_or_fault input h.head h.after e h.begins.reads fails
 request_or_fault input rest request e h (inr (inl f)) =
-    let same = one_request_head input h.head f.head h.after f.after h.begins.reads f.begins.reads in
+    let same = one_head request_heads request_laws input h.head f.head h.after f.after h.begins.reads f.begins.reads in
     let both : Ok h.framing ≡ Ok f.framing =
     sym h.begins.judged ∙ ap request_framing same.0 ∙ f.begins.judged in
     let framings : h.framing ≡ f.framing = cc in

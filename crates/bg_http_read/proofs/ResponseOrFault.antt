@@ -1,8 +1,5 @@
 -- An input that begins with a response has no fault of the input.
-use Rattle.std.proofs.Common.{◌≡◌, ◌⊎◌, ℕ, ◌≤◌, true, List, [], length, take, drop, refl, ap, sym, ◌∙◌, arith, subst, Ok, Err, inl, inr}
-use Rattle.std.proofs.lemmas.List.{append-nil}
-use Rattle.httparse.specs.Grammar as grammar
-use Rattle.httparse.proofs.GrammarLemmas.{response_unique}
+use Rattle.std.proofs.Common.{◌≡◌, ◌⊎◌, ℕ, ◌≤◌, true, List, length, refl, ap, sym, ◌∙◌, arith, subst, Ok, Err, inl, inr}
 use Rattle.bg_http.specs.ResponseRules.{response_framing}
 use Rattle.bg_http.specs.declared.request.Request.{Request}
 use Rattle.bg_http.specs.declared.response.Response.{Response}
@@ -14,38 +11,22 @@ use Rattle.bg_http.specs.declared.response_fault.ResponseFault.TheVariants as wr
 use Rattle.bg_http_read.specs.BodyFaults.{Failure, malformed, large, cut, EndFails}
 use Rattle.bg_http_read.specs.HeadFaults.{ResponseHeadFails}
 use Rattle.bg_http_read.specs.Laws.{is_of_reading}
-use Rattle.bg_http_read.specs.ResponseHeads.{ReadsResponseHead}
+use Rattle.bg_http_read.specs.Heads.{ReadsResponseHead, response_heads}
 use Rattle.bg_http_read.specs.Responses.{ReadsResponseBody, FramedResponseBodyFails, ResponseBodyFails, BreaksResponseRule, FinalHeadThen, ReadsResponse, ResponseFails, breaks_rule, no_head, many_interim, no_body}
-use Rattle.bg_http_read.proofs.BodyOrFault.{text_in_front, body_or_fault, length_or_fault}
-use Rattle.bg_http_read.proofs.InterimOrder.{IsInterim, one_response_head, in_order, interim_earlier, final_or_interim}
-
-head_in_front : (input : List ℕ) (head : ResponseHead) (after : List ℕ)
-    → (h : ReadsResponseHead input head after)
-    → grammar.ReadsResponse (take 16384 input) h.tree
-    (drop (length (grammar.print_response h.tree)) (take 16384 input))
-head_in_front input head after h =
-    let text = grammar.print_response h.tree in
-    (h.reads.0, text_in_front 16384 input text after h.reads.1 h.size)
+use Rattle.bg_http_read.proofs.BodyOrFault.{body_or_fault, length_or_fault}
+use Rattle.bg_http_read.proofs.HeadsFound.{not_cut, not_large, not_malformed, one_head, response_laws}
+use Rattle.bg_http_read.proofs.InterimOrder.{IsInterim, in_order, interim_earlier, final_or_interim}
 
 pub head_or_fault : (input : List ℕ) (head : ResponseHead) (after : List ℕ) (e : ResponseFault)
     → ReadsResponseHead input head after → ResponseHeadFails input e → is_of_reading e ≡ true
 head_or_fault input head after wrong.ReadFailed h f = refl
-head_or_fault input head after wrong.HeadTooLarge h (inl (tree, rest, reads, many)) =
-    let front = head_in_front input head after h in
-    let same = response_unique (take 16384 input) tree h.tree rest
-    (drop (length (grammar.print_response h.tree)) (take 16384 input)) reads front in
-    let count = ap (λ t. length t.fields) same.0 in
-    let few = h.count in
-    absurd (omega (arith, count, few, many))
-head_or_fault input head after wrong.HeadTooLarge h (inr (full, none, may)) =
-    absurd (none h.tree (drop (length (grammar.print_response h.tree)) (take 16384 input))
-    (head_in_front input head after h))
-head_or_fault input head after wrong.Bad h never =
-    let front = head_in_front input head after h in
-    absurd (never [] h.tree (drop (length (grammar.print_response h.tree)) (take 16384 input))
-    (front.0, append-nil (take 16384 input) ∙ front.1))
+head_or_fault input head after wrong.HeadTooLarge h f =
+    absurd (not_large response_heads response_laws input head after h f)
+head_or_fault input head after wrong.Bad h f =
+    absurd (not_malformed response_heads response_laws input head after h f)
 head_or_fault input head after wrong.TooLarge h f = absurd f
-head_or_fault input head after wrong.Closed h (few, none, may) = absurd (none h.tree after h.reads)
+head_or_fault input head after wrong.Closed h f =
+    absurd (not_cut response_heads input head after h f)
 head_or_fault input head after wrong.OutOfMemory h f = refl
 
 end_or_fault : (failure : Failure) (limit : ℕ) (input body : List ℕ) → body ≡ input
@@ -101,14 +82,14 @@ response_or_fault request input response e (end, h) fails = by_fault fails
     breaks : (b : List ℕ) → BreaksResponseRule request e b
         → (a ≡ b) ⊎ (IsInterim request a ⊎ IsInterim request b) → is_of_reading e ≡ true
     breaks b (other, rest, reads, broken) (inl same) =
-        let heads = one_response_head a head other after rest h.holds.3.0.reads
+        let heads = one_head response_heads response_laws a head other after rest h.holds.3.0.reads
         (subst (λ l. ReadsResponseHead l other rest) (sym same) reads) in
         let both : Ok named ≡ Err e =
         sym h.holds.3.0.judged ∙ ap (response_framing request) heads.0 ∙ broken in
         cc
     breaks b found (inr (inl interim)) = absurd (not_interim interim)
     breaks b (other, rest, reads, broken) (inr (inr (second, next, judged))) =
-        let heads = one_response_head b other second rest next reads judged.reads in
+        let heads = one_head response_heads response_laws b other second rest next reads judged.reads in
         let both : Err e ≡ Ok framing.Interim =
         sym broken ∙ ap (response_framing request) heads.0 ∙ judged.judged in
         cc
@@ -125,7 +106,7 @@ response_or_fault request input response e (end, h) fails = by_fault fails
     body : (b : List ℕ) → FinalHeadThen request (λ framing after. ResponseBodyFails framing after e) b
         → (a ≡ b) ⊎ (IsInterim request a ⊎ IsInterim request b) → is_of_reading e ≡ true
     body b (other, second, rest, final, found) (inl same) =
-        let heads = one_response_head a head other after rest h.holds.3.0.reads
+        let heads = one_head response_heads response_laws a head other after rest h.holds.3.0.reads
         (subst (λ l. ReadsResponseHead l other rest) (sym same) final.0.reads) in
         let both : Ok named ≡ Ok second =
         sym h.holds.3.0.judged ∙ ap (response_framing request) heads.0 ∙ final.0.judged in

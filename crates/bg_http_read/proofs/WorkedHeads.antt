@@ -7,7 +7,7 @@ use Rattle.std.specs.Char.{is_ascii_digit}
 use Rattle.httparse.specs.Grammar as grammar
 use Rattle.httparse.proofs.OnLiterals.{httparse_on_literals}
 use Rattle.httparse.proofs.GrammarLemmas.{response_prefix_free}
-use Rattle.bg_http_read.specs.ResponseHeads.{ReadsResponseHead, ResponseHeadIsCut, ResponseHeadIsMalformed}
+use Rattle.bg_http_read.specs.Heads.{HeadIsCut, HeadIsMalformed, ReadsResponseHead, response_heads}
 
 -- the head of a response without fields
 abbrev plain : grammar.ResponseHead
@@ -52,7 +52,7 @@ size_of_plain : length (grammar.print_response plain) ≡ 19
 unfolding httparse_on_literals
 size_of_plain = refl
 
-cut_head : ResponseHeadIsCut begun
+cut_head : HeadIsCut response_heads begun
 cut_head = (omega arith, none, (codes "\r\n", plain, (is_plain, whole)))
   where
     none : grammar.HasNoResponse begun
@@ -63,7 +63,7 @@ cut_head = (omega arith, none, (codes "\r\n", plain, (is_plain, whole)))
         omega (arith, long, size_of_plain, printed, ap length reads.1)
 
 -- bytes that begin neither with a line end nor with a version are malformed
-malformed_head : ResponseHeadIsMalformed (codes "x")
+malformed_head : HeadIsMalformed response_heads (codes "x")
 unfolding httparse_on_literals
 malformed_head more head rest reads = other head.blank reads.1
   where

@@ -25,7 +25,7 @@ use Rattle.bg_http.specs.declared.response_fault.ResponseFault.TheVariants as fa
 use Rattle.bg_http.specs.declared.response_rules.ResponseFraming.{ResponseFraming}
 use Rattle.bg_http.specs.declared.response_rules.ResponseFraming.TheVariants as framing
 use Rattle.bg_http_read.specs.AnsweredRequests.{refusal}
-use Rattle.bg_http_read.specs.ResponseHeads.{ReadsResponseHead}
+use Rattle.bg_http_read.specs.Heads.{ReadsResponseHead}
 use Rattle.bg_http_read.specs.Responses.{IsResponse, ReadsResponse, ReadsResponseBody, length_of_response, most_response_body, names_another}
 use Rattle.bg_http_read.proofs.AnsweredHeads.{IsNumber, IsTold, IsWritable}
 use Rattle.bg_http_read.proofs.AnsweredRules.{framing_behind}

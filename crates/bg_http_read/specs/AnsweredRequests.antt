@@ -1,9 +1,9 @@
 -- The answers that are written to one client.
-use Rattle.std.specs.Prelude.{◌≡◌, ℕ, Bool, true, false, if◌then◌else◌, IsTrue, All, List, [], ◌∷◌, ◌++◌, map, flat_map, codes, Option, Some, None}
+use Rattle.std.specs.Prelude.{◌≡◌, ℕ, Bool, false, if◌then◌else◌, IsTrue, All, List, [], ◌∷◌, ◌++◌, map, flat_map, codes, Option, Some, None}
 use Rattle.bg_http.specs.Elements.{Field}
 use Rattle.bg_http.specs.Removed.{kept_in_response}
 use Rattle.bg_http.specs.Statuses.{is_refusal}
-use Rattle.bg_http.specs.Texts.{body_sent, field_line, length_line, reason_of, refusal_text, response_text, status_line}
+use Rattle.bg_http.specs.Texts.{reason_of, refusal_text, response_text}
 use Rattle.bg_http.specs.declared.request.Request.{Request}
 use Rattle.bg_http.specs.declared.response.Response.{Response}
 use Rattle.bg_http_read.specs.AnySize.{ReadsResponseOfAnySize}
@@ -34,16 +34,9 @@ MayAnswer request (refuses status) = IsTrue (is_refusal status)
 abbrev pub IsAnswered : Answering → Type 0
 IsAnswered answering = MayAnswer answering.request answering.answer
 
--- the text of a response, which on a connection that is kept has no line `Connection: close`
-abbrev pub kept_response_text : Bool → Request → Response → List ℕ
-kept_response_text false request response = response_text request response
-kept_response_text true request response =
-    status_line response ++ flat_map field_line (kept_in_response response.fields)
-    ++ length_line response.length ++ codes "\r\n" ++ body_sent request response
-
 -- the text of an answer; a connection is closed after a refusal
 abbrev pub answer_text : Bool → Request → Answer → List ℕ
-answer_text keeps request (forwards response) = kept_response_text keeps request response
+answer_text keeps request (forwards response) = response_text keeps request response
 answer_text keeps request (refuses status) = refusal_text status
 
 -- what is written to the client for a request

@@ -11,9 +11,9 @@ use Rattle.bg_http.specs.declared.response.Response.{Response}
 use Rattle.bg_http.specs.declared.response.ResponseHead.{ResponseHead}
 use Rattle.bg_http.specs.declared.response_rules.ResponseFraming.{ResponseFraming}
 use Rattle.bg_http.specs.declared.response_rules.ResponseFraming.TheVariants as framing
-use Rattle.bg_http_read.specs.RequestHeads.{request_parts}
+use Rattle.bg_http_read.specs.Heads.{request_parts}
 use Rattle.bg_http_read.specs.Requests.{ReadsRequestBody}
-use Rattle.bg_http_read.specs.ResponseHeads.{response_parts}
+use Rattle.bg_http_read.specs.Heads.{response_parts}
 use Rattle.bg_http_read.specs.Responses.{IsResponse}
 
 -- the head of a request

@@ -3,7 +3,7 @@ use Rattle.std.specs.Prelude.{◌≡◌, ◌<◌, ◌^◌, ℕ, Bool, true, fals
 use Rattle.std.specs.Fmt.{decimal}
 use Rattle.bg_http.specs.Elements.{Field, has_field}
 use Rattle.bg_http.specs.Removed.{kept_in_request}
-use Rattle.bg_http.specs.Texts.{bytes_of, field_line, host_line, request_line, request_text, size_line, via_line}
+use Rattle.bg_http.specs.Texts.{request_text}
 use Rattle.bg_http.specs.declared.request.Request.{Request}
 use Rattle.bg_http_read.specs.AnySize.{ReadsRequestOfAnySize}
 use Rattle.bg_http_read.specs.Requests.{ReadsRequest}
@@ -18,16 +18,8 @@ pub record Forwarding : Type 0 where
 abbrev pub WasRead : Forwarding → Type 0
 WasRead forwarding = (input rest : List ℕ) × ReadsRequest input forwarding.request rest
 
--- its text, which on a connection that is kept has no line `Connection: close`
-abbrev pub kept_text : Bool → Request → ℕ → List ℕ
-kept_text false request port = request_text request port
-kept_text true request port =
-    request_line request ++ host_line request port
-    ++ flat_map field_line (kept_in_request request.fields)
-    ++ via_line request ++ size_line request.body ++ codes "\r\n" ++ bytes_of request.body
-
 abbrev pub forwarded_text : ℕ → Forwarding → List ℕ
-forwarded_text port forwarding = kept_text forwarding.keeps forwarding.request port
+forwarded_text port forwarding = request_text forwarding.keeps forwarding.request port
 
 -- a Host, if a request of version 1.0 has none
 abbrev pub host_fields : Request → ℕ → List Field

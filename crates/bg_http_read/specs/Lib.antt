@@ -6,16 +6,15 @@ pub mod Chunks
 pub mod ForwardedRequests
 pub mod HeadEnds
 pub mod HeadFaults
+pub mod Heads
 pub mod Laws
 pub mod MessageFaults
 pub mod RefusedHeads
-pub mod RequestHeads
 pub mod RequestPieces
 pub mod RequestStates
 pub mod RequestStreams
 pub mod Requests
 pub mod RequestsFed
-pub mod ResponseHeads
 pub mod ResponseStates
 pub mod Responses
 pub mod ResponsesFed

@@ -3,7 +3,7 @@ use Rattle.std.specs.Prelude.{◌≡◌, ℕ, List, Option, Some, None, is_ok}
 use Rattle.bg_http.specs.RequestRules.{request_framing}
 use Rattle.bg_http.specs.declared.request_fault.RequestFault.{RequestFault}
 use Rattle.bg_http_read.specs.HeadFaults.{RequestHeadFails}
-use Rattle.bg_http_read.specs.RequestHeads.{ReadsRequestHead}
+use Rattle.bg_http_read.specs.Heads.{ReadsRequestHead}
 use Rattle.bg_http_read.specs.declared.refused_head.RefusedHead.{RefusedHead}
 
 -- the input begins with this head, and `is_sound` is whether the head passes all rules

@@ -12,7 +12,7 @@ use Rattle.bg_http.specs.declared.request_fault.RequestFault.TheVariants as faul
 use Rattle.bg_http_read.specs.BodyFaults.{Failure, malformed, large, cut, ChunksFail, LengthFails}
 use Rattle.bg_http_read.specs.Chunks.{ReadsChunks}
 use Rattle.bg_http_read.specs.HeadFaults.{RequestHeadFails}
-use Rattle.bg_http_read.specs.RequestHeads.{ReadsRequestHead}
+use Rattle.bg_http_read.specs.Heads.{ReadsRequestHead}
 
 -- the most bytes that a request's body may have
 abbrev pub most_body : ℕ

@@ -13,7 +13,7 @@ use Rattle.bg_http.specs.declared.response_rules.TheConstants.{MOST_RESPONSE_BOD
 use Rattle.bg_http_read.specs.BodyFaults.{Failure, malformed, large, cut, ChunksFail, LengthFails, EndFails}
 use Rattle.bg_http_read.specs.Chunks.{ReadsChunks}
 use Rattle.bg_http_read.specs.HeadFaults.{ResponseHeadFails}
-use Rattle.bg_http_read.specs.ResponseHeads.{ReadsResponseHead}
+use Rattle.bg_http_read.specs.Heads.{ReadsResponseHead}
 use Rattle.bg_http_read.specs.declared.final_head.TheConstants.{MOST_INTERIM}
 
 -- the most bytes that a response's body may have

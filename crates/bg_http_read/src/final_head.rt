@@ -2,7 +2,7 @@
 ghost use Rattle.std.specs.Prelude.{◌≡◌, ◌≤◌, ◌||◌, List, ℕ, IfErr, IfOk, IfNone, IfSome, IsFalse};
 ghost use Rattle.std.specs.Prelude.{drop, length, nat_le};
 ghost use Rattle.bg_http_read.specs.HeadEnds.{after_bytes, is_over};
-ghost use Rattle.bg_http_read.specs.ResponseHeads.{ResponseHeadIsCut};
+ghost use Rattle.bg_http_read.specs.Heads.{HeadIsCut, response_heads};
 ghost use Rattle.bg_http_read.specs.Responses.{AfterInterim, IsFinalHead, SkipsInterim, names_another};
 ghost use Rattle.bg_http_read.specs.ResponsesFed.{IsReady};
 ghost use Rattle.bg_http_read.specs.ResponseStates.{IsRefused, is_of_stream};
@@ -11,7 +11,7 @@ ghost use Rattle.bg_http_read.specs.declared.head_end.HeadEnd.TheVariants as hea
 use crate::head_end::HeadEnd;
 use crate::head_limits::MOST_HEAD;
 use crate::intake::behind;
-use crate::response_head::find_response_head;
+use crate::parsed_head::find_head;
 use bg_http::{Request, ResponseFault, ResponseFraming, ResponseHead, judge_response};
 use std::alloc::Global;
 
@@ -98,7 +98,7 @@ impl HeadSearch {
             → IfOk result (λ found. IfNone found.head
             (SkipsInterim request.now self.new.interim seen (drop found.taken bytes.now))) }
         ensures cut_off { IfOk result (λ found. IfNone found.head
-            (ResponseHeadIsCut (drop found.taken bytes.now))) }
+            (HeadIsCut response_heads (drop found.taken bytes.now))) }
         ensures ready { IfOk result (λ found. IfNone found.head (IsReady self.new)) }
         ensures end { IfOk result (λ found. IfNone found.head
             (self.new.end ≡ after_bytes head_end.Blank (drop found.taken bytes.now))) }
@@ -110,7 +110,7 @@ impl HeadSearch {
         let mut taken = 0;
         while self.interim <= MOST_INTERIM {
             let rest = behind(bytes, taken);
-            let found = find_response_head(alloc, rest)?;
+            let found = find_head(alloc, rest)?;
             let Some((head, count)) = found else {
                 self.end = HeadEnd::of(rest);
                 return Ok(HeadFound { head: None, taken });

@@ -13,6 +13,7 @@ mod intake;
 pub mod laws;
 mod message_fault;
 mod one_way;
+mod parsed_head;
 mod received_response;
 mod refused_head;
 mod request_body;

@@ -17,9 +17,9 @@ use crate::arrival::Straight;
 use crate::head_end::HeadEnd;
 use crate::head_limits::MOST_HEAD;
 use crate::intake::behind;
+use crate::parsed_head::find_head;
 use crate::refused_head::RefusedHead;
 use crate::request_body::RequestBody;
-use crate::request_head::find_request_head;
 use crate::request_step::RequestStep;
 use crate::seen::Seen;
 use bg_http::{Duplex, RequestFault, judge_request};
@@ -159,7 +159,7 @@ impl RequestProgress {
             self.new.stage ≡ self.old.stage)) }
         ensures fault { IfErr result (λ fault. IsFalse (is_of_stream fault)) }
     {
-        let Some((head, taken)) = find_request_head(self.alloc, bytes)? else {
+        let Some((head, taken)) = find_head(self.alloc, bytes)? else {
             self.stage = RequestStage::Head(HeadEnd::of(bytes));
             return Ok(RequestAdvance {
                 step: RequestStep::More,

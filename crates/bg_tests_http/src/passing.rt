@@ -1,7 +1,8 @@
 //! The outcome of a message, which is read from a stream and written as it is forwarded.
 use crate::paced_stream::{Pace, PacedStream};
 use bg_http::{
-    Bytes, Fields, Request, RequestFault, Response, ResponseFault, write_request, write_response,
+    Bytes, Fields, Persistence, Request, RequestFault, Response, ResponseFault, write_request,
+    write_response,
 };
 use bg_http_read::{read_request, read_response};
 use std::alloc::{AllocError, Global};
@@ -42,8 +43,18 @@ impl Message {
     fn text(&self, alloc: Global) -> io::Result<Vec<u8>> {
         let mut text = Vec::new(alloc);
         match self {
-            Message::Request(request) => write_request(request, PORT, &mut text)?,
-            Message::Response(request, response) => write_response(request, response, &mut text)?,
+            Message::Request(request) => write_request(
+                request,
+                PORT,
+                Persistence::Close,
+                &mut text,
+            )?,
+            Message::Response(request, response) => write_response(
+                request,
+                response,
+                Persistence::Close,
+                &mut text,
+            )?,
         }
         Ok(text)
     }

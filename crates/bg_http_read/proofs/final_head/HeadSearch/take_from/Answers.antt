@@ -1,9 +1,8 @@
 use Rattle.std.proofs.Common.{rules, ◌≡◌, ◌+◌, suc, true, IsFalse, arith, drop, length, ap, subst, sym, ◌∙◌}
 use Rattle.std.proofs.lemmas.List.{drop-drop, length-drop}
-use Rattle.bg_http_read.specs.ResponseHeads.{ReadsResponseHead}
+use Rattle.bg_http_read.specs.Heads.{HeadFails, ReadsResponseHead, response_heads}
 use Rattle.bg_http_read.specs.Responses.{SkipsInterim, names_another}
 use Rattle.bg_http_read.specs.ResponseStates.{IsRefused, is_of_stream}
-use Rattle.bg_http_read.specs.HeadFaults.{ResponseHeadFails}
 use Rattle.bg_http_read.specs.MessageFaults.{as_response}
 use Rattle.bg_http_read.proofs.InterimTaken.{final_found, head_refuses, rule_refuses, many_refuse, skips_next}
 use Rattle.bg_http_read.proofs.StreamFaults.{if_err_is, judged_of_bytes}
@@ -15,13 +14,13 @@ returns-in_err-found-clause-refused c seen skips =
     if_err_is (λ fault. IsRefused c.args.request.now fault seen) c.from_residual.result (as_response e) c.from_residual.ensures.1
     (head_refuses c.args.request.now c.loop-self.self.interim seen (drop c.loop-self.taken c.args.bytes.now) e
     (omega (arith, c.loop-self-test.true)) (c.loop-self.invariant.skips seen skips)
-    (subst (λ l. ResponseHeadFails l (as_response e)) c.behind-rest.ensures c.in_err-found.ensures.none))
+    (subst (λ l. HeadFails response_heads l e) c.behind-rest.ensures c.in_err-found.ensures))
 
 pub returns-in_err-framing-clause-refused : goal.returns-in_err-framing-clause-refused
 returns-in_err-framing-clause-refused c seen skips =
     let w = drop c.loop-self.taken c.args.bytes.now in
-    let found = rw c.in-Some.is at c.in_ok-found.ensures.head in
-    let reads = subst (λ l. ReadsResponseHead l c.in-Some.head (drop c.in-Some.count l)) c.behind-rest.ensures found in
+    let found = rw c.in-Some.is at c.in_ok-found.ensures in
+    let reads = subst (λ l. ReadsResponseHead l c.in-Some.head (drop c.in-Some.count l)) c.behind-rest.ensures found.1 in
     let e = c.in_err-framing.field-0.0 in
     if_err_is (λ fault. IsRefused c.args.request.now fault seen) c.from_residual-in_err-framing.result e c.from_residual-in_err-framing.ensures.1
     (rule_refuses c.args.request.now c.loop-self.self.interim seen w (drop c.in-Some.count w) c.in-Some.head e
@@ -37,8 +36,8 @@ returns-in_err-framing-clause-fault c =
 pub returns-then-not-names_another-clause-head : goal.returns-then-not-names_another-clause-head
 returns-then-not-names_another-clause-head c seen skips =
     let w = drop c.loop-self.taken c.args.bytes.now in
-    let found = rw c.in-Some.is at c.in_ok-found.ensures.head in
-    let reads = subst (λ l. ReadsResponseHead l c.in-Some.head (drop c.in-Some.count l)) c.behind-rest.ensures found in
+    let found = rw c.in-Some.is at c.in_ok-found.ensures in
+    let reads = subst (λ l. ReadsResponseHead l c.in-Some.head (drop c.in-Some.count l)) c.behind-rest.ensures found.1 in
     final_found c.args.request.now c.loop-self.self.interim seen w (drop (c.loop-self.taken + c.in-Some.count) c.args.bytes.now) c.in-Some.head
     c.in_ok-framing.framing (omega (arith, c.loop-self-test.true)) (c.loop-self.invariant.skips seen skips)
     (subst (ReadsResponseHead w c.in-Some.head) (drop-drop c.in-Some.count c.loop-self.taken c.args.bytes.now) reads)
@@ -54,13 +53,12 @@ returns-clause-refused c seen skips =
 pub loop-self-preserved : goal.loop-self-preserved
 loop-self-preserved c =
     let w = drop c.loop-self.taken c.args.bytes.now in
-    let found = rw c.in-Some.is at c.in_ok-found.ensures.head in
-    let reads = subst (λ l. ReadsResponseHead l c.in-Some.head (drop c.in-Some.count l)) c.behind-rest.ensures found in
-    let within = rw c.in-Some.is at c.in_ok-found.ensures.within in
+    let found = rw c.in-Some.is at c.in_ok-found.ensures in
+    let reads = subst (λ l. ReadsResponseHead l c.in-Some.head (drop c.in-Some.count l)) c.behind-rest.ensures found.1 in
     let another : names_another c.in_ok-framing.framing ≡ true = search rules in
     let next : suc c.loop-self.self.interim ≡ c.loop-self.self.interim + 1 = omega arith in
     record {
-      fits = omega (arith, c.loop-self.invariant.fits, within, ap length c.behind-rest.ensures, length-drop c.loop-self.taken c.args.bytes.now);
+      fits = omega (arith, c.loop-self.invariant.fits, found.0, ap length c.behind-rest.ensures, length-drop c.loop-self.taken c.args.bytes.now);
       skips = λ seen skips.
           subst (λ n. SkipsInterim c.args.request.now n seen (drop (c.loop-self.taken + c.in-Some.count) c.args.bytes.now)) next
           (subst (SkipsInterim c.args.request.now (suc c.loop-self.self.interim) seen)
