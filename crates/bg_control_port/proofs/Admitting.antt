@@ -2,7 +2,7 @@
 use Rattle.std.proofs.Common.{◌≡◌, ℕ, true, List, [], ◌∷◌, Option, None, Some, IfSome, All}
 use Rattle.std.proofs.lemmas.List.Elements.{All-nil, All-cons, All-head, All-tail}
 use Rattle.std.specs.declared.net.tcp.TcpStream.{TcpStream}
-use Rattle.bg_control_port.specs.Admissions.{served, served_of}
+use Rattle.bg_control_port.specs.Admissions.{served_of}
 use Rattle.bg_control_port.specs.declared.admission.Admitted.{Admitted}
 use Rattle.bg_peers.specs.Users.{has_peer_user, has_user}
 use Rattle.bg_peers.specs.declared.users.Users.{Users}

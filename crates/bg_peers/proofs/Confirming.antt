@@ -1,8 +1,8 @@
 -- What the reads of a list confirm.
-use Rattle.std.proofs.Common.{◌≡◌, ℕ, Bool, true, false, cond, ◌&&◌, ◌==◌, ◌||◌, List, [], ◌∷◌, map, length, replicate, Option, None, Some, IfSome, All, refl, sym, ap, ◌∙◌, subst, arith}
+use Rattle.std.proofs.Common.{◌≡◌, ℕ, Bool, true, false, cond, ◌&&◌, ◌==◌, List, [], ◌∷◌, length, replicate, Option, None, Some, IfSome, All, refl, ap, ◌∙◌}
 use Rattle.std.proofs.lemmas.Bool.{or_parts}
 use Rattle.std.proofs.lemmas.List.Elements.{All-nil, All-cons}
-use Rattle.std.specs.List.{list_any, zip}
+use Rattle.std.specs.List.{list_any}
 use Rattle.bg_peers.specs.Confirmed.{confirmed_user, confirmed_users, has_user_of}
 use Rattle.bg_peers.specs.Users.{has_user}
 use Rattle.bg_peers.specs.declared.socket_row.PeerSocket.{PeerSocket}

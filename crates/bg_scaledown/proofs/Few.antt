@@ -3,7 +3,6 @@ use Rattle.std.proofs.Common.{◌≡◌, ◌<◌, ◌≤◌, ◌+◌, ℕ, Bool,
 use Rattle.std.specs.Option.{option_map}
 use Rattle.std.proofs.lemmas.Bool.Decides.{nat_tests, eqb_tells}
 use Rattle.bg_strategy.specs.declared.strategy.Strategy.{Strategy}
-use Rattle.bg_revisions.specs.declared.revision.Selectors.{Selectors}
 use Rattle.bg_history.specs.declared.entry.Entry.{Entry}
 use Rattle.bg_history.specs.declared.entry.Entry.TheVariants.{Deploy, Verdict, Abort, Outcome}
 use Rattle.bg_history.specs.declared.entry.Outcome.TheVariants.{Switched}

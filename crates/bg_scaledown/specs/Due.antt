@@ -1,5 +1,5 @@
 -- When a revision with a mark may be scaled down.
-use Rattle.std.specs.Prelude.{◌≤◌, ℕ, Bool, true, false, not, if◌then◌else◌, ◌+◌, ◌==◌, ◌&&◌, ◌||◌, nat_le, is_none, length, List, [], ◌∷◌, filter, find, Option, Some, None, IfSome, IfNone, IsTrue, IsFalse}
+use Rattle.std.specs.Prelude.{◌≤◌, ℕ, Bool, false, not, if◌then◌else◌, ◌+◌, ◌==◌, ◌&&◌, ◌||◌, nat_le, is_none, length, List, [], ◌∷◌, filter, find, Option, Some, None, IfSome, IfNone, IsTrue, IsFalse}
 use Rattle.std.specs.Option.{option_map}
 use Rattle.bg_history.specs.Deadlines.{reaches_limit}
 use Rattle.bg_history.specs.declared.mark.RevisionMark.{RevisionMark}

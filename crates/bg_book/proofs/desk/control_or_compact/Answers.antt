@@ -1,4 +1,4 @@
-use Rattle.std.proofs.Common.{◌≡◌, [], ℕ, true, false, Option, Some, Result, Ok, Err, subst, ap, sym, ◌∙◌, inl, inr}
+use Rattle.std.proofs.Common.{◌≡◌, [], ℕ, true, false, Option, Some, Result, Err, subst, ap, sym, ◌∙◌, inl, inr}
 use Rattle.bg_history.specs.declared.control.Control.{Control}
 use Rattle.bg_rollout.specs.Compaction.{with_compacted}
 use Rattle.bg_rollout.specs.Refusals.{IsRefusedBy, control_refusal}

@@ -1,4 +1,4 @@
-use Rattle.std.proofs.Common.{◌≡◌, ◌∷◌, [], true, false, Option, Some, Result, Ok, Err, subst, ap, sym, ◌∙◌, inl, inr}
+use Rattle.std.proofs.Common.{◌≡◌, ◌∷◌, [], true, false, Option, Some, Result, Err, subst, ap, sym, ◌∙◌, inl, inr}
 use Rattle.bg_revisions.specs.declared.revision.Service.{Service}
 use Rattle.bg_ledger.specs.declared.holding.Holding.{Holding}
 use Rattle.bg_rollout.specs.Compaction.{with_compacted}

@@ -1,4 +1,4 @@
-use Rattle.std.proofs.Common.{◌≡◌, ℕ, false, true, All, None, Option, ap, length, replicate, sym, ◌∙◌}
+use Rattle.std.proofs.Common.{◌≡◌, false, None, ap, length, replicate, sym, ◌∙◌}
 use Rattle.std.proofs.lemmas.List.Elements.{All-same}
 use Rattle.std.proofs.lemmas.Result.{IfOk-weaker}
 use Rattle.std.specs.List.{list_any}
