@@ -22,6 +22,7 @@
 #   live_production  the files of examples/production, before nginx
 #   live_access_log, live_access_log_random   the access log, and two thousand connections of all kinds beside it
 #   live_history     a full history
+#   live_error_pages the pages of refusals
 #   live_analysis    outages that analyses find, by the access log, by reports and by Prometheus
 #   live_dashboard   the dashboard's page in a browser, and a bad revision that its analysis takes back
 #   live_fleet       a fleet of three machines with etcd, HAProxy and nginx, each kind of fault once, and the rules of a fleet
@@ -33,7 +34,7 @@ work=$(mktemp -d)
 trap 'rm -rf "$work"' EXIT
 parts='live live_starting live_timeouts live_resources live_concurrency live_attack live_random live_operator live_controller
     live_readme live_operating live_clients live_endpoints live_operators live_control live_shutdown live_production
-    live_access_log live_access_log_random live_history live_analysis live_memory'
+    live_access_log live_access_log_random live_history live_analysis live_memory live_error_pages'
 # These run alone, since they start many programs: two controllers and eight switches at a time, a browser, and fleets.
 alone='live_crash live_dashboard live_fleet live_fleet_pages'
 play() {

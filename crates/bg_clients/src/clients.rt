@@ -6,7 +6,7 @@ use crate::entry::{ConnectionFacts, entry_of};
 use crate::request_text::text_of;
 use bg_access_log::AccessLog;
 use bg_client_port::{Connection, NextRequest};
-use bg_forward::{Accept, Arrived, ClientStream, Reason, Served};
+use bg_forward::{Accept, Arrived, ClientStream, Reason, RefusalBody, Served};
 use bg_http::{Bytes, Request, RequestFault};
 use bg_ports::{Notices, Ports};
 use bg_revisions::Service;
@@ -51,6 +51,8 @@ pub struct Clients<'a, R: Clock + Wait> {
     pub notices: &'a Notices<'a>,
     /// Whether a request may be dialled at another port than its ticket's. The log then tells how many were dialled.
     pub redispatches: bool,
+    /// What refusals have as their bodies.
+    pub refusal_body: RefusalBody,
 }
 
 impl<'a, R: Clock + Wait> Accept for Clients<'a, R> {
@@ -61,6 +63,12 @@ impl<'a, R: Clock + Wait> Accept for Clients<'a, R> {
 
     // a socket does not tell its bytes
     ghost sent = { λ _. None };
+
+    ghost refusals = { λ clients. clients.refusal_body };
+
+    fn refusal_body(&self) -> RefusalBody {
+        self.refusal_body
+    }
 
     fn accept(&self, service: Service) -> io::Result<Option<Arrived<Client<'a, R>, Service>>> {
         let Some(port) = self.ports.of(service) else {

@@ -49,19 +49,22 @@ serve flags = built_sub (serve_app flags).top
 
 client_and_count_keep : (flags : Flags) → let c = (serve flags).rules in
     Each (Keeps c) (held (flag_rule (codes "abort-on-close")) ∷ held (number_rule (codes "shutdown-grace") 60)
-    ∷ held (count_rule flags.forever) ∷ held (forever_rule flags.forever) ∷ held help_rule ∷ [])
+    ∷ held (flag_rule (codes "error-pages")) ∷ held (count_rule flags.forever) ∷ held (forever_rule flags.forever) ∷ held help_rule ∷ [])
 client_and_count_keep flags = let c = (serve flags).rules in (
   flag_keeps c false (codes "abort-on-close") refl,
   (
     number_keeps c (codes "shutdown-grace") 60 refl,
-    (count_keeps c flags.forever refl, (flag_keeps c flags.forever (codes "forever") refl, (help_keeps c, tt))),
+    (
+      flag_keeps c false (codes "error-pages") refl,
+      (count_keeps c flags.forever refl, (flag_keeps c flags.forever (codes "forever") refl, (help_keeps c, tt))),
+    ),
   ),
 )
 
 endpoint_and_later_keep : (flags : Flags) → let c = (serve flags).rules in
     Each (Keeps c) (held (flag_rule (codes "redispatch")) ∷ held (number_rule (codes "endpoint-limit") 1023)
     ∷ held (flag_rule (codes "abort-on-close")) ∷ held (number_rule (codes "shutdown-grace") 60)
-    ∷ held (count_rule flags.forever) ∷ held (forever_rule flags.forever) ∷ held help_rule ∷ [])
+    ∷ held (flag_rule (codes "error-pages")) ∷ held (count_rule flags.forever) ∷ held (forever_rule flags.forever) ∷ held help_rule ∷ [])
 endpoint_and_later_keep flags = let c = (serve flags).rules in (
   flag_keeps c false (codes "redispatch") refl,
   (number_keeps c (codes "endpoint-limit") 1023 refl, client_and_count_keep flags),
@@ -72,7 +75,7 @@ worker_and_later_keep : (flags : Flags) → let c = (serve flags).rules in
     ∷ held (rule_required_if flags.concurrency (codes "concurrency") 1023) ∷ held (number_rule (codes "preview-concurrency") 1023)
     ∷ held (flag_rule (codes "redispatch")) ∷ held (number_rule (codes "endpoint-limit") 1023)
     ∷ held (flag_rule (codes "abort-on-close")) ∷ held (number_rule (codes "shutdown-grace") 60)
-    ∷ held (count_rule flags.forever) ∷ held (forever_rule flags.forever) ∷ held help_rule ∷ [])
+    ∷ held (flag_rule (codes "error-pages")) ∷ held (count_rule flags.forever) ∷ held (forever_rule flags.forever) ∷ held help_rule ∷ [])
 worker_and_later_keep flags = let c = (serve flags).rules in (
   required_if_keeps c (not flags.concurrency) (codes "workers") 7 refl,
   (
@@ -101,14 +104,17 @@ serve_keeps flags = let c = (serve flags).rules in (
 
 client_and_count_defaults : (flags : Flags) → let c = (serve flags).rules in
     Each (DefaultKeeps c) (held (flag_rule (codes "abort-on-close")) ∷ held (number_rule (codes "shutdown-grace") 60)
-    ∷ held (count_rule flags.forever) ∷ held (forever_rule flags.forever) ∷ held help_rule ∷ [])
+    ∷ held (flag_rule (codes "error-pages")) ∷ held (count_rule flags.forever) ∷ held (forever_rule flags.forever) ∷ held help_rule ∷ [])
 client_and_count_defaults flags = let c = (serve flags).rules in (
   flag_default_keeps c false (codes "abort-on-close") refl,
   (
     no_default_keeps c (held (number_rule (codes "shutdown-grace") 60)) refl,
     (
-      no_default_keeps c (held (count_rule flags.forever)) refl,
-      (flag_default_keeps c flags.forever (codes "forever") refl, (help_default_keeps c, tt)),
+      flag_default_keeps c false (codes "error-pages") refl,
+      (
+        no_default_keeps c (held (count_rule flags.forever)) refl,
+        (flag_default_keeps c flags.forever (codes "forever") refl, (help_default_keeps c, tt)),
+      ),
     ),
   ),
 )
@@ -116,7 +122,7 @@ client_and_count_defaults flags = let c = (serve flags).rules in (
 endpoint_and_later_defaults : (flags : Flags) → let c = (serve flags).rules in
     Each (DefaultKeeps c) (held (flag_rule (codes "redispatch")) ∷ held (number_rule (codes "endpoint-limit") 1023)
     ∷ held (flag_rule (codes "abort-on-close")) ∷ held (number_rule (codes "shutdown-grace") 60)
-    ∷ held (count_rule flags.forever) ∷ held (forever_rule flags.forever) ∷ held help_rule ∷ [])
+    ∷ held (flag_rule (codes "error-pages")) ∷ held (count_rule flags.forever) ∷ held (forever_rule flags.forever) ∷ held help_rule ∷ [])
 endpoint_and_later_defaults flags = let c = (serve flags).rules in (
   flag_default_keeps c false (codes "redispatch") refl,
   (no_default_keeps c (held (number_rule (codes "endpoint-limit") 1023)) refl, client_and_count_defaults flags),
@@ -127,7 +133,7 @@ worker_and_later_defaults : (flags : Flags) → let c = (serve flags).rules in
     ∷ held (rule_required_if flags.concurrency (codes "concurrency") 1023) ∷ held (number_rule (codes "preview-concurrency") 1023)
     ∷ held (flag_rule (codes "redispatch")) ∷ held (number_rule (codes "endpoint-limit") 1023)
     ∷ held (flag_rule (codes "abort-on-close")) ∷ held (number_rule (codes "shutdown-grace") 60)
-    ∷ held (count_rule flags.forever) ∷ held (forever_rule flags.forever) ∷ held help_rule ∷ [])
+    ∷ held (flag_rule (codes "error-pages")) ∷ held (count_rule flags.forever) ∷ held (forever_rule flags.forever) ∷ held help_rule ∷ [])
 worker_and_later_defaults flags = let c = (serve flags).rules in (
   no_default_keeps c (held (rule_required_if (not flags.concurrency) (codes "workers") 7)) refl,
   (

@@ -111,18 +111,19 @@ abbrev pub with_endpoint_rules : App → App
 with_endpoint_rules a = with_rule (with_rule a (flag_rule (codes "redispatch")))
     (number_rule (codes "endpoint-limit") 1023)
 
--- `[--abort-on-close] [--shutdown-grace S]`
+-- `[--abort-on-close] [--shutdown-grace S] [--error-pages]`
 abbrev pub with_client_rules : App → App
-with_client_rules a = with_rule (with_rule a (flag_rule (codes "abort-on-close")))
-    (number_rule (codes "shutdown-grace") 60)
+with_client_rules a = with_rule (with_rule (with_rule a (flag_rule (codes "abort-on-close")))
+    (number_rule (codes "shutdown-grace") 60))
+    (flag_rule (codes "error-pages"))
 
 -- `--count K` and `--forever`; the second is required if `forever` holds, else the first
 abbrev pub with_connection_rules : Bool → App → App
 with_connection_rules forever a = with_rule (with_rule a (count_rule forever)) (forever_rule forever)
 
 -- `serve --active P [--preview P] [--control-socket-mode MODE] [--control-socket-group GROUP] [--preview-concurrency M]
--- [--redispatch] [--endpoint-limit M] [--abort-on-close] [--shutdown-grace S]`, with `--control P` or `--control-socket PATH`
--- or both, `--workers N` or `--concurrency N`, and `--count K` or `--forever`; the flags say which of each two is required
+-- [--redispatch] [--endpoint-limit M] [--abort-on-close] [--shutdown-grace S] [--error-pages]`, with `--control P` or
+-- `--control-socket PATH` or both, `--workers N` or `--concurrency N`, and `--count K` or `--forever`; the flags say which of each two is required
 abbrev pub serve_app : Flags → App
 serve_app flags = with_connection_rules flags.forever (with_client_rules (with_endpoint_rules
     (with_worker_rules flags.concurrency (with_control_rules flags.socket (with_port_rules (new_app (codes "serve")))))))
@@ -251,6 +252,7 @@ pub record IsServe (flags : Flags) (rows : List Row) (settings : ServeSettings) 
   pub abort_on_close_is : settings.abort_on_close ≡ has_flag (codes "abort-on-close") rows
   pub shutdown_grace_is : settings.shutdown_grace ≡ unwrap_or (number_of (codes "shutdown-grace") rows) 1
   pub shutdown_grace_range : IsBetween 1 60 settings.shutdown_grace
+  pub error_pages_is : settings.error_pages ≡ has_flag (codes "error-pages") rows
   pub connections_are : AreConnections flags.forever rows settings.connections
 
 -- the invocation is the subcommand of this name with these matches; 4 seats if no number is given

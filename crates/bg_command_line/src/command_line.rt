@@ -33,6 +33,8 @@ With --abort-on-close, a request ends once its client has ended its input. Witho
 waits for its response, and its request ends only if it resets the connection.
 At a graceful shutdown, a client that has sent nothing is let go after --shutdown-grace seconds; a request that
 has come by then is answered.
+With --error-pages, an answer of the switch itself has a short body with its status and reason: HTML if the client
+accepts text/html, else text. Without it, such an answer has no body.
 With --count, a line quit ends the operators' side, not the workers': the program ends once both are
 done. It then prints the report, and ends with status 0; 1 where the strategy has a fault or a port
 can't be bound.
@@ -71,6 +73,8 @@ check has no words of its own. replay takes --seats N: how many requests can be 
   --shutdown-grace S
                for how many seconds a graceful shutdown keeps clients that have sent nothing, 1 to 60;
                1 where it isn't given
+  --error-pages
+               an answer of the switch itself has a short body with its status and reason
   --count K    how many connections each worker takes until it ends, 1 to 1000000; has to be given,
                unless --forever is; any connection counts, a health check too, and the port is
                closed after the last
@@ -108,7 +112,7 @@ fn replay_command<'a>(alloc: Global) -> Result<Command<'a>, AllocError>
 }
 
 /// `serve --active P [--preview P] [--control-socket-mode MODE] [--control-socket-group GROUP] [--preview-concurrency M]
-/// [--redispatch] [--endpoint-limit M] [--abort-on-close] [--shutdown-grace S]`, with `--control P` or `--control-socket
+/// [--redispatch] [--endpoint-limit M] [--abort-on-close] [--shutdown-grace S] [--error-pages]`, with `--control P` or `--control-socket
 /// PATH` or both, `--workers N` or `--concurrency N`, and `--count K` or `--forever`. The flags say which of each two is
 /// required.
 fn serve_command<'a>(alloc: Global, flags: Flags) -> Result<Command<'a>, AllocError>

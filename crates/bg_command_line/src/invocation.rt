@@ -79,6 +79,9 @@ pub struct ServeSettings<'a> {
     pub abort_on_close: bool,
     /// The number of seconds, 1 to 60, for which a graceful shutdown keeps connections that have sent nothing.
     pub shutdown_grace: u8,
+    /// Whether an answer of the switch itself has a body with its status and reason (nginx's `error_page`, HAProxy's
+    /// `errorfile`).
+    pub error_pages: bool,
     /// The number of connections that each worker takes.
     pub connections: Connections,
 }

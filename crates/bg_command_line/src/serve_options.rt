@@ -19,10 +19,10 @@ const MOST_GRACE: u64 = 60;
 
 /// The options of `serve`: `--active P [--preview P]`; `--control P`, `--control-socket PATH`, `[--control-socket-mode MODE]`
 /// and `[--control-socket-group GROUP]`; `--workers N`, `--concurrency N` and `[--preview-concurrency M]`; `[--redispatch]
-/// [--endpoint-limit M]`; `[--abort-on-close] [--shutdown-grace S]`; `--count K` and `--forever`. The flags say which of
-/// `--control` and `--control-socket` is required, which of `--workers` and `--concurrency`, and which of `--count` and
-/// `--forever`.
-pub(crate) fn serve_options<'a>(flags: Flags) -> [CommandOption<'a>; 15]
+/// [--endpoint-limit M]`; `[--abort-on-close] [--shutdown-grace S] [--error-pages]`; `--count K` and `--forever`. The flags
+/// say which of `--control` and `--control-socket` is required, which of `--workers` and `--concurrency`, and which of
+/// `--count` and `--forever`.
+pub(crate) fn serve_options<'a>(flags: Flags) -> [CommandOption<'a>; 16]
     ensures { (before : App) → fold with_rule before (map option_rule result) ≡ with_connection_rules flags.forever
         (with_client_rules (with_endpoint_rules (with_worker_rules flags.concurrency
         (with_control_rules flags.socket (with_port_rules before))))) }
@@ -105,6 +105,12 @@ pub(crate) fn serve_options<'a>(flags: Flags) -> [CommandOption<'a>; 15]
             value: OptionValue::UpTo(MOST_GRACE),
             required: false,
             help: "For how many seconds a graceful shutdown keeps clients that have sent nothing, 1 to 60; 1 where it isn't given",
+        },
+        CommandOption {
+            name: "error-pages",
+            value: OptionValue::Nothing,
+            required: false,
+            help: "A refusal has a short body with its status and reason: HTML if the client accepts it, else text",
         },
         CommandOption {
             name: "count",

@@ -25,8 +25,8 @@ const DEFAULT_MODE: u16 = 600;
 /// [--seats N]` with N from 1 to 8, and 4 seats if no number is given; or `serve --active P [--preview
 /// P]` with `--control P` or `--control-socket PATH` or both, with ports from 1 to 65535, either `--workers N` with N from 1 to 7 or `--concurrency N`
 /// with N from 1 to 1023, and either `--count K` with K from 1 to 1,000,000 or `--forever`. `serve` also takes
-/// `--preview-concurrency M` and `--endpoint-limit M` with M from 1 to 1023, `--redispatch`, `--abort-on-close`, and
-/// `--shutdown-grace S` with S from 1 to 60, `--control-socket-mode MODE` with MODE from 1 to 777, and
+/// `--preview-concurrency M` and `--endpoint-limit M` with M from 1 to 1023, `--redispatch`, `--abort-on-close`,
+/// `--error-pages`, `--shutdown-grace S` with S from 1 to 60, `--control-socket-mode MODE` with MODE from 1 to 777, and
 /// `--control-socket-group GROUP`. A value may also follow its option after `=`, in the same word.
 ///
 /// The error is `Words` only if `clap` refuses the words, if they ask for help or for the version, or if
@@ -183,6 +183,7 @@ fn serve_of<'a>(flags: Flags, matches: &ArgMatches<'a>) -> Invocation<'a>
         endpoint_limit: endpoint_limit_of(matches),
         abort_on_close: has_flag(matches, "abort-on-close"),
         shutdown_grace: shutdown_grace_of(matches),
+        error_pages: has_flag(matches, "error-pages"),
         connections: connections_of(flags.forever, matches),
     })
 }

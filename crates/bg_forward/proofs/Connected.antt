@@ -15,6 +15,7 @@ use Rattle.bg_http_read.specs.Requests.{WroteFor, WroteOnFault, continue_text}
 use Rattle.bg_forward.specs.Clients.{IsReceived, IsServed}
 use Rattle.bg_forward.specs.Connections.{Connection, EndsBy, IsInterim, IsLastText, IsOwed, MayEnd}
 use Rattle.bg_forward.specs.Connections.{ReadOutcome, ReadsAs, Receives, Wrote, WroteLast, WroteUnlessFailed}
+use Rattle.bg_forward.specs.declared.refusal.RefusalBody.{RefusalBody}
 use Rattle.bg_forward.specs.declared.serving.End.{End}
 use Rattle.bg_forward.specs.declared.serving.End.TheVariants as end
 
@@ -38,16 +39,16 @@ kept (Some x) None k = absurd k
 kept (Some x) (Some y) k = k ∙ sym (append-nil x)
 
 -- nothing was written to the client before the last text
-pub kept_before : (old mid new : Option (List ℕ)) (read : ReadOutcome) (e : End) → Keeps old mid
-    → WroteLast mid new read e → WroteLast old new read e
-kept_before old mid new read end.WriteFailed k w = tt
-kept_before old mid new read end.Closed k w =
+pub kept_before : (body : RefusalBody) (old mid new : Option (List ℕ)) (read : ReadOutcome) (e : End) → Keeps old mid
+    → WroteLast body mid new read e → WroteLast body old new read e
+kept_before body old mid new read end.WriteFailed k w = tt
+kept_before body old mid new read end.Closed k w =
     (w.0, w.1, Appends-trans old mid new [] w.0 (kept old mid k) w.2)
-kept_before old mid new read end.ReadFailed k w =
+kept_before body old mid new read end.ReadFailed k w =
     (w.0, w.1, Appends-trans old mid new [] w.0 (kept old mid k) w.2)
-kept_before old mid new read (end.Refused status) k w =
+kept_before body old mid new read (end.Refused status) k w =
     (w.0, w.1, Appends-trans old mid new [] w.0 (kept old mid k) w.2)
-kept_before old mid new read (end.Answered code) k w =
+kept_before body old mid new read (end.Answered code) k w =
     (w.0, w.1, Appends-trans old mid new [] w.0 (kept old mid k) w.2)
 
 owed : (is_owed : Bool) (old new : Option (List ℕ)) → WritesContinue is_owed old new
@@ -78,8 +79,8 @@ began input old mid f (inr w) =
     let a = answered input old mid w in
     record { interim = a.0; is_interim = inr a.1; appends = a.2 }
 
-module _ (input old mid new : Option (List ℕ)) (read : ReadOutcome) (b : Began input old mid read) where
-  wrote : (e : End) (text : List ℕ) → IsLastText read e text → Appends mid new text → Wrote input old new read e
+module _ (body : RefusalBody) (input old mid new : Option (List ℕ)) (read : ReadOutcome) (b : Began input old mid read) where
+  wrote : (e : End) (text : List ℕ) → IsLastText body read e text → Appends mid new text → Wrote body input old new read e
   wrote e text last appends = record {
     interim = b.interim;
     text = text;
@@ -88,18 +89,18 @@ module _ (input old mid new : Option (List ℕ)) (read : ReadOutcome) (b : Began
     appends = Appends-trans old mid new b.interim text b.appends appends;
   }
 
-  ended : (e : End) → WroteLast mid new read e → WroteUnlessFailed input old new read e
+  ended : (e : End) → WroteLast body mid new read e → WroteUnlessFailed body input old new read e
   ended end.WriteFailed w = tt
   ended end.Closed w = wrote end.Closed w.0 w.1 w.2
   ended end.ReadFailed w = wrote end.ReadFailed w.0 w.1 w.2
   ended (end.Refused status) w = wrote (end.Refused status) w.0 w.1 w.2
   ended (end.Answered code) w = wrote (end.Answered code) w.0 w.1 w.2
 
-module _ (input old mid new : Option (List ℕ)) where
+module _ (body : RefusalBody) (input old mid new : Option (List ℕ)) where
   -- a request was read
   served : (request : Request) (entered : Option Ticket) (e : End) → ReadsAs input (Ok request)
-      → AnswersHead input old mid → MayEnd (Ok request) entered e → WroteLast mid new (Ok request) e
-      → Connection input old new (Ok request) entered e
+      → AnswersHead input old mid → MayEnd (Ok request) entered e → WroteLast body mid new (Ok request) e
+      → Connection body input old new (Ok request) entered e
   served request entered e reads head may_end last =
       let a = answered input old mid head in
       let b : Began input old mid (Ok request) =
@@ -107,23 +108,23 @@ module _ (input old mid new : Option (List ℕ)) where
       record {
         reads = reads;
         may_end = may_end;
-        wrote = ended input old mid new (Ok request) b e last;
+        wrote = ended body input old mid new (Ok request) b e last;
       }
 
   -- no request was read, and writing to the stream did not fail
   refused : (f : RequestFault) (e : End) → IfSome input (λ bytes. RequestFails bytes f)
-      → WroteOnFault input old mid f → EndsBy (request_status f) f e → WroteLast mid new (Err f) e
-      → Connection input old new (Err f) None e
+      → WroteOnFault input old mid f → EndsBy (request_status f) f e → WroteLast body mid new (Err f) e
+      → Connection body input old new (Err f) None e
   refused f e fails wrote ends last = record {
     reads = fails;
     may_end = ends;
-    wrote = ended input old mid new (Err f) (began input old mid f wrote) e last;
+    wrote = ended body input old mid new (Err f) (began input old mid f wrote) e last;
   }
 
   -- no request was read
   turned_away : (f : RequestFault) (e : End) → IfSome input (λ bytes. RequestFails bytes f)
-      → WroteFor input old mid (Err f) → EndsBy (request_status f) f e → WroteLast mid new (Err f) e
-      → Connection input old new (Err f) None e
+      → WroteFor input old mid (Err f) → EndsBy (request_status f) f e → WroteLast body mid new (Err f) e
+      → Connection body input old new (Err f) None e
   turned_away fault.WriteFailed e fails wrote ends last = record {
     reads = fails;
     may_end = ends;
@@ -139,15 +140,15 @@ module _ (input old mid new : Option (List ℕ)) where
 
   -- the request or its fault was received, and then the connection ended
   pub connected : (read : ReadOutcome) (entered : Option Ticket) (e : End) → Receives input old mid read
-      → MayEnd read entered e → WroteLast mid new read e → Connection input old new read entered e
+      → MayEnd read entered e → WroteLast body mid new read e → Connection body input old new read entered e
   connected (Ok request) entered e r may_end last = served request entered e r.reads r.wrote may_end last
   connected (Err f) None e r may_end last = turned_away f e r.reads r.wrote may_end last
   connected (Err f) (Some t) e r may_end last = absurd may_end
 
 -- a client of whom this was received was served
-pub served_client : (sent old new : Option (List ℕ)) (read : ReadOutcome) (entered : Option Ticket) (e : End)
+pub served_client : (body : RefusalBody) (sent old new : Option (List ℕ)) (read : ReadOutcome) (entered : Option Ticket) (e : End)
     → IsReceived sent old read
-    → ((input before : Option (List ℕ)) → Receives input before old read → Connection input before new read entered e)
-    → IsServed sent new read entered e
-served_client None old new read entered e received connection = tt
-served_client (Some input) old new read entered e received connection = connection (Some input) (Some []) received
+    → ((input before : Option (List ℕ)) → Receives input before old read → Connection body input before new read entered e)
+    → IsServed body sent new read entered e
+served_client body None old new read entered e received connection = tt
+served_client body (Some input) old new read entered e received connection = connection (Some input) (Some []) received

@@ -5,7 +5,7 @@ use Rattle.std.specs.Io.KnownBytes.{Appends}
 use Rattle.bg_rollout.specs.declared.ticket.Ticket.{Ticket}
 use Rattle.bg_http.specs.RequestRules.{owes_continue}
 use Rattle.bg_http.specs.Statuses.{request_status}
-use Rattle.bg_http.specs.Texts.{refusal_text, response_text}
+use Rattle.bg_http.specs.Texts.{response_text}
 use Rattle.bg_http.specs.declared.request.Request.{Request}
 use Rattle.bg_http.specs.declared.request.RequestHead.{RequestHead}
 use Rattle.bg_http.specs.declared.request_fault.RequestFault.{RequestFault}
@@ -13,6 +13,8 @@ use Rattle.bg_http.specs.declared.request_fault.RequestFault.TheVariants as faul
 use Rattle.bg_http.specs.declared.request_rules.Framing.{Framing}
 use Rattle.bg_http.specs.declared.response.Response.{Response}
 use Rattle.bg_http_read.specs.Requests.{HeadRefused, JudgedHead, ReadsRequest, RequestFails, WroteFor, continue_text}
+use Rattle.bg_forward.specs.RefusalPages.{refusal_page, refused_text}
+use Rattle.bg_forward.specs.declared.refusal.RefusalBody.{RefusalBody}
 use Rattle.bg_forward.specs.declared.serving.End.{End}
 use Rattle.bg_forward.specs.declared.serving.End.TheVariants as end
 
@@ -73,18 +75,20 @@ IsResponseText (Ok request) code text =
     (response : Response) × (response.code ≡ code) × (text ≡ response_text false request response)
 IsResponseText (Err fault) code text = ⊥
 
--- the bytes that are written to the client last, by the end of the connection
-abbrev pub IsLastText : ReadOutcome → End → List ℕ → Type 0
-IsLastText read end.Closed text = text ≡ []
-IsLastText read end.ReadFailed text = text ≡ []
-IsLastText read (end.Refused status) text = text ≡ refusal_text status
-IsLastText read (end.Answered code) text = IsResponseText read code text
-IsLastText read end.WriteFailed text = ⊤
+-- the bytes that are written to the client last, by what refusals have as their bodies and by the end
+-- of the connection
+abbrev pub IsLastText : RefusalBody → ReadOutcome → End → List ℕ → Type 0
+IsLastText body read end.Closed text = text ≡ []
+IsLastText body read end.ReadFailed text = text ≡ []
+IsLastText body read (end.Refused status) text = text ≡ refused_text (refusal_page body read) status
+IsLastText body read (end.Answered code) text = IsResponseText read code text
+IsLastText body read end.WriteFailed text = ⊤
 
 -- what was written last; nothing is said if writing failed
-abbrev pub WroteLast : Option (List ℕ) → Option (List ℕ) → ReadOutcome → End → Type 0
-WroteLast old new read end.WriteFailed = ⊤
-WroteLast old new read e = (text : List ℕ) × IsLastText read e text × Appends old new text
+abbrev pub WroteLast
+    : RefusalBody → Option (List ℕ) → Option (List ℕ) → ReadOutcome → End → Type 0
+WroteLast body old new read end.WriteFailed = ⊤
+WroteLast body old new read e = (text : List ℕ) × IsLastText body read e text × Appends old new text
 
 -- a head that passes all rules was read, and this is owed to it: `100 Continue` or nothing
 pub record IsOwed (input : Option (List ℕ)) (interim : List ℕ) : Type 0 where
@@ -101,23 +105,24 @@ IsInterim input (Err fault) interim =
     ((interim ≡ []) × IfSome input (λ bytes. HeadRefused bytes fault)) ⊎ IsOwed input interim
 
 -- the bytes that were written to the client: first while its request was read, then at the end
-pub record Wrote (input old new : Option (List ℕ)) (read : ReadOutcome) (e : End) : Type 0 where
+pub record Wrote (body : RefusalBody) (input old new : Option (List ℕ)) (read : ReadOutcome) (e : End)
+    : Type 0 where
   pub interim : List ℕ
   pub text : List ℕ
   pub is_interim : IsInterim input read interim
-  pub is_last : IsLastText read e text
+  pub is_last : IsLastText body read e text
   pub appends : Appends old new (interim ++ text)
 
 -- the same, unless writing to the client failed
 abbrev pub WroteUnlessFailed
-    : Option (List ℕ) → Option (List ℕ) → Option (List ℕ) → ReadOutcome → End → Type 0
-WroteUnlessFailed input old new read end.WriteFailed = ⊤
-WroteUnlessFailed input old new read e = Wrote input old new read e
+    : RefusalBody → Option (List ℕ) → Option (List ℕ) → Option (List ℕ) → ReadOutcome → End → Type 0
+WroteUnlessFailed body input old new read end.WriteFailed = ⊤
+WroteUnlessFailed body input old new read e = Wrote body input old new read e
 
--- a connection on which this was read: it is the outcome of reading the client's bytes, this end is
--- possible for it, and the bytes that were written to the client
-pub record Connection (input old new : Option (List ℕ)) (read : ReadOutcome) (entered : Option Ticket) (e : End)
+-- a connection on which this was read, where refusals have these bodies: it is the outcome of reading
+-- the client's bytes, this end is possible for it, and the bytes that were written to the client
+pub record Connection (body : RefusalBody) (input old new : Option (List ℕ)) (read : ReadOutcome) (entered : Option Ticket) (e : End)
     : Type 0 where
   pub reads : ReadsAs input read
   pub may_end : MayEnd read entered e
-  pub wrote : WroteUnlessFailed input old new read e
+  pub wrote : WroteUnlessFailed body input old new read e

@@ -2,25 +2,26 @@
 ghost use Rattle.std.specs.Prelude.{◌≡◌, ◌<◌, ◌⊎◌, [], false, IfErr, IfOk, IfSome, IsTrue, None, OnOk, Ok};
 ghost use Rattle.std.specs.Io.KnownBytes.{Appends, Keeps};
 ghost use Rattle.bg_http.specs.Statuses.{is_refusal};
-ghost use Rattle.bg_http.specs.Texts.{refusal_text, request_text, response_text};
+ghost use Rattle.bg_http.specs.Texts.{request_text, response_text};
 ghost use Rattle.bg_http_read.specs.Responses.{ReadsResponse};
 ghost use Rattle.bg_forward.specs.Buffers.{held, stream_of};
 ghost use Rattle.bg_forward.specs.Causes.{IsFound, IsFoundAt};
 ghost use Rattle.bg_forward.specs.Connections.{IsGatewayStatus, MayBeRefused, MayEndInside, ReadOutcome};
 ghost use Rattle.bg_forward.specs.Connections.{WroteLast};
 ghost use Rattle.bg_forward.specs.Reasons.{TellsWhy, reason_status};
+ghost use Rattle.bg_forward.specs.RefusalPages.{refusal_page, refused_text};
+ghost use Rattle.bg_forward.specs.declared.refusal.RefusalBody.{RefusalBody};
 ghost use Rattle.bg_forward.specs.declared.serving.End.TheVariants as end;
 
 use crate::buffered::Buffered;
 use crate::gate::Gate;
 use crate::reason::Reason;
+use crate::refusal::{RefusalBody, RefusalPage, write_refused};
 use crate::serving::{End, Worker};
 use crate::streams::ClientStream;
 use bg_book::GoOn;
 use bg_dial::{Dial, Dialled};
-use bg_http::{
-    MOST_TURNS, Persistence, Request, Response, write_refusal, write_request, write_response,
-};
+use bg_http::{MOST_TURNS, Persistence, Request, Response, write_request, write_response};
 use bg_http_read::ResponseParser;
 use bg_ledger::{Names, Seat};
 use std::io;
@@ -37,12 +38,20 @@ pub(crate) struct ForwardOutcome {
     pub(crate) reason: Option<Reason>,
 }
 
+/// A request that is answered.
+#[derive(Clone, Copy, Drop)]
+pub(crate) struct Asked<'a> {
+    pub(crate) request: &'a Request,
+    /// What its client gets as the body of a refusal.
+    pub(crate) refusal_body: RefusalBody,
+}
+
 /// Forwards a request over the connection that a dial gave, and answers its client with the response or a
 /// refusal. If the dial gave no connection, the answer is 502.
 pub(crate) fn forward_and_answer<N: Names, G: Gate<N>, S: ClientStream, D: Dial>(
     worker: &Worker<G, D>,
     seat: &mut Seat<N>,
-    request: &Request,
+    asked: &Asked<'_>,
     dialled: Dialled<D::Stream>,
     client: &mut Buffered<S>,
 ) -> ForwardOutcome
@@ -53,13 +62,18 @@ pub(crate) fn forward_and_answer<N: Names, G: Gate<N>, S: ClientStream, D: Dial>
     ensures why { TellsWhy result.end result.reason }
     ensures found { IsFoundAt (G.gives_up worker.now.gate.now seat.old) ((s : S) × S.gone s)
         result.end result.reason }
-    ensures wrote { WroteLast (S.contents (stream_of client.old))
-        (S.contents (stream_of client.new)) (Ok request.now) result.end }
+    ensures wrote { WroteLast asked.now.refusal_body (S.contents (stream_of client.old))
+        (S.contents (stream_of client.new)) (Ok asked.now.request.now) result.end }
 {
+    let request = asked.request;
     match forward(worker, seat, request, dialled, &mut client.stream) {
         Ok(response) => answer(request, &response, client),
         Err(reason) => ForwardOutcome {
-            end: refuse(reason.status(), client),
+            end: refuse(
+                reason.status(),
+                asked.refusal_body.page_for(request),
+                client,
+            ),
             reason: Some(reason),
         },
     }
@@ -190,7 +204,7 @@ fn answer<S: Write>(
     ensures end { ((result.end ≡ end.Answered response.now.code) × (result.reason ≡ None))
         ⊎ (result.end ≡ end.WriteFailed) }
     ensures reason { IfSome result.reason (λ reason. reason ≡ Reason.ClientGone) }
-    ensures wrote { WroteLast (S.contents (stream_of client.old))
+    ensures wrote { (body : RefusalBody) → WroteLast body (S.contents (stream_of client.old))
         (S.contents (stream_of client.new)) (Ok request.now) result.end }
 {
     match send_response(request, response, client) {
@@ -219,27 +233,36 @@ fn send_response<S: Write>(
     client.flush()
 }
 
-/// Answers a client with a refusal.
-pub(crate) fn refuse<S: Write>(status: u16, client: &mut Buffered<S>) -> End
+/// Answers a client with a refusal, which has this page or an empty body.
+pub(crate) fn refuse<S: Write>(
+    status: u16,
+    page: Option<RefusalPage>,
+    client: &mut Buffered<S>,
+) -> End
     requires status { IsTrue (is_refusal status) }
     requires empty { held client.old ≡ [] }
     ensures end { MayBeRefused status result }
-    ensures wrote { (outcome : ReadOutcome) → WroteLast (S.contents (stream_of client.old))
-        (S.contents (stream_of client.new)) outcome result }
+    ensures wrote { (body : RefusalBody) (outcome : ReadOutcome) → page ≡ refusal_page body outcome
+        → WroteLast body (S.contents (stream_of client.old)) (S.contents (stream_of client.new))
+        outcome result }
 {
-    match send_refusal(status, client) {
+    match send_refusal(status, page, client) {
         Ok(()) => End::Refused(status),
         Err(_) => End::WriteFailed,
     }
 }
 
 /// Writes a refusal and flushes it.
-fn send_refusal<S: Write>(status: u16, client: &mut Buffered<S>) -> io::Result<()>
+fn send_refusal<S: Write>(
+    status: u16,
+    page: Option<RefusalPage>,
+    client: &mut Buffered<S>,
+) -> io::Result<()>
     requires status { IsTrue (is_refusal status) }
     requires empty { held client.old ≡ [] }
     ensures { OnOk result (Appends (S.contents (stream_of client.old))
-        (S.contents (stream_of client.new)) (refusal_text status)) }
+        (S.contents (stream_of client.new)) (refused_text page status)) }
 {
-    write_refusal(status, client)?;
+    write_refused(status, page, client)?;
     client.flush()
 }

@@ -5,6 +5,7 @@ ghost use Rattle.bg_forward.specs.Causes.{IsCause};
 ghost use Rattle.bg_forward.specs.Connections.{Connection, ReadOutcome, Receives};
 ghost use Rattle.bg_forward.specs.Routes.{IsRouted};
 ghost use Rattle.bg_forward.specs.Seats.{calls_made, seat_after};
+ghost use Rattle.bg_forward.specs.declared.refusal.RefusalBody.TheVariants as body;
 
 use crate::buffered::Buffered;
 use crate::gate::Gate;
@@ -43,7 +44,7 @@ pub fn serve_in_memory<N: Names, G: Gate<N>, D: Dial>(
     ensures gives { IfSome result.served.entered
         (λ t. G.gives worker.now.gate.now worker.now.service seat.old t) }
     ensures route { IsRouted (D.routes worker.now.dial.now) result.served.entered result.served.route }
-    ensures client { (read : ReadOutcome) × Connection (Some input.now) (Some []) (Some result.written)
+    ensures client { (read : ReadOutcome) × Connection body.Empty (Some input.now) (Some []) (Some result.written)
         read result.served.entered result.served.end
         × IsCause read (λ t. G.gives_up worker.now.gate.now (seat_in seat.old t)) ⊥
         result.served.entered result.served.end result.served.reason }

@@ -9,11 +9,13 @@ ghost use Rattle.bg_forward.specs.Connections.{Connection, EndsBy, MayEnd, ReadO
 ghost use Rattle.bg_forward.specs.Connections.{WroteLast};
 ghost use Rattle.bg_forward.specs.Reasons.{TellsWhy, request_reason};
 ghost use Rattle.bg_forward.specs.Seats.{calls_made, seat_after};
+ghost use Rattle.bg_forward.specs.declared.refusal.RefusalBody.TheVariants as body;
 
 use crate::buffered::Buffered;
-use crate::forwarding::{ForwardOutcome, forward_and_answer, refuse};
+use crate::forwarding::{Asked, ForwardOutcome, forward_and_answer, refuse};
 use crate::gate::Gate;
 use crate::reason::Reason;
+use crate::refusal::RefusalBody;
 use crate::streams::ClientStream;
 use bg_book::Ticket;
 use bg_dial::{Dial, Route};
@@ -65,7 +67,7 @@ pub struct Worker<'a, G, D> {
 }
 
 /// Serves one client on a seat that is out: reads its whole request, and then serves it as
-/// `serve_received` does. The seat is out at the end, also after a failure.
+/// `serve_received` does, with refusals that have empty bodies. The seat is out at the end, also after a failure.
 pub fn serve_one<N: Names, G: Gate<N>, S: ClientStream + Duplex, D: Dial>(
     worker: &Worker<G, D>,
     seat: &mut Seat<N>,
@@ -82,14 +84,14 @@ pub fn serve_one<N: Names, G: Gate<N>, S: ClientStream + Duplex, D: Dial>(
         (λ t. G.gives worker.now.gate.now worker.now.service seat.old t) }
     ensures route { IsRouted (D.routes worker.now.dial.now) result.entered result.route }
     ensures why { TellsWhy result.end result.reason }
-    ensures client { (read : ReadOutcome) × Connection (S.remaining (stream_of client.old))
+    ensures client { (read : ReadOutcome) × Connection body.Empty (S.remaining (stream_of client.old))
         (S.contents (stream_of client.old)) (S.contents (stream_of client.new))
         read result.entered result.end
         × IsCause read (λ t. G.gives_up worker.now.gate.now (seat_in seat.old t))
         ((s : S) × S.gone s) result.entered result.end result.reason }
 {
     let received = read_request(worker.alloc, &mut client.stream);
-    serve_received(worker, seat, &received, client)
+    serve_received(worker, seat, &received, RefusalBody::Empty, client)
 }
 
 /// Serves one client whose request was received, on a seat that is out: enters, dials for the
@@ -112,12 +114,17 @@ pub fn serve_one<N: Names, G: Gate<N>, S: ClientStream + Duplex, D: Dial>(
 /// (nginx's `proxy_ignore_client_abort off`). The reason is the same if the client does not take its response. The
 /// request leaves after its answer or refusal was written or the write failed.
 ///
+/// A refusal has the body that `refusal_body` says: none, or a page. The page of a request is HTML if its
+/// Accept fields name `text/html` without a weight of zero, and text otherwise; a HEAD gets the head alone
+/// (RFC 9110 sections 9.3.2 and 12.5.1). The page for a fault is always text.
+///
 /// The writes to the client and to the endpoint go through a buffer, which is flushed before the
 /// next step. A failed flush counts as a failed write.
 pub fn serve_received<N: Names, G: Gate<N>, S: ClientStream, D: Dial>(
     worker: &Worker<G, D>,
     seat: &mut Seat<N>,
     received: &Result<Request, RequestFault>,
+    refusal_body: RefusalBody,
     client: &mut Buffered<S>,
 ) -> Served
     requires out { seat.old.number ≡ 0 }
@@ -134,17 +141,23 @@ pub fn serve_received<N: Names, G: Gate<N>, S: ClientStream, D: Dial>(
     ensures cause { IsCause received.now (λ t. G.gives_up worker.now.gate.now (seat_in seat.old t))
         ((s : S) × S.gone s) result.entered result.end result.reason }
     ensures may_end { MayEnd received.now result.entered result.end }
-    ensures wrote { WroteLast (S.contents (stream_of client.old))
+    ensures wrote { WroteLast refusal_body (S.contents (stream_of client.old))
         (S.contents (stream_of client.new)) received.now result.end }
     ensures client { (input before : Option (List ℕ))
         → Receives input before (S.contents (stream_of client.old)) received.now
-        → Connection input before (S.contents (stream_of client.new)) received.now
+        → Connection refusal_body input before (S.contents (stream_of client.new)) received.now
         result.entered result.end }
 {
     match received {
-        Ok(request) => serve_request(worker, seat, request, client),
+        Ok(request) => {
+            let asked = Asked {
+                request,
+                refusal_body,
+            };
+            serve_request(worker, seat, &asked, client)
+        }
         Err(fault) => {
-            let outcome = refuse_fault(*fault, client);
+            let outcome = refuse_fault(*fault, refusal_body, client);
             Served {
                 entered: None,
                 route: None,
@@ -159,7 +172,7 @@ pub fn serve_received<N: Names, G: Gate<N>, S: ClientStream, D: Dial>(
 fn serve_request<N: Names, G: Gate<N>, S: ClientStream, D: Dial>(
     worker: &Worker<G, D>,
     seat: &mut Seat<N>,
-    request: &Request,
+    asked: &Asked<'_>,
     client: &mut Buffered<S>,
 ) -> Served
     requires out { seat.old.number ≡ 0 }
@@ -169,13 +182,13 @@ fn serve_request<N: Names, G: Gate<N>, S: ClientStream, D: Dial>(
     ensures gives { IfSome result.entered
         (λ t. G.gives worker.now.gate.now worker.now.service seat.old t) }
     ensures route { IsRouted (D.routes worker.now.dial.now) result.entered result.route }
-    ensures may_end { MayEnd (Ok request.now) result.entered result.end }
+    ensures may_end { MayEnd (Ok asked.now.request.now) result.entered result.end }
     ensures why { TellsWhy result.end result.reason }
-    ensures cause { IsCause (Ok request.now)
+    ensures cause { IsCause (Ok asked.now.request.now)
         (λ t. G.gives_up worker.now.gate.now (seat_in seat.old t)) ((s : S) × S.gone s)
         result.entered result.end result.reason }
-    ensures wrote { WroteLast (S.contents (stream_of client.old))
-        (S.contents (stream_of client.new)) (Ok request.now) result.end }
+    ensures wrote { WroteLast asked.now.refusal_body (S.contents (stream_of client.old))
+        (S.contents (stream_of client.new)) (Ok asked.now.request.now) result.end }
 {
     let ticket = match worker.gate.enter(seat, worker.service) {
         Ok(ticket) => ticket,
@@ -183,14 +196,14 @@ fn serve_request<N: Names, G: Gate<N>, S: ClientStream, D: Dial>(
             return Served {
                 entered: None,
                 route: None,
-                end: refuse(503, client),
+                end: refuse(503, asked.refusal_body.page_for(asked.request), client),
                 reason: Some(Reason::of_enter(fault)),
             };
         }
     };
     let dialled = worker.dial.dial(ticket.port);
     let route = dialled.route;
-    let outcome = forward_and_answer(worker, seat, request, dialled, client);
+    let outcome = forward_and_answer(worker, seat, asked, dialled, client);
     worker.gate.leave(seat);
     Served {
         entered: Some(ticket),
@@ -201,17 +214,21 @@ fn serve_request<N: Names, G: Gate<N>, S: ClientStream, D: Dial>(
 }
 
 /// Ends a connection that gave no request.
-fn refuse_fault<S: Write>(fault: RequestFault, client: &mut Buffered<S>) -> ForwardOutcome
+fn refuse_fault<S: Write>(
+    fault: RequestFault,
+    refusal_body: RefusalBody,
+    client: &mut Buffered<S>,
+) -> ForwardOutcome
     requires { held client.old ≡ [] }
     ensures may_end { EndsBy (request_status fault) fault result.end }
     ensures why { TellsWhy result.end result.reason }
     ensures reason { result.reason ≡ request_reason fault }
-    ensures wrote { WroteLast (S.contents (stream_of client.old))
+    ensures wrote { WroteLast refusal_body (S.contents (stream_of client.old))
         (S.contents (stream_of client.new)) (Err fault) result.end }
 {
     if let Some(reason) = Reason::of_request(fault) {
         return ForwardOutcome {
-            end: refuse(reason.status(), client),
+            end: refuse(reason.status(), refusal_body.page_for_fault(), client),
             reason: Some(reason),
         };
     }

@@ -3,7 +3,9 @@ ghost use Rattle.std.specs.Prelude.{◌≡◌, false, ℕ, IfOk, IfSome, IsTrue,
 ghost use Rattle.std.specs.Io.KnownBytes.{Keeps};
 ghost use Rattle.bg_forward.specs.Clients.{IsReceived, IsServed};
 ghost use Rattle.bg_forward.specs.Connections.{MayEnd};
+ghost use Rattle.bg_forward.specs.declared.refusal.RefusalBody.{RefusalBody};
 
+use crate::refusal::RefusalBody;
 use crate::serving::Served;
 use bg_http::{MemoryStream, Request, RequestFault};
 use bg_revisions::Service;
@@ -63,6 +65,13 @@ pub trait Accept {
     /// The bytes that a sender has sent on its connection; `None` if they are not known, as over a socket.
     ghost sent: { Self.Sender → Option (List ℕ) };
 
+    /// What the refusals of all its clients have as their bodies.
+    ghost refusals: { Self → RefusalBody };
+
+    /// What the refusals of its clients have as their bodies. It is always the same.
+    fn refusal_body(&self) -> RefusalBody
+        ensures { result ≡ refusals self.now };
+
     /// Waits for the next client of a service whose request is over: it was received whole, it has a
     /// fault, or the client ended it. `None` means that no further client comes; the worker that gets
     /// it asks no more. An error counts as one connection.
@@ -78,9 +87,10 @@ pub trait Accept {
     /// the client may still be sending it.
     ///
     /// The end is possible for what was received. If the bytes that the client sent are known, this is its whole
-    /// connection: what was received of them, and exactly what was written to it, if no write failed.
+    /// connection: what was received of them, and exactly what was written to it, if no write failed. A refusal has the
+    /// body that `refusal_body` gives.
     fn close(&self, client: Arrived<Self::Stream, Self::Sender>, served: &Served)
         requires may_end { MayEnd client.received served.now.entered served.now.end }
-        requires connection { IsServed (sent client.sender) (Self.Stream.contents client.stream)
+        requires connection { IsServed (refusals self.now) (sent client.sender) (Self.Stream.contents client.stream)
             client.received served.now.entered served.now.end };
 }

@@ -78,6 +78,7 @@ fn work<N: Names, G: Gate<N>, A: Accept, D: Dial>(
         dial: context.dial,
         service,
     };
+    let refusal_body = context.accept.refusal_body();
     for _ in 0..count {
         let Arrived {
             stream,
@@ -89,7 +90,7 @@ fn work<N: Names, G: Gate<N>, A: Accept, D: Dial>(
             Err(_) => continue,
         };
         let mut client = Buffered::new(context.alloc, stream);
-        let served = serve_received(&worker, seat, &received, &mut client);
+        let served = serve_received(&worker, seat, &received, refusal_body, &mut client);
         let stream = client.into_inner();
         let client = Arrived {
             stream,

@@ -11,6 +11,7 @@ use Rattle.bg_http.specs.declared.names.RuledName.TheVariants as ruled
 
 -- each name that a rule speaks of is standard
 is_standard : (name : RuledName) → IsStandardName (str_to_ascii_lowercase (spelled name))
+is_standard ruled.Accept = (standard.Accept, refl)
 is_standard ruled.Connection = (standard.Connection, refl)
 is_standard ruled.ContentLength = (standard.ContentLength, refl)
 is_standard ruled.Expect = (standard.Expect, refl)
@@ -31,6 +32,7 @@ not_ruled text h name = by_test (str_eq_ignore_ascii_case text (spelled name)) r
     by_test false e = refl
 
 lower_case : (name : RuledName) → str_to_ascii_lowercase (spelled name) ≡ spelled name
+lower_case ruled.Accept = refl
 lower_case ruled.Connection = refl
 lower_case ruled.ContentLength = refl
 lower_case ruled.Expect = refl

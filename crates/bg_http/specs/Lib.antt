@@ -1,5 +1,7 @@
+pub mod Accepts
 pub mod Codings
 pub mod Elements
+pub mod ErrorPages
 pub mod Held
 pub mod Laws
 pub mod Lengths

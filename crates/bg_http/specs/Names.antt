@@ -6,6 +6,7 @@ use Rattle.bg_http.specs.declared.names.RuledName.TheVariants as ruled
 
 -- the name in lower case
 abbrev pub spelled : RuledName → List ℕ
+spelled ruled.Accept = codes "accept"
 spelled ruled.Connection = codes "connection"
 spelled ruled.ContentLength = codes "content-length"
 spelled ruled.Expect = codes "expect"

@@ -42,7 +42,7 @@ fn trim_start(mut text: &[u8]) -> &[u8]
 }
 
 /// The text without the blanks at both ends.
-fn trim(text: &[u8]) -> &[u8]
+pub(crate) fn trim(text: &[u8]) -> &[u8]
     ensures { result.now ≡ trimmed text.now }
 {
     let mut text = trim_start(text);

@@ -5,9 +5,11 @@
 //! docs/HTTP.md lists what is refused although others accept it, and why.
 #![tactic(auto)]
 
+mod accept;
 mod bytes;
 mod codings;
 mod elements;
+mod error_page;
 mod field;
 mod field_place;
 mod fields;
@@ -27,6 +29,7 @@ mod stream;
 mod writers;
 
 pub use bytes::Bytes;
+pub use error_page::{ErrorPage, page_for, write_error_page};
 pub use field::Field;
 pub use fields::{FieldIter, Fields};
 pub use memory_stream::MemoryStream;
@@ -36,6 +39,8 @@ pub use request_fault::RequestFault;
 pub use request_rules::{Framing, MOST_REQUEST_BODY, judge_request, owes_continue};
 pub use response::{Response, ResponseHead};
 pub use response_fault::ResponseFault;
-pub use response_rules::{MOST_RESPONSE_BODY, ResponseFraming, judge_response, length_told};
+pub use response_rules::{
+    MOST_RESPONSE_BODY, ResponseFraming, asks_for_head, judge_response, length_told,
+};
 pub use stream::{Duplex, MOST_TURNS};
 pub use writers::{write_refusal, write_request, write_response};

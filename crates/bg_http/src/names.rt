@@ -7,6 +7,7 @@ use http_header::HeaderName;
 /// A standard field name that a rule uses.
 #[derive(Clone, Copy, PartialEq, Eq, Debug, Drop)]
 pub(crate) enum RuledName {
+    Accept,
     Connection,
     ContentLength,
     Expect,
@@ -31,6 +32,7 @@ fn ruled_as(name: &str) -> Option<RuledName>
     ensures none { IfNone result ((ruled : RuledName) → bytes_eq name.now (spelled ruled) ≡ false) }
 {
     match name {
+        "accept" => Some(RuledName::Accept),
         "connection" => Some(RuledName::Connection),
         "content-length" => Some(RuledName::ContentLength),
         "expect" => Some(RuledName::Expect),

@@ -94,7 +94,7 @@ fn is_bad_code(code: u16) -> bool
 }
 
 /// Whether the method is HEAD.
-fn asks_for_head(request: &Request) -> bool
+pub fn asks_for_head(request: &Request) -> bool
     ensures { result ≡ spec.asks_for_head request.now }
 {
     request.method.get() == b"HEAD".as_slice()

@@ -231,7 +231,8 @@ pub fn write_refusal<W: Write>(status: u16, writer: &mut W) -> io::Result<()>
     )
 }
 
-fn reason(status: u16) -> &'static str
+/// The reason of a refusal.
+pub(crate) fn reason(status: u16) -> &'static str
     ensures { result.now ≡ spec.reason_of status }
 {
     match status {

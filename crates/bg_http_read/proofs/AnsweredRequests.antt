@@ -14,7 +14,7 @@ use Rattle.bg_http.specs.declared.response.Response.{Response}
 use Rattle.bg_http.specs.declared.response.ResponseHead.{ResponseHead}
 use Rattle.bg_http.specs.declared.response_rules.ResponseFraming.{ResponseFraming}
 use Rattle.bg_http.specs.declared.response_rules.ResponseFraming.TheVariants as framing
-use Rattle.bg_http_read.specs.AnsweredRequests.{Answer, Answering, AreReadAsAnswered, IsAnswered, MayAnswer, answer_text, answered, client_text, forwarded_response, forwards, refusal, refuses, response_of}
+use Rattle.bg_http_read.specs.AnsweredRequests.{Answer, Answering, AreReadAsAnswered, IsAnswered, MayAnswer, answer_text, answered, client_text, forwarded_response, forwards, page_refusal, refusal, refuses, refuses_with, response_of}
 use Rattle.bg_http_read.specs.AnySize.{JudgedOfAnySize, ReadsAfterInterim, ReadsResponseOfAnySize}
 use Rattle.bg_http_read.specs.Requests.{continue_text}
 use Rattle.bg_http_read.specs.Heads.{response_parts}
@@ -24,6 +24,7 @@ use Rattle.bg_http_read.proofs.AnsweredRules.{answer_is, answer_passes, answered
 use Rattle.bg_http_read.proofs.ForwardedRules.{NoneGoesOn}
 use Rattle.bg_http_read.proofs.OneResponse.{same_answer}
 use Rattle.bg_http_read.proofs.OneSequence.{answers_are_read, one_sequence_of_answers}
+use Rattle.bg_http_read.proofs.WrittenPages.{page_is, page_is_writable}
 use Rattle.bg_http_read.proofs.WrittenResponses.{received_is_writable, refusal_is_writable}
 
 -- ---- an input begins with at most one answer
@@ -128,13 +129,18 @@ refusal_is request status =
 
 answer_is_read : NoneGoesOn (codes "transfer-encoding") → NoneGoesOn (codes "content-length") → (keeps : Bool)
     (request : Request) (answer : Answer) (more : List ℕ) → MayAnswer request answer
-    → ReadsAfterInterim request 0 (response_of keeps answer) (answer_text keeps request answer ++ more) more
+    → ReadsAfterInterim request 0 (response_of keeps request answer) (answer_text keeps request answer ++ more) more
 answer_is_read codings lengths keeps request (forwards response) more (input, reads) =
     response_is_read codings lengths keeps request response more (received_is_writable request response input reads)
 answer_is_read codings lengths keeps request (refuses status) more is =
     subst (λ l. ReadsAfterInterim request 0 (forwarded_response false (refusal status)) (l ++ more) more)
     (sym (refusal_is request status))
     (response_is_read codings lengths false request (refusal status) more (refusal_is_writable request status is))
+answer_is_read codings lengths keeps request (refuses_with page status) more is =
+    let response = page_refusal page request status in
+    subst (λ l. ReadsAfterInterim request 0 (forwarded_response false response) (l ++ more) more)
+    (sym (page_is page request status is))
+    (response_is_read codings lengths false request response more (page_is_writable page request status is))
 
 client_text_is_read : NoneGoesOn (codes "transfer-encoding") → NoneGoesOn (codes "content-length")
     → (answering : Answering) (more : List ℕ) → IsAnswered answering

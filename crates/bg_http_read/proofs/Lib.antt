@@ -46,4 +46,5 @@ pub mod TrailersFound
 pub mod Walks
 mod WorkedBodies
 mod WorkedHeads
+pub mod WrittenPages
 pub mod WrittenResponses

@@ -301,21 +301,33 @@ refusal_with request status text three digits value reason sound final content =
     same : decimal status ≡ text
     same = ap decimal (sym value) ∙ three_digits text three (digits_in text digits) high
 
-pub refusal_is_writable : (request : Request) (status : ℕ) → IsTrue (is_refusal status)
-    → IsWritable request (refusal status)
-refusal_is_writable request status refuses =
+-- what holds of each status of a refusal
+pub by_status : (P : ℕ → Type 0) → P 400 → P 413 → P 431 → P 501 → P 502 → P 503 → (status : ℕ)
+    → IsTrue (is_refusal status) → P status
+by_status P bad large many undone gateway away status refuses =
     by_tests (status == 400) refl (status == 413) refl (status == 431) refl (status == 501) refl (status == 502) refl (status == 503) refl refuses
   where
-    at : (code : ℕ) → (status == code) ≡ true → IsWritable request (refusal code) → IsWritable request (refusal status)
-    at code e h = subst (λ n. IsWritable request (refusal n)) (sym (eqb-true status code e)) h
+    at : (code : ℕ) → (status == code) ≡ true → P code → P status
+    at code e h = subst P (sym (eqb-true status code e)) h
 
     by_tests : (a : Bool) → (status == 400) ≡ a → (b : Bool) → (status == 413) ≡ b → (c : Bool) → (status == 431) ≡ c
         → (d : Bool) → (status == 501) ≡ d → (e : Bool) → (status == 502) ≡ e → (f : Bool) → (status == 503) ≡ f
-        → (a || b || c || d || e || f) ≡ true → IsWritable request (refusal status)
-    by_tests true ia b ib c ic d id e ie f ig some = at 400 ia (refusal_with request 400 (codes "400") refl refl refl refl refl refl refl)
-    by_tests false ia true ib c ic d id e ie f ig some = at 413 ib (refusal_with request 413 (codes "413") refl refl refl refl refl refl refl)
-    by_tests false ia false ib true ic d id e ie f ig some = at 431 ic (refusal_with request 431 (codes "431") refl refl refl refl refl refl refl)
-    by_tests false ia false ib false ic true id e ie f ig some = at 501 id (refusal_with request 501 (codes "501") refl refl refl refl refl refl refl)
-    by_tests false ia false ib false ic false id true ie f ig some = at 502 ie (refusal_with request 502 (codes "502") refl refl refl refl refl refl refl)
-    by_tests false ia false ib false ic false id false ie true ig some = at 503 ig (refusal_with request 503 (codes "503") refl refl refl refl refl refl refl)
+        → (a || b || c || d || e || f) ≡ true → P status
+    by_tests true ia b ib c ic d id e ie f ig some = at 400 ia bad
+    by_tests false ia true ib c ic d id e ie f ig some = at 413 ib large
+    by_tests false ia false ib true ic d id e ie f ig some = at 431 ic many
+    by_tests false ia false ib false ic true id e ie f ig some = at 501 id undone
+    by_tests false ia false ib false ic false id true ie f ig some = at 502 ie gateway
+    by_tests false ia false ib false ic false id false ie true ig some = at 503 ig away
     by_tests false ia false ib false ic false id false ie false ig some = cc
+
+pub refusal_is_writable : (request : Request) (status : ℕ) → IsTrue (is_refusal status)
+    → IsWritable request (refusal status)
+refusal_is_writable request =
+    by_status (λ status. IsWritable request (refusal status))
+    (refusal_with request 400 (codes "400") refl refl refl refl refl refl refl)
+    (refusal_with request 413 (codes "413") refl refl refl refl refl refl refl)
+    (refusal_with request 431 (codes "431") refl refl refl refl refl refl refl)
+    (refusal_with request 501 (codes "501") refl refl refl refl refl refl refl)
+    (refusal_with request 502 (codes "502") refl refl refl refl refl refl refl)
+    (refusal_with request 503 (codes "503") refl refl refl refl refl refl refl)

@@ -120,11 +120,11 @@ pub fn an_endpoint_reads_the_requests_that_were_forwarded()
     bg_http::laws::only_one_length_goes_on();
 }
 
-/// What is written to one client for its requests (`write_response` and `write_refusal` of bg_http,
-/// with `100 Continue` before an answer or without it; on a connection that is kept, a response has
-/// no line `Connection: close`) is read, by the grammar and the rules, as exactly these answers, in
-/// order, and as no other list of responses to these requests; and nothing is left behind them. So no
-/// byte of one answer is read as a part of another one.
+/// What is written to one client for its requests (`write_response`, `write_refusal` and
+/// `write_error_page` of bg_http, with `100 Continue` before an answer or without it; on a connection
+/// that is kept, a response has no line `Connection: close`) is read, by the grammar and the rules, as
+/// exactly these answers, in order, and as no other list of responses to these requests; and nothing
+/// is left behind them. So no byte of one answer is read as a part of another one.
 pub fn a_client_reads_the_answers_that_were_written()
     ensures { (answerings : List Answering) (others : List Response) (rest : List ℕ)
         → AreReadAsAnswered answerings others rest }

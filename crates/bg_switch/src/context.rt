@@ -3,6 +3,7 @@
 use bg_access_log::AccessLog;
 use bg_command_line::MessageTimeout;
 use bg_endpoints::Directory;
+use bg_forward::RefusalBody;
 use bg_ports::{Notices, Ports};
 use bg_strategy::Strategy;
 use std::alloc::Global;
@@ -30,6 +31,8 @@ pub struct ServeContext<'a, R> {
     pub log: Option<&'a AccessLog>,
     /// The endpoints of the revisions, if a request may be dialled at another one than its ticket's.
     pub directory: Option<&'a Directory>,
+    /// What refusals have as their bodies.
+    pub refusal_body: RefusalBody,
     /// The notices on standard error.
     pub notices: &'a Notices<'a>,
 }

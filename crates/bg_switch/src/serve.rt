@@ -6,6 +6,7 @@ use bg_access_log::AccessLog;
 use bg_book::Limits;
 use bg_command_line::{Connections, MessageTimeout, ServeSettings};
 use bg_endpoints::{Directory, Share};
+use bg_forward::RefusalBody;
 use bg_peers::Users;
 use bg_ports::{BindFault, FewDescriptors, Notices, Ports, preview_workers, service_name};
 use bg_revisions::Service;
@@ -154,6 +155,7 @@ where
         timeout: settings.timeout,
         log: settings.log,
         directory: directory.as_ref(),
+        refusal_body: RefusalBody::of_pages(words.error_pages),
         notices: &notices,
     };
     await_open(&context, output)

@@ -120,6 +120,7 @@ where
         log: context.log,
         notices: context.notices,
         redispatches: context.directory.is_some(),
+        refusal_body: context.refusal_body,
     };
     let timeout = response_timeout(context.timeout);
     let endpoints = Endpoints::new(context.rt, context.ports.own, timeout, context.directory);

@@ -11,7 +11,8 @@ use crate::samples::strategy;
 use bg_audit::audit;
 use bg_book::{Desk, Limits, laws as book_laws};
 use bg_forward::{
-    Buffered, DeskGate, Dial, End, Gate, Reason, Served, Worker, serve_one, serve_received,
+    Buffered, DeskGate, Dial, End, Gate, Reason, RefusalBody, Served, Worker, serve_one,
+    serve_received,
 };
 use bg_history::History;
 use bg_http::{Request, RequestFault};
@@ -53,6 +54,8 @@ pub struct Setting<'a> {
     pub rest: &'a str,
     pub client: Pace,
     pub receiving: Receiving,
+    /// What refusals have as their bodies, if `serve_received` serves the request.
+    pub refusal_body: RefusalBody,
     pub service: Service,
     /// Whether the gate admits no request.
     pub shut: bool,
@@ -76,6 +79,7 @@ pub const SOUND: Setting<'static> = Setting {
     rest: "",
     client: STEADY,
     receiving: Receiving::WhileServed,
+    refusal_body: RefusalBody::Empty,
     service: Service::Active,
     shut: false,
     cut_at: 0,
@@ -195,7 +199,10 @@ fn serve_first<N: Names, R, G: Gate<N>, D: Dial>(
         service: trial.setting.service,
     };
     Some(match trial.received {
-        Some(received) => serve_received(&worker, seat, received, client),
+        Some(received) => {
+            let refusal_body = trial.setting.refusal_body;
+            serve_received(&worker, seat, received, refusal_body, client)
+        }
         None => serve_one(&worker, seat, client),
     })
 }

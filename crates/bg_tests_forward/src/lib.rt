@@ -21,6 +21,8 @@ mod messages;
 #[cfg(test)]
 mod one_fault;
 #[cfg(test)]
+mod pages;
+#[cfg(test)]
 mod ports;
 #[cfg(test)]
 mod received;

@@ -1,9 +1,10 @@
 //! Client ports, which give their workers what a test says.
 ghost use Rattle.std.specs.Prelude.{Some};
 ghost use Rattle.bg_forward.specs.Clients.{IsServed};
+ghost use Rattle.bg_forward.specs.declared.refusal.RefusalBody.TheVariants as body;
 
 use crate::messages::{CHUNKS_ON, GET, refusal};
-use bg_forward::{Accept, Arrived, Served, receive_in_memory};
+use bg_forward::{Accept, Arrived, RefusalBody, Served, receive_in_memory};
 use bg_http::MemoryStream;
 use bg_revisions::Service;
 use std::alloc::Global;
@@ -84,6 +85,12 @@ impl Accept for Ports<'_> {
 
     ghost sent = { λ input. Some input.now };
 
+    ghost refusals = { λ _. body.Empty };
+
+    fn refusal_body(&self) -> RefusalBody {
+        RefusalBody::Empty
+    }
+
     fn accept(
         &self,
         service: Service,
@@ -107,7 +114,7 @@ impl Accept for Ports<'_> {
     }
 
     fn close(&self, client: Arrived<MemoryStream<'static>, &'static [u8]>, served: &Served)
-        requires connection { IsServed (Some client.sender.now) (Some client.stream.written.items)
+        requires connection { IsServed body.Empty (Some client.sender.now) (Some client.stream.written.items)
             client.received served.now.entered served.now.end }
     {
         // a request that entered was read to its end

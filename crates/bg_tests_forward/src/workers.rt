@@ -2,6 +2,7 @@
 ghost use Rattle.std.specs.Prelude.{◌≡◌, length, Some};
 ghost use Rattle.bg_rollout.specs.Gathering.{indices};
 ghost use Rattle.bg_forward.specs.Clients.{IsServed};
+ghost use Rattle.bg_forward.specs.declared.refusal.RefusalBody.TheVariants as body;
 ghost use Rattle.bg_forward.specs.Seats.{AllOut, AllWorked};
 ghost use Rattle.bg_ledger.specs.Blanks.{AreAllFor};
 
@@ -11,8 +12,8 @@ use crate::messages::{CHUNKS, CHUNKS_ON, GET};
 use crate::samples::strategy;
 use bg_book::{Control, Desk, EnterFault, GoOn, Left, Limits, Ticket, laws as book_laws};
 use bg_forward::{
-    Accept, Arrived, ClientStream, DeskGate, Dial, Dialled, Gate, Served, WorkerContext,
-    receive_in_memory, run_workers,
+    Accept, Arrived, ClientStream, DeskGate, Dial, Dialled, Gate, RefusalBody, Served,
+    WorkerContext, receive_in_memory, run_workers,
 };
 use bg_http::MemoryStream;
 use bg_ledger::{Blanks, Names, Seat};
@@ -112,6 +113,12 @@ impl<'a> Accept for Clients<'a> {
 
     ghost sent = { λ input. Some input.now };
 
+    ghost refusals = { λ _. body.Empty };
+
+    fn refusal_body(&self) -> RefusalBody {
+        RefusalBody::Empty
+    }
+
     fn accept(&self, _service: Service) -> io::Result<Option<Arrived<Client<'a>, &'static [u8]>>> {
         let Arrived {
             stream,
@@ -130,7 +137,7 @@ impl<'a> Accept for Clients<'a> {
     }
 
     fn close(&self, _client: Arrived<Client<'a>, &'static [u8]>, _served: &Served)
-        requires connection { IsServed (Some _client.sender.now) (Some _client.stream.stream.written.items)
+        requires connection { IsServed body.Empty (Some _client.sender.now) (Some _client.stream.stream.written.items)
             _client.received _served.now.entered _served.now.end }
     {}
 }

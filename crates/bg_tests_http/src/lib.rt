@@ -14,6 +14,8 @@ mod limits;
 #[cfg(test)]
 mod paced_stream;
 #[cfg(test)]
+mod pages;
+#[cfg(test)]
 mod passing;
 #[cfg(test)]
 mod refused_heads;
