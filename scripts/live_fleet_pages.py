@@ -21,6 +21,10 @@ TITLE = "From the start to the end"
 PORTS = (
     "2379",
     "2380",
+    "2381",
+    "2382",
+    "2383",
+    "2384",
     "8180",
     "8181",
     "8182",
@@ -37,7 +41,7 @@ PORTS = (
     "9301",
     "9302",
 )
-LEAST_BLOCKS = 16
+LEAST_BLOCKS = 21
 # By the variable, etcd does not wait for the disk, which others may use much.
 LIMITS = Surroundings(300.0, {"ETCD_UNSAFE_NO_FSYNC": "true"})
 OF_THE_SESSION = ("etcd", "etcdctl", "openssl", "curl")

@@ -24,7 +24,7 @@ from bg_switch_tools.fleet.record import (
     Record,
     View,
 )
-from bg_switch_tools.fleet.store import Compare
+from bg_switch_tools.fleet.store import NO_WATCH_STATE, Compare, WatchState
 from support.processes import Run
 from tests.memory_store import Keys, MemoryStore
 from tests.tool_runs import run_in_process
@@ -69,12 +69,12 @@ class PersonStore(MemoryStore):
         self.writes += 1
         return super().write(compares, puts, deletes, lease)
 
-    def wait(self, after: int, seconds: float) -> None:
+    def wait(self, after: int, seconds: float, state: WatchState = NO_WATCH_STATE) -> bool:
         if self.during_waits:
             self.during_waits.pop(0)()
         else:
             time.sleep(seconds)
-        super().wait(after, seconds)
+        return super().wait(after, seconds, state)
 
 
 class WithFleet(unittest.TestCase):

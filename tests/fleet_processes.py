@@ -19,10 +19,16 @@ from bg_switch_tools.fleet.etcd_gateway import EtcdSettings
 from bg_switch_tools.fleet.fleet_file import FleetFile
 from bg_switch_tools.fleet.fleet_plan import MachineSettings
 from bg_switch_tools.fleet.record import MachineReport, Record, View, read_machine_report
-from bg_switch_tools.fleet.store import Compare, Snapshot, StoreFault
+from bg_switch_tools.fleet.store import (
+    NO_WATCH_STATE,
+    Compare,
+    Snapshot,
+    StoreFault,
+    WatchState,
+)
 from tests.fake_switch import FakeSwitch
 from tests.memory_store import Keys, MemoryStore
-from tests.tool_runs import Endpoint, comes
+from tests.tool_runs import WAIT, Endpoint, comes
 
 LONGEST = 20.0  # seconds for which anything is awaited
 LEASE = 2  # seconds
@@ -40,15 +46,30 @@ FIT = {
 }
 
 
+def ended(process: AgentProcess) -> None:
+    """Stops an agent and waits for its threads, which write into its folder until they end."""
+    process.stop()
+    for thread in (process.round_thread, *process.writing_threads):
+        thread.join(WAIT)
+
+
 class Network:
     """What the stores of a test share: `silence` is for how many seconds each call waits before it
     fails; None where none fails. While a call waits, `is_asked` is set. All that wait fail once the
-    test has ended."""
+    test has ended. `delay` is for how many seconds each call waits that does not fail.
+
+    A watch that stands while `hangs` is set, or while nothing answers, hangs: it tells of nothing
+    any more, also later. With `breaks` it ends by a fault. `watches` is how many were begun, and
+    `reads` how many reads of agents there were.
+    """
 
     def __init__(self) -> None:
         self.keys = Keys(time.monotonic)
         self.lock = threading.RLock()
         self.silence: float | None = None
+        self.delay = 0.0
+        self.hangs = self.breaks = False
+        self.watches = self.reads = 0
         self.is_asked, self.has_ended = threading.Event(), threading.Event()
 
     def reach(self) -> None:
@@ -56,6 +77,7 @@ class Network:
             self.is_asked.set()
             self.has_ended.wait(self.silence)
             raise StoreFault("it is away")
+        self.has_ended.wait(self.delay)
 
 
 class SharedStore(MemoryStore):
@@ -73,6 +95,7 @@ class SharedStore(MemoryStore):
 
     def read(self) -> Snapshot:
         with self._pass():
+            self.network.reads += self.is_cuttable
             return super().read()
 
     def write(
@@ -97,10 +120,22 @@ class SharedStore(MemoryStore):
         with self._pass():
             super().revoke(lease)
 
-    def wait(self, after: int, seconds: float) -> None:
-        deadline = time.monotonic() + seconds
-        while time.monotonic() < deadline and self.network.keys.revision <= after:
-            time.sleep(0.01)
+    def wait(self, after: int, seconds: float, state: WatchState = NO_WATCH_STATE) -> bool:
+        """A watch, which hangs once the network was broken."""
+        network, cut = self.network, threading.Event()
+        deadline, hangs = time.monotonic() + seconds, False
+        network.watches += 1
+        state.begin(after, cut.set)
+        try:
+            while time.monotonic() < deadline and not cut.wait(0.01):
+                hangs = hangs or network.hangs or network.silence is not None
+                if network.breaks:
+                    raise StoreFault("the watch has ended")
+                if network.keys.revision > after and not hangs:
+                    return True
+            return False
+        finally:
+            state.end()
 
 
 class FleetProcessCase(unittest.TestCase):
@@ -175,7 +210,7 @@ class FleetProcessCase(unittest.TestCase):
             lambda _: SharedStore(self.network, f"{host} of {folder}"),
         )
         made.start()
-        self.stack.callback(made.stop)
+        self.stack.callback(ended, made)
         return made
 
     def begun(self) -> AgentProcess:

@@ -4,7 +4,14 @@ import random
 from collections.abc import Callable, Collection, Mapping, Sequence
 from typing import NamedTuple
 
-from bg_switch_tools.fleet.store import Compare, Key, Snapshot, StoreFault
+from bg_switch_tools.fleet.store import (
+    NO_WATCH_STATE,
+    Compare,
+    Key,
+    Snapshot,
+    StoreFault,
+    WatchState,
+)
 
 
 class Change(NamedTuple):
@@ -141,5 +148,6 @@ class MemoryStore:
         self._reach()
         self.all.end(lease)
 
-    def wait(self, after: int, seconds: float) -> None:
+    def wait(self, after: int, seconds: float, state: WatchState = NO_WATCH_STATE) -> bool:
         self._reach()
+        return True

@@ -680,6 +680,24 @@ class Leading(FleetCase):
         )
         self.assertEqual(self.said, ["a leads", f"attempt {self.plan_id} of web-v2: successful"])
 
+    def test_a_candidate_that_does_not_lead_has_no_lease(self) -> None:
+        first, second = self.candidate("a"), self.candidate("b")
+        first.do_round()
+        for _ in range(5):
+            second.do_round()
+            self.time += 1
+        self.assertEqual((len(self.keys.leases), second.lease.number), (1, 0))
+        self.time += 11
+        self.assertTrue(second.do_round())
+        self.assertEqual(self.keys.keys["leader"].lease, second.lease.number)
+
+    def test_a_leader_without_a_lease_is_another_one(self) -> None:
+        """Somebody has put the key by hand: no candidate takes it for its own."""
+        self.person.write([], {"leader": "a"})
+        first = self.candidate("a")
+        self.assertFalse(first.do_round())
+        self.assertFalse(first.leads)
+
     def test_another_one_leads_once_the_lease_has_ended(self) -> None:
         first, second = self.candidate("a"), self.candidate("b")
         first.do_round()

@@ -39,6 +39,7 @@ from tests.store_checks import fault_of, seconds_of, store_at
 from tests.tool_runs import comes
 
 LIMIT = 1.2  # seconds of a call
+LONG = 30.0  # seconds of a wait that ends before
 ENDLESS = 60.0  # seconds for which a server sends what has no end
 LATER = 1.5  # seconds by which a call may end later
 GOOD = keys(key("/bg-switch/web/a", "1"))
@@ -491,10 +492,9 @@ class Waits(WithServers):
     def wait(self, store: EtcdStore, seconds: float) -> float:
         return seconds_of(lambda: store.wait(7, seconds))
 
-    def fault_after(self, store: EtcdStore, seconds: float, told: str) -> None:
-        """A wait pauses for its seconds before it raises its fault, so that nobody spins."""
-        taken = seconds_of(lambda: self.assertIn(told, fault_of(lambda: store.wait(7, seconds))))
-        self.assert_after(taken, seconds)
+    def fault_soon(self, store: EtcdStore, told: str) -> None:
+        """A wait raises its fault at once, and not after its seconds."""
+        self.in_time(lambda: self.assertIn(told, fault_of(lambda: store.wait(7, LONG))))
 
     def test_a_watch_that_ends_at_once(self) -> None:
         for name, answer in (
@@ -505,7 +505,7 @@ class Waits(WithServers):
         ):
             with self.subTest(name):
                 server = self.server(wait=answer)
-                self.fault_after(store_at(server.endpoint), 0.6, f"{server.endpoint}: it")
+                self.fault_soon(store_at(server.endpoint), f"{server.endpoint}: it")
                 self.assertEqual(server.calls(WATCH), 1)
 
     def test_a_watch_that_is_refused(self) -> None:
@@ -530,11 +530,11 @@ class Waits(WithServers):
         ):
             with self.subTest(told):
                 server = self.server(wait=sending(CHUNKED + chunk(body) + chunk(b"")))
-                self.fault_after(store_at(server.endpoint), 0.4, told)
+                self.fault_soon(store_at(server.endpoint), told)
 
     def test_a_server_that_gives_nothing(self) -> None:
         server = self.server(wait=silent)
-        self.fault_after(store_at(server.endpoint, timeout=0.3), 0.8, "it gives no answer in time")
+        self.fault_soon(store_at(server.endpoint, timeout=0.3), "it gives no answer in time")
 
     def test_silence_after_the_creation_is_no_fault(self) -> None:
         server = self.server(wait=then(CHUNKED + chunk(CREATED), silent))
@@ -546,8 +546,8 @@ class Waits(WithServers):
 
     def test_a_line_that_is_too_long(self) -> None:
         server = self.server(wait=endless(CHUNKED, chunk(b" " * 65536)))
-        self.fault_after(
-            store_at(server.endpoint), 2.0, f"a line of its answer has more than {LARGEST} bytes"
+        self.fault_soon(
+            store_at(server.endpoint), f"a line of its answer has more than {LARGEST} bytes"
         )
 
     def test_the_next_endpoint_wakes(self) -> None:

@@ -25,7 +25,7 @@ from support.fleet.recording import (
     look_file,
     read_recording,
 )
-from support.fleet.rules import broken_rules, figures
+from support.fleet.rules import broken_rules, elections, figures
 
 HOSTS = ("a", "b", "c")
 PORTS = {"web-1": [9010, 9011], "web-2": [9020, 9021], "web-3": [9030, 9031]}
@@ -458,6 +458,70 @@ PLANTED: dict[str, tuple[int, str, Callable[[Recording], Recording]]] = {
         events_changed(27, report(FIRST, "failed", "web-1")),
     ),
 }
+
+
+def drill_of_602(terms: Callable[[float], int], ended: int = 85) -> Recording:
+    """As in a drill by seed 602: web-3 is promoting from 45 on, for 39.9 seconds, where its plan
+    gives it 15. The agent that leads was killed for four seconds, and a member of etcd for two."""
+    promoting = record(
+        SECOND, "web-3", "web-2", "promoting", plan={"fleet": {"promoting_seconds": 15}}
+    )
+    events = [
+        event._replace(revision=event.revision + ended - 47) if event.revision >= 47 else event
+        for event in with_event(good().events, 45, promoting)
+    ]
+    polls = [
+        Poll(moment / 10, moment / 10 + 0.01, moment // 10, terms(moment / 10))
+        for moment in range(10, 1000)
+    ]
+    outages = [Outage("agent", "a", 55.0, 59.0), Outage("etcd", "b", 57.0, 61.0)]
+    return good()._replace(events=events, polls=polls, outages=outages)
+
+
+class Elections(unittest.TestCase):
+    """Rule 8, where a leader is lost and etcd elects a leader of its own meanwhile."""
+
+    def rule_8(self, run: Recording) -> list[str]:
+        return [text for rule, text in broken_rules(run) if rule == 8]
+
+    def test_an_election_begins_leases_anew(self) -> None:
+        self.assertEqual(self.rule_8(drill_of_602(lambda moment: 2 + (moment >= 58))), [])
+
+    def test_without_one_the_attempt_lasts_too_long(self) -> None:
+        [told] = self.rule_8(drill_of_602(lambda moment: 2))
+        self.assertIn("the limit is 34.0, with 0 elections of etcd", told)
+
+    def test_one_lets_it_last_for_one_lease(self) -> None:
+        [told] = self.rule_8(drill_of_602(lambda moment: 2 + (moment >= 58), 90))
+        self.assertIn("the limit is 44.0, with 1 elections of etcd", told)
+
+    def test_one_of_another_time_does_not_count(self) -> None:
+        for at in (31.0, 86.0):
+            [told] = self.rule_8(drill_of_602(lambda moment, at=at: 2 + (moment >= at)))  # type: ignore[misc]
+            self.assertIn("with 0 elections", told)
+
+    def test_terms(self) -> None:
+        """A member that is behind, a term that was not seen, and a recording without terms."""
+
+        def polls(*terms: int) -> list[Poll]:
+            return [Poll(moment, moment + 0.5, 1, term) for moment, term in enumerate(terms)]
+
+        for terms, count in (
+            ((2, 2, 3, 3), 1),
+            ((2, 3, 2, 3), 1),
+            ((2, 5, 5, 6), 2),
+            ((0, 0, 0), 0),
+            ((0, 2, 2), 0),
+        ):
+            self.assertEqual(elections(polls(*terms), 0, 10), count, terms)
+
+    def test_faults_at_the_same_time_count_once(self) -> None:
+        told = self.rule_8(
+            drill_of_602(lambda moment: 2)._replace(
+                outages=[Outage("agent", host, 55.0, 59.0) for host in HOSTS]
+            )
+        )
+        self.assertIn("the limit is 32.0", told[0])
 
 
 class Planted(unittest.TestCase):

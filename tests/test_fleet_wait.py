@@ -6,7 +6,8 @@ from unittest import mock
 
 from bg_switch_tools.fleet.conditions import FleetConditions
 from bg_switch_tools.fleet.record import ATTEMPT, MACHINES, MEMBERS, PLAN
-from bg_switch_tools.fleet.store import StoreRefusal
+from bg_switch_tools.fleet.store import StoreFault, StoreRefusal
+from bg_switch_tools.fleet.wait import wait_for_change
 from bg_switch_tools.switch.conditions import HOLDS, MAY_COME, Outlook
 from support.processes import Run
 from tests.fleet_people import HOSTS, V1, V2, V3, WithFleet
@@ -246,6 +247,14 @@ class Waits(WithFleet):
             side_effect=lambda _: setattr(self.store, "is_cut", False),
         ):
             self.assertEqual(self.wait("settled").status, 0)
+
+    def test_a_store_without_events_is_not_asked_again_and_again(self) -> None:
+        slept, away = list[float](), StoreFault("it gives no events")
+        with mock.patch.object(self.store, "wait", side_effect=away), mock.patch(
+            "bg_switch_tools.fleet.wait.time.sleep", slept.append
+        ):
+            wait_for_change(self.store, 5, 2.0)
+        self.assertGreater(sum(slept), 1.9)
 
     def test_json(self) -> None:
         self.begin("aborted", "follows")

@@ -6,6 +6,7 @@ from typing import NamedTuple
 
 from bg_switch_tools.fleet.machine import Machine
 from bg_switch_tools.fleet.record import MACHINES, View
+from bg_switch_tools.fleet.rest import LATE, is_at_rest
 from bg_switch_tools.fleet.store import Compare, Snapshot, Store, StoreFault
 from bg_switch_tools.switch.reports import Report
 
@@ -25,20 +26,37 @@ class Lease:
         self.seconds = seconds
         self.number = 0
         self.refreshed = 0.0
+        # How often it was renewed after a call that had failed, or late, or granted anew: the
+        # connection to the store may have been broken before each of these.
+        self.gaps = 0
+        self.has_failed = False  # whether the latest call has
+
+    def due(self) -> float:
+        """The seconds until it is to be renewed, 0 or less where that is now."""
+        return self.refreshed + self.seconds / 4 - self.now() if self.number else 0.0
 
     def hold(self) -> bool:
         """Grants or refreshes it. False where it has ended since, and another one was granted.
         `StoreFault` where neither can be done."""
-        now, had_one = self.now(), self.number != 0
-        if had_one and now < self.refreshed + self.seconds / 4:
+        due = self.due()
+        if due > 0:
             return True
-        if had_one and self.store.refresh(self.number) > 0:
-            self.refreshed = now
+        begun, had_one, has_failed = self.now(), self.number != 0, self.has_failed
+        self.has_failed = True
+        is_refreshed = self._refresh()
+        self.has_failed = False
+        is_late = had_one and self.now() > begun + due + LATE
+        self.refreshed = begun
+        self.gaps += has_failed or is_late or had_one and not is_refreshed
+        return is_refreshed or not had_one
+
+    def _refresh(self) -> bool:
+        """Refreshes it, and grants another one where it is gone. Gives whether it was there."""
+        if self.number and self.store.refresh(self.number) > 0:
             return True
         self.number = 0
         self.number = self.store.grant(self.seconds)
-        self.refreshed = now
-        return not had_one
+        return False
 
 
 class Trouble:
@@ -102,6 +120,7 @@ class FleetAgent:
         self.say = say
         self.now = now
         self.lease = Lease(store, now, seconds)
+        self.is_anew = False  # whether the lease had ended while the agent rested
         self.seen: Snapshot | None = None  # the latest read; None where it has failed
         self.silence = Trouble(
             lambda text: say("fleet", text),
@@ -125,13 +144,41 @@ class FleetAgent:
 
     def fetch(self) -> Read:
         """Keeps the lease, and reads the keys of the fleet."""
-        is_anew = False
+        is_anew, self.is_anew = self.is_anew, False
         try:
-            is_anew = not self.lease.hold()
+            is_anew = not self.lease.hold() or is_anew
             begun = self.now()
             return Read(begun, self.store.read(), "", is_anew)
         except StoreFault as fault:
             return Read(self.now(), None, str(fault), is_anew)
+
+    def keep(self) -> bool:
+        """Keeps the lease of an agent that rests. False where that has failed, came late, or was
+        the first time after one of these."""
+        gaps = self.lease.gaps
+        try:
+            self.is_anew = not self.lease.hold() or self.is_anew
+        except StoreFault:  # which the next read tells, if it lasts
+            return False
+        return self.lease.gaps == gaps
+
+    def may_rest(self, snapshot: Snapshot, text: str | None) -> bool:
+        """Whether nothing is to be done by this read: the fleet is at rest, and has what this
+        machine reports, which is that it follows."""
+        view = View(snapshot)
+        return self.is_written(view, text) and is_at_rest(view) and self.follows(view)
+
+    def is_written(self, view: View, text: str | None) -> bool:
+        """Whether what this machine reports stands, under the lease that is kept."""
+        key = view.key(self.key)
+        return key is not None and (key.lease, key.value) == (self.lease.number, text)
+
+    def follows(self, view: View) -> bool:
+        """Whether this machine has told the leader that leads now that it follows the record."""
+        report, record = view.machine(self.machine.host), view.record
+        if report is None or record is None:
+            return False
+        return report.leader == view.leader and report.follows(record)
 
     def take(self, read: Read) -> None:
         """Goes on by what was read."""

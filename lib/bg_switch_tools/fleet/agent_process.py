@@ -23,6 +23,7 @@ from bg_switch_tools.fleet.fleet_file import FleetFile, missing_files
 from bg_switch_tools.fleet.fleet_plan import MachineSettings
 from bg_switch_tools.fleet.handover import Handover
 from bg_switch_tools.fleet.machine import FRESH, Machine
+from bg_switch_tools.fleet.rest import Standing
 from bg_switch_tools.fleet.rollout_settings import RolloutFile
 from bg_switch_tools.fleet.status_text import plain
 from bg_switch_tools.fleet.store import Store, StoreFault
@@ -84,7 +85,8 @@ class AgentProcess:
         machine = Machine(
             file.host, machine_id(path, log.say), settings, self.keeper.keep, self.keeper.read()
         )
-        self.agent = FleetAgent(machine, make_store(timeout), log.say, clock, self.seconds)
+        store, standing = make_store(timeout), Standing()
+        self.agent = FleetAgent(machine, store, log.say, clock, self.seconds)
         self.candidate = Candidate(
             file.host, make_store(timeout), log.say, Clocks(clock), self.seconds
         )
@@ -92,11 +94,10 @@ class AgentProcess:
         self.status = AgentStatusFile(path, AgentStatus(file.fleet, file.host, os.getpid()))
         self.stopping = threading.Event()
         self.handover = Handover()
-        self.turns = StoreTurns(self.agent, self.handover, pause, self.stopping)
-        self.leading = Leading(self.candidate, pause, self.stopping)
-        self.watch = Watch(
-            make_store(timeout), self.turns, (self.turns.wake, self.leading.wake), self.stopping
-        )
+        self.turns = StoreTurns(self.agent, self.handover, standing, pause, self.stopping)
+        self.leading = Leading(self.candidate, standing, pause, self.stopping)
+        standing.wakes = (self.turns.wake, self.leading.wake)
+        self.watch = Watch(store, self.turns, standing, self.stopping)
         self.read_at = self.lost_at = 0.0  # Unix times
         self.is_known = False  # whether the store has had the report of this machine
         self.other_since: float | None = None  # since when another machine reports as this host

@@ -1,11 +1,13 @@
 """A candidate for the leader of a fleet: it leads while it holds the leader's key, and writes what
 `leader` decides."""
+import math
 import time
 from typing import NamedTuple
 
 from bg_switch_tools.fleet.agent import LEASE, Clock, Lease, Say, Trouble
 from bg_switch_tools.fleet.leader import StageClock, Write, decide
 from bg_switch_tools.fleet.record import LEADER, ORDER, PLAN, Unreadable, View
+from bg_switch_tools.fleet.rest import is_at_rest
 from bg_switch_tools.fleet.store import Compare, Snapshot, Store, StoreFault
 
 
@@ -42,6 +44,7 @@ class Candidate:
         # that are gone, since an etcd that is back lets leases last longer: so the lead is given up,
         # and each machine reports to the next leader, which may be this one.
         self.has_lost = False
+        self.seen: Snapshot | None = None  # the latest read; None where it has failed
         self.clock = StageClock()
         self.told_fault = ""
         self.told_dropped: tuple[str, int] = ("", 0)  # with the `changed` revision of its order
@@ -67,15 +70,16 @@ class Candidate:
 
     def look(self) -> Pending | None:
         """Reads, and decides what to write; None where nothing is to be written."""
+        self.seen = None
         try:
-            if not self.lease.hold():
-                self._stop_leading("its lease has ended")
+            self._hold(self.leads)
             snapshot = self.store.read()
+            # a lease is held for the leader's key alone
+            self._hold(LEADER not in snapshot.keys)
         except StoreFault as fault:
-            self.silence.begin(str(fault))
-            self.clock.lose()
-            self.has_lost = self.created != 0
+            self._lose(fault)
             return None
+        self.seen = snapshot
         self.silence.end("the store answers the candidate again")
         self._see(snapshot)
         key = View(snapshot).key(LEADER)
@@ -85,8 +89,8 @@ class Candidate:
             )
             write = Write((Compare(LEADER, "created", 0),), {LEADER: self.host}, (), None)
             return Pending(write, self.lease.number)
-        # of another one, or of a lease of this host before, which ends by itself
-        if key.lease != self.lease.number:
+        # of another one, or of a lease of this host before, which ends by itself, or of none
+        if not self.lease.number or key.lease != self.lease.number:
             self._stop_leading(f"{key.value} leads")
             return None
         if self.has_lost and self.created == key.created:
@@ -96,6 +100,36 @@ class Candidate:
             self.created, self.has_lost = key.created, False
             self.clock.forget()
         return self._decide(snapshot)
+
+    def _hold(self, is_needed: bool) -> None:
+        if is_needed and not self.lease.hold():
+            self._stop_leading("its lease has ended")
+
+    def _lose(self, fault: StoreFault) -> None:
+        """The store gives no answer."""
+        self.silence.begin(str(fault))
+        self.clock.lose()
+        self.has_lost = self.created != 0
+
+    def may_rest(self) -> bool:
+        """Whether nothing is to be decided by the latest read until a key changes."""
+        return self.seen is not None and not self.has_lost and is_at_rest(View(self.seen))
+
+    def due(self) -> float:
+        """The seconds until the lease of a leader is to be renewed; a candidate that does not lead
+        holds none."""
+        return self.lease.due() if self.leads else math.inf
+
+    def keep(self) -> bool:
+        """Keeps the lease of a leader that rests. False where that has failed, came late, or was
+        the first time after one of these, or where another lease was granted."""
+        gaps = self.lease.gaps
+        try:
+            self._hold(self.leads)
+        except StoreFault as fault:
+            self._lose(fault)
+            return False
+        return self.lease.gaps == gaps
 
     def _see(self, snapshot: Snapshot) -> None:
         """Notes since when the stage lasts, whoever leads."""

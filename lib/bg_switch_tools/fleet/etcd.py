@@ -3,12 +3,17 @@
 This module, `etcd_gateway` and `etcd_answers` are the only ones that know etcd.
 """
 import base64
-import time
 from collections.abc import Collection, Mapping, Sequence
 
 from bg_switch_tools.fleet.etcd_answers import NOT_FOUND, Refusal, member, number, text
-from bg_switch_tools.fleet.etcd_gateway import EtcdSettings, Gateway
-from bg_switch_tools.fleet.store import Compare, Key, Snapshot, StoreFault
+from bg_switch_tools.fleet.etcd_gateway import EtcdSettings, Gateway, WatchCall
+from bg_switch_tools.fleet.store import (
+    NO_WATCH_STATE,
+    Compare,
+    Key,
+    Snapshot,
+    WatchState,
+)
 from bg_switch_tools.fleet.time_limit import TimeLimit
 from bg_switch_tools.fleet.timed_post import NoAnswer
 from bg_switch_tools.switch.json_values import JsonObject
@@ -125,14 +130,6 @@ class EtcdStore:
             if refusal.code != NOT_FOUND:
                 raise
 
-    def wait(self, after: int, seconds: float) -> None:
-        limit = TimeLimit(seconds)
-        try:
-            self._gateway.watch(
-                {"create_request": {**all_below(self.prefix), "start_revision": str(after + 1)}},
-                after,
-                limit,
-            )
-        except StoreFault:
-            time.sleep(limit.rest())
-            raise
+    def wait(self, after: int, seconds: float, state: WatchState = NO_WATCH_STATE) -> bool:
+        message = {"create_request": {**all_below(self.prefix), "start_revision": str(after + 1)}}
+        return self._gateway.watch(WatchCall(message, after, TimeLimit(seconds), state))

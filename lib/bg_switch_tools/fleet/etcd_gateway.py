@@ -18,16 +18,16 @@ from bg_switch_tools.fleet.etcd_answers import (
     printable,
     text,
 )
-from bg_switch_tools.fleet.store import StoreFault
+from bg_switch_tools.fleet.store import StoreFault, WatchState
 from bg_switch_tools.fleet.store_endpoints import StoreEndpoint
 from bg_switch_tools.fleet.time_limit import TimeLimit
 from bg_switch_tools.fleet.timed_post import (
+    KeptConnections,
     NoAnswer,
     NoConnection,
     Post,
-    answer_to,
+    PostConnection,
     line_of,
-    responding,
 )
 from bg_switch_tools.fleet.tls_files import TlsContexts, TlsFiles
 from bg_switch_tools.switch.json_values import JsonObject
@@ -65,13 +65,37 @@ class OtherCluster(NoAnswer):
         self.cluster = cluster
 
 
+class Way(NamedTuple):
+    """How one endpoint is asked: within which limits a connection is made and the whole call ends,
+    and whether the call may be sent twice. Such a call goes over a connection that is kept. Any
+    other one has its own: one that was kept could end just when the call is sent, and nobody would
+    know whether it was carried out."""
+
+    endpoint: StoreEndpoint
+    connecting: TimeLimit
+    limit: TimeLimit
+    may_repeat: bool
+
+
+class WatchCall(NamedTuple):
+    """A watch from the revision after `after` on, how long it may last, and who is told how it
+    stands."""
+
+    message: Message
+    after: int
+    limit: TimeLimit
+    state: WatchState
+
+
 class Gateway:
     """Calls of etcd. Several threads may use one."""
 
     def __init__(self, settings: EtcdSettings) -> None:
         self.settings = settings
         self._contexts = TlsContexts(settings.tls) if settings.tls else None
+        self._kept = KeptConnections()
         self._lock = threading.Lock()  # of what follows
+        self._watched = set[PostConnection]()  # of the watches that stand
         self._place = 0  # of the endpoint that is asked first
         self._token = ""
         self._cluster = ""  # the id of the cluster; empty: not known yet
@@ -83,7 +107,9 @@ class Gateway:
         limit = TimeLimit(self.settings.timeout)
         return self._at_an_endpoint(
             limit,
-            lambda endpoint, share: value_of(self._answer(endpoint, path, message, share, share)),
+            lambda endpoint, share: value_of(
+                self._answer(Way(endpoint, share, share, True), path, message)
+            ),
         )
 
     def call_once(self, path: str, message: Message, value_of: Reader[Value]) -> Value:
@@ -92,12 +118,9 @@ class Gateway:
         `StoreFault` as for `call`; the call may have been carried out then.
         """
         limit, endpoint = TimeLimit(self.settings.timeout), self._endpoints()[0]
+        connecting = limit.share(len(self.settings.endpoints))
         try:
-            return value_of(
-                self._answer(
-                    endpoint, path, message, limit.share(len(self.settings.endpoints)), limit
-                )
-            )
+            return value_of(self._answer(Way(endpoint, connecting, limit, False), path, message))
         except NoAnswer as fault:
             self._leave(endpoint)
             outcome = (
@@ -124,40 +147,59 @@ class Gateway:
                 )
         return value
 
-    def watch(self, message: Message, after: int, limit: TimeLimit) -> None:
-        """Waits until a watch has an event, or could have missed one after this revision, or until
-        the time limit is over. `StoreFault` where no endpoint takes the watch in time, or keeps
-        it."""
-        self._at_an_endpoint(
-            limit, lambda endpoint, share: self._watch(endpoint, message, after, share, limit)
+    def watch(self, call: WatchCall) -> bool:
+        """Waits until a watch has an event, or could have missed one after its revision (True), or
+        until its time is over or it is cut (False). `StoreFault` where no endpoint takes the watch
+        in time, or keeps it."""
+        return self._at_an_endpoint(
+            call.limit, lambda endpoint, share: self._watch(endpoint, call, share)
         )
 
-    def _watch(
-        self,
-        endpoint: StoreEndpoint,
-        message: Message,
-        after: int,
-        share: TimeLimit,
-        limit: TimeLimit,
-    ) -> None:
+    def _watch(self, endpoint: StoreEndpoint, call: WatchCall, share: TimeLimit) -> bool:
         """Waits at one endpoint, which has to take the watch within the share."""
-        begin, is_taken = TimeLimit(min(share.left(), self.settings.timeout)), False
-        with responding(self._post(endpoint, WATCH, message), begin, begin) as response:
-            try:
-                for result in self._results(response):
-                    if "events" in result or "compact_revision" in result:
-                        return
-                    if "canceled" in result:
-                        raise NoAnswer(
-                            f"it ends the watch: {printable(text(result, 'cancel_reason'))}"
-                        )
-                    if number(member(result, "header"), "revision") < after:
-                        return
-                    begin.extend(limit)
-                    is_taken = True
-            except TimeoutError:
+        begin = TimeLimit(min(share.left(), self.settings.timeout))
+        post = self._post(endpoint, WATCH, call.message)
+        connection = PostConnection(post, begin)
+        try:
+            with connection.responding(post, begin, True) as response:
+                return self._is_woken(connection, response, begin, call)
+        except NoAnswer:
+            if not connection.is_cut:
+                raise
+            return False
+        finally:
+            with self._lock:
+                self._watched.discard(connection)
+            call.state.end()
+            connection.close()
+
+    def _is_woken(
+        self,
+        connection: PostConnection,
+        response: http.client.HTTPResponse,
+        begin: TimeLimit,
+        call: WatchCall,
+    ) -> bool:
+        """Whether a watch has an event, or could have missed one, before its time is over."""
+        is_taken = False
+        try:
+            for result in self._results(response):
+                if "events" in result or "compact_revision" in result:
+                    return True
+                if "canceled" in result:
+                    raise NoAnswer(f"it ends the watch: {printable(text(result, 'cancel_reason'))}")
+                if number(member(result, "header"), "revision") < call.after:
+                    return True
+                begin.extend(call.limit)
                 if not is_taken:
-                    raise
+                    with self._lock:
+                        self._watched.add(connection)
+                    call.state.begin(call.after, connection.cut)
+                is_taken = True
+        except TimeoutError:
+            if not is_taken:
+                raise
+        return False
 
     def _results(self, response: http.client.HTTPResponse) -> Iterator[JsonObject]:
         """The results of an answer that goes on, a line for each."""
@@ -202,8 +244,13 @@ class Gateway:
             return self.settings.endpoints[self._place :] + self.settings.endpoints[: self._place]
 
     def _leave(self, endpoint: StoreEndpoint) -> None:
-        """Asks the endpoint after this one first from now on, if this one was asked first."""
+        """Asks the endpoint after this one first from now on, if this one was asked first. What is
+        open to this one is not used any more: it may hang, and so may the watch there."""
+        self._kept.drop(endpoint)
         with self._lock:
+            for connection in self._watched:
+                if connection.endpoint == endpoint:
+                    connection.cut()
             if self.settings.endpoints[self._place] == endpoint:
                 self._place = (self._place + 1) % len(self.settings.endpoints)
 
@@ -216,39 +263,48 @@ class Gateway:
             token = {"Authorization": self._token} if self._token and path != AUTHENTICATE else {}
         return Post(endpoint, path, message, {**FIELDS, **token}, context)
 
-    def _answer(
-        self,
-        endpoint: StoreEndpoint,
-        path: str,
-        message: Message,
-        connecting: TimeLimit,
-        limit: TimeLimit,
-    ) -> JsonObject:
+    def _answer(self, way: Way, path: str, message: Message) -> JsonObject:
         """The answer of one endpoint. A call that is refused for its token was not carried out, and
         is sent again with a new one."""
         try:
-            return self._answer_once(endpoint, path, message, connecting, limit)
+            return self._answer_once(way, path, message)
         except Refusal as refusal:
             if not self.settings.user or not refusal.needs_token:
                 raise
-        self._authenticate(endpoint, limit)
-        return self._answer_once(endpoint, path, message, limit, limit)
+        self._authenticate(way.endpoint, way.limit)
+        return self._answer_once(way._replace(connecting=way.limit), path, message)
 
-    def _answer_once(
-        self,
-        endpoint: StoreEndpoint,
-        path: str,
-        message: Message,
-        connecting: TimeLimit,
-        limit: TimeLimit,
-    ) -> JsonObject:
-        status, body = answer_to(self._post(endpoint, path, message), connecting, limit)
+    def _answer_once(self, way: Way, path: str, message: Message) -> JsonObject:
+        status, body = self._sent(way, self._post(way.endpoint, path, message))
         told = object_of(body, status)
         if "error" in told or status != http.HTTPStatus.OK:
             raise fault_of(told, status, self.settings.user)
         answer = member(told, "result") if "result" in told else told
         self._judge(member(answer, "header"))
         return answer
+
+    def _sent(self, way: Way, post: Post) -> tuple[int, bytes]:
+        """The status and the body that come back. A connection that was kept may have ended since:
+        a call that may be sent twice goes over a new one then."""
+        kept = self._kept.take(post) if way.may_repeat else None
+        if kept:
+            try:
+                return self._sent_over(kept, way, post)
+            except NoAnswer:
+                if not way.limit.rest():
+                    raise
+        return self._sent_over(PostConnection(post, way.connecting), way, post)
+
+    def _sent_over(self, connection: PostConnection, way: Way, post: Post) -> tuple[int, bytes]:
+        is_kept = False
+        try:
+            status, body, is_kept = connection.answer(post, way.limit, not way.may_repeat)
+            return status, body
+        finally:
+            if is_kept:
+                self._kept.keep(connection)
+            else:
+                connection.close()
 
     def _authenticate(self, endpoint: StoreEndpoint, limit: TimeLimit) -> None:
         """Asks for a token."""
@@ -261,7 +317,8 @@ class Gateway:
                 f"the password of etcd's user can't be read from {self.settings.password_file}: {reason}"
             ) from None
         message = {"name": self.settings.user, "password": password}
-        token = text(self._answer_once(endpoint, AUTHENTICATE, message, limit, limit), "token")
+        way = Way(endpoint, limit, limit, True)
+        token = text(self._answer_once(way, AUTHENTICATE, message), "token")
         if not token.isascii() or not token.isprintable():
             raise NoAnswer("its token is none that can be sent")
         with self._lock:

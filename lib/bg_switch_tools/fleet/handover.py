@@ -1,7 +1,6 @@
 """What the threads of an agent hand to one another: reads of the store to the rounds at the switch,
 and reports back."""
 import threading
-import time
 
 from bg_switch_tools.fleet.agent import Read
 
@@ -19,6 +18,7 @@ class Handover:
         self._reads = list[Read]()
         # counts of reads: that were put, that were taken, that a round was done with
         self._put = self._taken = self._done = 0
+        self._rounds = 0  # that are over
         self._text: str | None = None
         self._has_ended = False
 
@@ -44,6 +44,17 @@ class Handover:
             self._condition.wait_for(lambda: self._done >= put or self._has_ended)
             return None if self._has_ended else self._text
 
+    @property
+    def rounds(self) -> int:
+        """How many rounds are over."""
+        with self._condition:
+            return self._rounds
+
+    def await_round(self, rounds: int) -> None:
+        """Waits until more rounds are over than so many, or the agent ends."""
+        with self._condition:
+            self._condition.wait_for(lambda: self._rounds > rounds or self._has_ended)
+
     # ---- the thread of the rounds ----
 
     def await_reads(self, seconds: float) -> list[Read]:
@@ -61,23 +72,6 @@ class Handover:
         with self._condition:
             is_news = text != self._text and self._done == self._put
             self._text, self._done = text, self._taken
+            self._rounds += 1
             self._condition.notify_all()
             return is_news
-
-
-class Wake:
-    """Ends a wait of a thread early."""
-
-    def __init__(self) -> None:
-        self._event = threading.Event()
-
-    def wake(self) -> None:
-        self._event.set()
-
-    def wait(self, seconds: float, least: float = 0.0) -> None:
-        """Waits until the thread is woken, but for so many seconds at most, and for at least so
-        many."""
-        begun = time.monotonic()
-        self._event.wait(seconds)
-        self._event.clear()
-        time.sleep(max(begun + least - time.monotonic(), 0.0))

@@ -4,7 +4,7 @@ A store has a prefix, such as `/bg-switch/web/`, and all names are names below i
 reads and on the compares of writes, and never on what wakes a wait: an event that is lost costs
 time only.
 """
-from collections.abc import Collection, Mapping, Sequence
+from collections.abc import Callable, Collection, Mapping, Sequence
 from typing import Literal, NamedTuple, Protocol
 
 
@@ -58,6 +58,31 @@ class Compare(NamedTuple):
     value: int
 
 
+class WatchState(Protocol):
+    """What a wait tells of its watch, in the thread that waits."""
+
+    def begin(self, after: int, cut: Callable[[], None]) -> None:
+        """The store has taken the watch: it tells of each change after this revision from now on,
+        as long as nothing is broken. `cut` ends the wait early; any thread may call it, at any
+        time."""
+
+    def end(self) -> None:
+        """The watch has ended, or was not taken."""
+
+
+class NoWatchState:
+    """For whoever does not ask how the watch stands."""
+
+    def begin(self, after: int, cut: Callable[[], None]) -> None:
+        """Nobody asks."""
+
+    def end(self) -> None:
+        """Nobody asks."""
+
+
+NO_WATCH_STATE = NoWatchState()
+
+
 class Store(Protocol):
     """A store. Each call ends within the time limit of the store, `wait` within its own, and each
     may raise `StoreFault`, whatever happens to the store; the next call begins anew. Several
@@ -90,8 +115,8 @@ class Store(Protocol):
     def revoke(self, lease: int) -> None:
         """Ends a lease, and deletes its keys. A lease that is gone is no fault."""
 
-    def wait(self, after: int, seconds: float) -> None:
+    def wait(self, after: int, seconds: float, state: WatchState = NO_WATCH_STATE) -> bool:
         """Returns when a key below the prefix was changed or deleted after this revision, or after
-        so many seconds. It may return early without a change. Where the store gives no events, it
-        raises `StoreFault` after the seconds, and not before, so that a caller that waits in a loop
-        does not spin."""
+        so many seconds. True where something has, or may have, changed. It may return early without
+        a change. `StoreFault`, at once, where the store gives no events: a caller in a loop pauses
+        then. `state` is told how the watch stands."""

@@ -13,6 +13,13 @@ from bg_switch_tools.switch.json_values import GREATEST_PORT
 TEXT = re.compile(
     r"(?:\[([0-9A-Fa-f:.]{2,45})\]|([A-Za-z0-9_](?:[A-Za-z0-9._-]{0,251}[A-Za-z0-9_])?)):([1-9][0-9]{0,4})"
 )
+# A connection without traffic is probed after so many seconds, so often, and so many times: a peer
+# that is gone is noticed within twenty seconds, and what stands between keeps the connection.
+PROBES = (
+    (socket.TCP_KEEPIDLE, 10),
+    (socket.TCP_KEEPINTVL, 5),
+    (socket.TCP_KEEPCNT, 2),
+)
 # as the system's lookup gives it
 Address = tuple[socket.AddressFamily, socket.SocketKind, int, str, Any]
 Addresses = Sequence[Address]
@@ -94,6 +101,9 @@ def connected(
             made.settimeout(limit.share(len(addresses) - place).left())
             made.connect(address)
             made.setsockopt(socket.IPPROTO_TCP, socket.TCP_NODELAY, 1)
+            made.setsockopt(socket.SOL_SOCKET, socket.SO_KEEPALIVE, 1)
+            for option, value in PROBES:
+                made.setsockopt(socket.IPPROTO_TCP, option, value)
             return made
         except OSError as error:
             made.close()

@@ -1,4 +1,5 @@
-"""POST requests of JSON by http.client, each of which ends within a time limit.
+"""POST requests of JSON by http.client, each of which ends within a time limit, over connections
+that can be kept.
 
 http.client alone limits each read and each write but not the whole, and takes a body that was cut
 for a whole one.
@@ -7,8 +8,10 @@ import contextlib
 import http.client
 import io
 import json
+import select
 import socket
 import ssl
+import threading
 from collections.abc import Iterator, Mapping
 from typing import Any, NamedTuple, cast
 
@@ -103,46 +106,122 @@ def with_tls(
         raise NoConnection("TLS fails: it closes the connection in the handshake") from None
 
 
-@contextlib.contextmanager
-def responding(
-    post: Post, connecting: TimeLimit, limit: TimeLimit
-) -> Iterator[http.client.HTTPResponse]:
-    """The response to a request, whose head has come. The connection is made within a limit of its
-    own; `limit` is that of all that follows, also of the reads of the body. `NoAnswer` where none
-    comes, and where one of these reads fails; `NoConnection` where the connection is not made. No
-    redirection is followed, and nothing is sent again."""
-    with contextlib.ExitStack() as opened:
-        try:
-            connection = opened.enter_context(connected(post.endpoint, connecting))
-            if post.context:
-                secured = with_tls(connection, post.context, post.endpoint.host, connecting)
-                connection = opened.enter_context(secured)
-        except OSError as error:
-            raise NoConnection(reason_of(error)) from None
+class PostConnection:
+    """A connection to an endpoint, for one request after the other. It is closed with its last
+    user."""
+
+    def __init__(self, post: Post, connecting: TimeLimit) -> None:
+        """Connects to the endpoint of a request. `NoConnection` where that fails."""
+        self.endpoint, self.context = post.endpoint, post.context
+        self.is_cut = False
+        # A cut must not meet a descriptor that is that of another connection by then.
+        self._closing = threading.Lock()
+        with contextlib.ExitStack() as opened:
+            try:
+                self.socket = opened.enter_context(connected(post.endpoint, connecting))
+                if post.context:
+                    self.socket = opened.enter_context(
+                        with_tls(self.socket, post.context, post.endpoint.host, connecting)
+                    )
+            except OSError as error:
+                raise NoConnection(reason_of(error)) from None
+            self._opened = opened.pop_all()
+
+    def __del__(self) -> None:
+        if hasattr(self, "_opened"):
+            self.close()
+
+    def close(self) -> None:
+        with self._closing:
+            self._opened.close()
+
+    def cut(self) -> None:
+        """Ends a wait that another thread has in this connection, which finds it ended. Nothing
+        where it was closed."""
+        self.is_cut = True
+        with self._closing, contextlib.suppress(OSError):
+            # TLS says no good-bye, since the other thread is in it
+            socket.socket.shutdown(self.socket, socket.SHUT_RDWR)
+
+    @property
+    def is_quiet(self) -> bool:
+        """Whether nothing has come since the last response: neither an end, nor what nobody has
+        asked for."""
+        waiting = select.poll()
+        waiting.register(self.socket, select.POLLIN)
+        return not waiting.poll(0)
+
+    @contextlib.contextmanager
+    def responding(
+        self, post: Post, limit: TimeLimit, is_last: bool
+    ) -> Iterator[http.client.HTTPResponse]:
+        """The response to a request, whose head has come. `limit` is that of all, also of the reads
+        of the body. `NoAnswer` where no response comes, and where one of these reads fails. No
+        redirection is followed, and nothing is sent again. `is_last` tells the endpoint that no
+        other request comes over this connection."""
+        ends = {"Connection": "close"} if is_last else {}
         try:
             client = http.client.HTTPConnection(post.endpoint.host, post.endpoint.port)
-            client.sock = cast(socket.socket, _TimedConnection(connection, limit))
+            client.sock = cast(socket.socket, _TimedConnection(self.socket, limit))
             body = json.dumps(post.message).encode()
-            client.request(
-                "POST",
-                post.path,
-                body,
-                {"Content-Type": "application/json", "Connection": "close", **post.headers},
-            )
-            yield opened.enter_context(client.getresponse())
+            fields = {"Content-Type": "application/json", **ends, **post.headers}
+            client.request("POST", post.path, body, fields)
+            with client.getresponse() as response:
+                yield response
         except (OSError, http.client.HTTPException, ValueError) as error:
             raise NoAnswer(reason_of(error)) from None
 
+    def answer(self, post: Post, limit: TimeLimit, is_last: bool) -> "Answer":
+        """The whole response to a request. `NoAnswer` where none comes."""
+        with self.responding(post, limit, is_last) as response:
+            body = response.read(LARGEST + 1)
+            if len(body) > LARGEST:
+                raise NoAnswer(f"its answer has more than {LARGEST} bytes")
+            if response.length:  # http.client does not notice a body that ends before its length
+                raise NoAnswer("its answer is cut")
+            return Answer(response.status, body, not (is_last or response.will_close))
 
-def answer_to(post: Post, connecting: TimeLimit, limit: TimeLimit) -> tuple[int, bytes]:
-    """The status and the whole body of the response to a request. `NoAnswer` where none comes."""
-    with responding(post, connecting, limit) as response:
-        body = response.read(LARGEST + 1)
-        if len(body) > LARGEST:
-            raise NoAnswer(f"its answer has more than {LARGEST} bytes")
-        if response.length:  # http.client does not notice a body that ends before its length
-            raise NoAnswer("its answer is cut")
-        return response.status, body
+
+class Answer(NamedTuple):
+    """The status and the whole body of a response, and whether its connection takes another
+    request."""
+
+    status: int
+    body: bytes
+    is_kept: bool
+
+
+class KeptConnections:
+    """Connections between two calls. Several threads may use one."""
+
+    def __init__(self) -> None:
+        self._lock = threading.Lock()
+        self._kept: list[PostConnection] = []
+
+    def take(self, post: Post) -> PostConnection | None:
+        """A connection for a request; None where none is kept. The one that was used last comes
+        first. Connections that have ended, or have TLS by files that were replaced, are closed."""
+        while found := self._popped(post.endpoint):
+            if found.context is post.context and found.is_quiet:
+                return found
+            found.close()
+        return None
+
+    def _popped(self, endpoint: StoreEndpoint) -> PostConnection | None:
+        with self._lock:
+            for place in reversed(range(len(self._kept))):
+                if self._kept[place].endpoint == endpoint:
+                    return self._kept.pop(place)
+        return None
+
+    def keep(self, connection: PostConnection) -> None:
+        with self._lock:
+            self._kept.append(connection)
+
+    def drop(self, endpoint: StoreEndpoint) -> None:
+        """Closes those to an endpoint, which may hang."""
+        while found := self._popped(endpoint):
+            found.close()
 
 
 def line_of(response: http.client.HTTPResponse) -> bytes:

@@ -28,12 +28,12 @@ class WaitResult(NamedTuple):
 def wait_for_change(store: Store, after: int, seconds: float) -> None:
     """Waits for a change after this revision of the store, for so many seconds at most, and for a
     pause at least."""
-    begun = time.monotonic()
+    begun, least = time.monotonic(), min(PAUSE, seconds)
     try:
         store.wait(after, seconds)
-    except StoreFault:  # it came after the seconds, and the next read tells of it
-        return
-    time.sleep(max(min(PAUSE, seconds) - (time.monotonic() - begun), 0.0))
+    except StoreFault:  # the next read tells of it
+        least = seconds
+    time.sleep(max(least - (time.monotonic() - begun), 0.0))
 
 
 def wait_for(

@@ -63,13 +63,15 @@ class EtcdClient:
             self.endpoints.append(self.endpoints.pop(0))
         raise NoAnswer("; ".join(faults))
 
+    def poll(self) -> Poll:
+        """The revision of the store and the term of its leader, by a linearizable read."""
+        begun = time.time()
+        header = self._call("/v3/kv/range", {"key": coded("/"), "count_only": True})["header"]
+        return Poll(begun, time.time(), int(header["revision"]), int(header["raft_term"]))
+
     def revision(self) -> int:
         """The revision of the store, by a linearizable read."""
-        return int(
-            self._call("/v3/kv/range", {"key": coded("/"), "count_only": True})["header"][
-                "revision"
-            ]
-        )
+        return self.poll().revision
 
     def entries(self) -> dict[str, Event]:
         """All keys of the fleet by their names, each as it was changed last."""
@@ -175,10 +177,8 @@ class Recorder:
     def _poll(self) -> None:
         with open(self.folder / POLLS, "a", encoding="ascii") as file:
             while not self.ending.wait(PERIOD):
-                begun = time.time()
                 with contextlib.suppress(NoAnswer):
-                    revision = self.client.revision()
-                    file.write(json.dumps(Poll(begun, time.time(), revision)._asdict()) + "\n")
+                    file.write(json.dumps(self.client.poll()._asdict()) + "\n")
 
     def end(self) -> None:
         """Writes the history. `NoAnswer` where etcd does not give it."""

@@ -14,6 +14,7 @@ from types import FrameType
 from support import PROGRAM, TOP
 from support.checks import comes
 from support.fleet.analysis import bad_file, hold_file
+from support.fleet.client import ask
 from support.fleet.etcd_client import EtcdClient, NoAnswer, Recorder, write_rows
 from support.fleet.hosts import Network, free_block, network_of
 from support.fleet.programs import Programs
@@ -389,6 +390,13 @@ class Lab:
             whole = [line for line in lines[-2:] if line.endswith(b"\n")]
             found[host] = Look(**json.loads(whole[-1])) if whole else Look(0, 0)
         return found
+
+    def is_served(self) -> bool:
+        """Whether the load balancer has found each host: it asks them in turn."""
+        at = self.network.balancer()
+        with self.network.inside():
+            answers = [ask(at.host, at.port) for _ in self.hosts]
+        return {answered.host for answered in answers} == set(self.hosts)
 
     def seen(self) -> Seen:
         """What the keys of the fleet say; nothing where etcd gives no answer."""

@@ -33,11 +33,13 @@ class Event(NamedTuple):
 
 
 class Poll(NamedTuple):
-    """A linearizable read between two moments, and the revision that the store had in it."""
+    """A linearizable read between two moments, and the revision that the store had in it. `term` is
+    that of etcd's own leader: it rises with each election (0: a recording without it)."""
 
     begun: float
     ended: float
     revision: int
+    term: int = 0
 
 
 class Look(NamedTuple):

@@ -9,13 +9,16 @@ import json
 from collections.abc import Callable, Iterator, Mapping, Sequence
 from typing import Any, NamedTuple
 
-from support.fleet.recording import Answered, Event, Look, Outage, Promote, Recording
+from support.fleet.recording import Answered, Event, Look, Outage, Poll, Promote, Recording
 
 OLDEST_READ = 1.0  # seconds: how old a read may be that a promote rests on
 SLACK = 0.5  # seconds: how late a line of a log or a look may be on a busy machine
 GOING_BACK = 3.0  # seconds in which a machine goes back after its analysis has failed
 PROMOTING = 1200.0  # seconds for which an attempt may be promoting, where its plan does not say it
-REPLACING = 16.0  # seconds in which another agent leads after one that was killed, at etcd that was just started too
+LEASE = 10.0  # seconds of each lease of an agent
+# Seconds in which another agent leads after one that was killed: etcd looks for leases that have
+# ended, and the others read.
+REPLACING = LEASE + 3.0
 SETTLING = 1.5  # seconds after which the load balancer has left out a machine whose switch was killed, or has taken it in again
 RUNNING = ("deploying", "promoting")
 OVER = ("successful", "aborted")
@@ -441,18 +444,32 @@ def rule_7(run: Run) -> Iterator[str]:
 
 def _without_store(run: Run, begun: float, ended: float) -> float:
     """For how many seconds between two moments something was broken by which nothing can be
-    decided: etcd, a link to it, or an agent, which may be the leader's."""
-    return sum(
-        max(min(outage.ended, ended) - max(outage.begun, begun), 0.0)
-        for outage in run.recording.outages
-        if outage.what in ("etcd", "link", "agent")
-    )
+    decided: etcd, a link to it, or an agent, which may be the leader's. Faults at the same time
+    count once."""
+    seconds, until = 0.0, begun
+    for outage in sorted(run.recording.outages, key=lambda each: each.begun):
+        if outage.what in ("etcd", "link", "agent"):
+            seconds += max(min(outage.ended, ended) - max(outage.begun, until), 0.0)
+            until = max(until, min(outage.ended, ended))
+    return seconds
+
+
+def elections(polls: Sequence[Poll], begun: float, ended: float) -> int:
+    """How many elections of etcd's own leader polls show between two moments. Each lets all leases
+    last for their whole time again, also that of an agent that is gone."""
+    count, term = 0, 0
+    for before, poll in zip(polls, polls[1:]):
+        term = max(term, before.term)
+        if poll.term > term > 0 and poll.ended >= begun and before.begun <= ended:
+            count += 1
+    return count
 
 
 def rule_8(run: Run) -> Iterator[str]:
     """Whatever the plan's key holds, an attempt is promoting for the seconds of the plan that it
     began with at most, and one whose abort was ordered ends. A leader that is lost is replaced
-    after its lease, and the time in which something is broken is added."""
+    after its lease, which each election of etcd begins anew, and the time in which something is
+    broken is added."""
     last = max((poll.ended for poll in run.recording.polls), default=0.0)
     aborts = {
         json.loads(event.value)["attempt"]: run.moments(event.revision)[1]
@@ -466,9 +483,14 @@ def rule_8(run: Run) -> Iterator[str]:
         if attempt in aborts and write.stage in RUNNING:
             limits.append(("its abort was ordered", max(aborts[attempt], write.latest), 0.0))
         for what, begun, limit in limits:
-            took = until - begun
-            if took > limit + REPLACING + _without_store(run, begun - REPLACING, until):
-                yield f"attempt {attempt} was {write.stage} {took:.1f} seconds after {what}"
+            took, since = until - begun, begun - REPLACING
+            elected = elections(run.recording.polls, since, until)
+            limit += REPLACING + LEASE * elected + _without_store(run, since, until)
+            if took > limit:
+                yield (
+                    f"attempt {attempt} was {write.stage} {took:.1f} seconds after {what}, and the limit is {limit:.1f}, with "
+                    f"{elected} elections of etcd"
+                )
 
 
 RULES: tuple[Callable[[Run], Iterator[str]], ...] = (

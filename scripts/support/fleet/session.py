@@ -27,6 +27,7 @@ class Session:
         self.give("members", "add", *self.lab.hosts)
         self.put(1)
         has_begun = self.until(lambda seen: seen.is_settled) and self.all_select(1, ATTEMPT)
+        has_begun = has_begun and comes(self.lab.is_served, ATTEMPT)
         if failures := self.lab.programs.failures():
             raise ChildProcessError(f"the fleet did not begin: {failures}")
         if not has_begun:
