@@ -19,6 +19,7 @@ from support.clients import send_in_pieces
 from support.messages import response
 from support.plans import Plan
 from support.processes import Run, run_to_end
+from tests.fake_port import free_port
 from tests.fake_switch import FakeSwitch
 
 TOP = pathlib.Path(__file__).resolve().parents[1]
@@ -38,7 +39,8 @@ class Endpoint(endpoints.Endpoint):
     def __init__(self) -> None:
         self.pieces: Sequence[bytes] = [response(b"ok")]
         self.pause = 0.0
-        super().__init__(self.give)
+        # a test that stops it may start it again
+        super().__init__(self.give, free_port())
 
     def give(self, _: endpoints.Request, connection: socket.socket) -> None:
         send_in_pieces(connection, self.pieces, self.pause)
