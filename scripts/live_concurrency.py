@@ -16,6 +16,7 @@ from support import checks, clients, processes
 from support.checks import check, check_soon, check_within, comes
 from support.endpoints import Endpoint, Request
 from support.messages import BAD_GATEWAY, BY_HAND, UNAVAILABLE, answer, request, response
+from support.ports import free_ports
 from support.processes import descriptors, resident_memory, threads
 from support.switch import Switch
 
@@ -187,7 +188,7 @@ class Soak:
     def __init__(self, requests: int, workers: int) -> None:
         self.rng = random.Random(SEED)
         self.requests = requests
-        self.endpoints = [Endpoint(self.answer) for _ in range(2)]
+        self.endpoints = [Endpoint(self.answer, port) for port in free_ports(2)]
         self.switch = Switch(
             BY_HAND, instead_of_workers=("--concurrency", str(workers)), descriptors=MANY
         )

@@ -29,7 +29,7 @@ from support.endpoints import (
 )
 from support.messages import BAD_GATEWAY, ROLLOUT, answer, request, response
 from support.pace import slowness
-from support.ports import free_ports
+from support.ports import free_port, free_ports
 from support.switch import LISTENING, TIMEOUT_VARIABLE, LaterEnd, Switch, serving
 from support.traffic import prepared_log
 
@@ -497,7 +497,8 @@ def logged() -> None:
 
 def marked_is_asked_last() -> None:
     """A port whose connect failed is asked after the others for a second, and then again."""
-    first, second = Endpoint(by_target(b"one")), Endpoint(by_target(b"two"))
+    first = Endpoint(by_target(b"one"), free_port())
+    second = Endpoint(by_target(b"two"))
     first.stop()
     with serving_two([first.port, second.port]) as switch:
         got = [timed(switch.active).answer for _ in range(2)]

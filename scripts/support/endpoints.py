@@ -73,7 +73,8 @@ def read_request(connection: socket.socket) -> Request | None:
 
 class Endpoint:
     """A server that reads each request whole and answers it by a function. It counts its requests,
-    and it can be stopped and started again."""
+    and it can be stopped. One that is started again needs a port that was given to it, since the
+    system gives the ports that it chose to connections meanwhile."""
 
     def __init__(self, answer: Answer, port: int = 0) -> None:
         self.answer = answer
