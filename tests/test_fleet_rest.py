@@ -24,7 +24,7 @@ from bg_switch_tools.fleet.record import (
     read_machine_report,
 )
 from bg_switch_tools.fleet.rest import UNREST, Standing
-from bg_switch_tools.fleet.store import StoreFault
+from bg_switch_tools.fleet.store import Store, StoreFault
 from bg_switch_tools.fleet.wake import Wake
 from tests import rest_faults
 from tests.fleet_faults import Patch
@@ -37,6 +37,9 @@ from tests.test_fleet_next_line import report
 QUIET = 0.6  # seconds without a read, which an agent that does not rest never has
 PLANTED = 1.0  # seconds for which something is awaited that a planted fault prevents for a minute
 SMALL = 0.3  # seconds
+# Seconds by which a busy machine is not late, which would end a rest too; three of them are below the
+# bound of a rest.
+PATIENT = 10.0
 
 
 class RestCase(FleetProcessCase):
@@ -101,19 +104,29 @@ def the_bound(case: RestCase) -> None:
         case.reads_again()
 
 
+def lost_renewals(store: Store) -> Patch:
+    """The store renews leases, and its answers are lost. So no lease ends, and nothing but the failed
+    renewal tells an agent that something is wrong."""
+    refresh = store.refresh
+
+    def lost(lease: int) -> int:
+        refresh(lease)
+        raise StoreFault("it is away")
+
+    return mock.patch.object(store, "refresh", lost)
+
+
 def a_renewal_that_fails(case: RestCase) -> None:
     case.rests()
-    case.network.hangs = True  # so that nobody tells it when the lease ends
-    away = StoreFault("it is away")
-    with mock.patch.object(case.process.agent.store, "refresh", side_effect=away):
+    case.network.hangs = True
+    with lost_renewals(case.process.agent.store):
         case.hears_log("the store gives no answer, so nothing is switched here")
 
 
 def a_renewal_of_a_leader_that_fails(case: RestCase) -> None:
     case.rests()
     case.network.hangs = True
-    away = StoreFault("it is away")
-    with mock.patch.object(case.process.candidate.store, "refresh", side_effect=away):
+    with lost_renewals(case.process.candidate.store):
         case.reads_again()
 
 
@@ -244,7 +257,9 @@ class Ends(InTurn):
 class EndsWithoutARule(InTurn):
     def test_each_rule_that_is_taken_away_is_missed(self) -> None:
         for name, rule in RULES.items():
-            with self.subTest(name), rule.plant():
+            with self.subTest(name), mock.patch.object(agent, "LATE", PATIENT), mock.patch.object(
+                rest, "LATE", PATIENT
+            ), rule.plant():
                 self.fresh(PLANTED)
                 with self.assertRaisesRegex(AssertionError, "it did not come that"):
                     rule.check(self)
