@@ -23,3 +23,5 @@ mod refused_heads;
 mod requests;
 #[cfg(test)]
 mod responses;
+#[cfg(test)]
+mod streams;
