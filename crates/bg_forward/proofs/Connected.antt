@@ -1,6 +1,6 @@
 -- Lemmas on the bytes that were written to a client: first while its request was read, then at the
 -- end.
-use Rattle.std.proofs.Common.{ℕ, Bool, true, false, if◌then◌else◌, IfErr, IfOk, IfSome, List, [], Option}
+use Rattle.std.proofs.Common.{ℕ, Bool, true, false, if◌then◌else◌, IfErr, IfOk, IfSome, List, [], Option, ◌≡◌}
 use Rattle.std.proofs.Common.{Some, None, Ok, Err, inl, inr, refl, sym, ◌∙◌, append-nil}
 use Rattle.std.specs.Io.KnownBytes.{Appends, Keeps}
 use Rattle.std.proofs.KnownBytes.{Appends-trans}
@@ -145,10 +145,11 @@ module _ (body : RefusalBody) (input old mid new : Option (List ℕ)) where
   connected (Err f) None e r may_end last = turned_away f e r.reads r.wrote may_end last
   connected (Err f) (Some t) e r may_end last = absurd may_end
 
--- a client of whom this was received was served
-pub served_client : (body : RefusalBody) (sent old new : Option (List ℕ)) (read : ReadOutcome) (entered : Option Ticket) (e : End)
-    → IsReceived sent old read
+-- a client of whom this was received was served, with the body that its refusals have
+pub served_client : (asked body : RefusalBody) → body ≡ asked → (sent old new : Option (List ℕ)) (read : ReadOutcome)
+    (entered : Option Ticket) (e : End) → IsReceived sent old read
     → ((input before : Option (List ℕ)) → Receives input before old read → Connection body input before new read entered e)
-    → IsServed body sent new read entered e
-served_client body None old new read entered e received connection = tt
-served_client body (Some input) old new read entered e received connection = connection (Some input) (Some []) received
+    → IsServed asked sent new read entered e
+served_client asked body is_asked None old new read entered e received connection = tt
+served_client asked body is_asked (Some input) old new read entered e received connection =
+    rw is_asked at (connection (Some input) (Some []) received)

@@ -5,8 +5,8 @@ use Rattle.bg_forward.proofs.workers.work.Goals as goal
 pub close-requires-clause-connection : goal.close-requires-clause-connection
 close-requires-clause-connection g c =
     let received = rw c.in-Ok-Some.field-0-is at c.in-Ok-Some.ensures.received in
-    let connection = rw (c.new-client.ensures.stream, c.refusal_body-refusal_body.ensures) at c.serve_received-served.ensures.client in
-    rw c.into_inner-stream.ensures (served_client _ _ _ _ _ _ _ received connection)
+    let connection = rw c.new-client.ensures.stream at c.serve_received-served.ensures.client in
+    rw c.into_inner-stream.ensures (served_client _ _ c.refusal_body-refusal_body.ensures _ _ _ _ _ _ received connection)
 
 pub loop-preserved : goal.loop-preserved
 loop-preserved g c =
