@@ -6,3 +6,4 @@ pub mod Compaction
 pub mod OpenBooks
 pub mod Promises
 pub mod Room
+pub mod Resuming

@@ -15,6 +15,7 @@ ghost use Rattle.bg_rollout.specs.declared.control_fault.ControlFault.TheVariant
 
 mod readers;
 mod requests;
+mod resuming;
 
 use crate::laws as book_laws;
 use bg_history::History;

@@ -1,5 +1,6 @@
-//! The error of a list of calls of a book.
+//! The errors of a list of calls of a book, and of resuming a book.
 
+use bg_rollout::{JournalFault, OpenFault};
 use std::alloc::{AllocError, AllocFailed};
 use thiserror::Error;
 
@@ -18,5 +19,27 @@ impl From<AllocError> for RunFault {
 
     fn from(_refused: AllocError) -> RunFault {
         RunFault::OutOfMemory
+    }
+}
+
+/// The reason why a book isn't resumed from a journal.
+#[derive(Clone, Copy, PartialEq, Eq, Debug, Drop, Error)]
+pub enum ResumeFault {
+    /// The book can't be opened.
+    #[error("{0}")]
+    Opening(OpenFault),
+    /// The journal isn't followed.
+    #[error("{0}")]
+    Journal(JournalFault),
+}
+
+impl From<OpenFault> for ResumeFault {
+    ghost use Rattle.std.specs.Prelude.{◌≡◌};
+    ghost use Rattle.bg_book.specs.declared.fault.ResumeFault.TheVariants.{Opening};
+
+    ghost from_gives = { λ fault e. e ≡ Opening fault };
+
+    fn from(fault: OpenFault) -> ResumeFault {
+        ResumeFault::Opening(fault)
     }
 }

@@ -13,11 +13,11 @@ pub mod laws;
 mod open_book;
 
 pub use bg_rollout::{
-    Control, ControlFault, EnterFault, GatherFault, GoOn, Left, Limits, OpenFault, RolloutOpening,
-    Ticket,
+    Control, ControlFault, EnterFault, GatherFault, GoOn, JournalFault, Left, Limits, OpenFault,
+    RolloutOpening, Ticket,
 };
 pub use book::Book;
 pub use calls::{Call, Reply};
 pub use desk::{Desk, Question};
-pub use fault::RunFault;
+pub use fault::{ResumeFault, RunFault};
 pub use open_book::OpenBook;

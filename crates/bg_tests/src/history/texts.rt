@@ -34,7 +34,8 @@ pub(crate) fn history_of(
     Ok(history)
 }
 
-fn entry(alloc: Global, line: &str) -> Result<Entry, Fail> {
+/// The entry of a line.
+pub(crate) fn entry(alloc: Global, line: &str) -> Result<Entry, Fail> {
     let mut words = line.split_whitespace();
     match word(&mut words)? {
         "tick" => Ok(Entry::Tick(number(&mut words)?)),
