@@ -1,5 +1,5 @@
 -- What the calls of a shared book answer.
-use Rattle.std.specs.Prelude.{◌≡◌, ◌⊎◌, ℕ, false, [], ◌∷◌, Result, Ok, Err}
+use Rattle.std.specs.Prelude.{◌≡◌, ◌⊎◌, ℕ, Bool, true, false, [], ◌∷◌, Option, Some, None, Result, Ok, Err}
 use Rattle.bg_revisions.specs.declared.revision.Service.{Service}
 use Rattle.bg_ledger.specs.declared.holding.Holding.{Holding}
 use Rattle.bg_rollout.specs.Compaction.{with_compacted}
@@ -57,3 +57,10 @@ AnswersControlCompacting b event reply new =
     (AnswersControl b event reply new × (is_history_full reply ≡ false))
     ⊎ (AnswersControl b event (ControlRefused control_fault.HistoryFull) b
     × AnswersControl (with_compacted b) event reply new)
+
+-- The book answers so to an event that is given to it only under a condition; then it is this new one. If the answer to
+-- the condition is false, there is no answer to the event and the book stays; else the answer is that to the event.
+abbrev pub AnswersControlIf : (Bool → Type 0) → Routing → Control → Option (Result ℕ ControlFault) → Routing → Type 0
+AnswersControlIf condition b event None new = condition false × Headline b × (new ≡ b)
+AnswersControlIf condition b event (Some answer) new =
+    condition true × AnswersControlCompacting b event (control_reply answer) new

@@ -1,10 +1,10 @@
 //! A book shared by threads.
-ghost use Rattle.std.specs.Prelude.{◌≡◌, ◌+◌, ◌<◌, ◌≤◌, ◌∷◌, [], Some, length, Err, IfOk, OnErr};
+ghost use Rattle.std.specs.Prelude.{◌≡◌, ◌+◌, ◌<◌, ◌≤◌, ◌∷◌, [], Some, length, Err, IfOk, IfSome, OnErr};
 ghost use Rattle.bg_ledger.specs.Holdings.{after_leave};
 ghost use Rattle.bg_rollout.specs.Compaction.{with_compacted};
 ghost use Rattle.bg_rollout.specs.Changes.{seat_in};
 ghost use Rattle.bg_book.specs.declared.calls.Reply.TheVariants as reply;
-ghost use Rattle.bg_book.specs.Desks.{AnswersControl, AnswersControlCompacting, AnswersEnter, AnswersEnterCompacting, control_reply, enter_reply};
+ghost use Rattle.bg_book.specs.Desks.{AnswersControl, AnswersControlCompacting, AnswersControlIf, AnswersEnter, AnswersEnterCompacting, control_reply, enter_reply};
 ghost use Rattle.bg_book.specs.Headline.{Headline};
 ghost use Rattle.bg_book.specs.Room.{entries_used as used_entries};
 ghost use Rattle.bg_book.specs.Runs.{LeaveStep};
@@ -34,8 +34,8 @@ pub trait Question<A> {
 
 /// A book behind a lock, which threads share.
 ///
-/// Each call takes the lock once, makes one call of the book and releases the lock; the two calls with a compaction make
-/// up to three calls of the book. `told` says that one book for which [`headline`] holds, and which has the record of the
+/// Each call takes the lock once, makes one call of the book and releases the lock; the calls with a compaction make up to
+/// three calls of the book, and one with a condition asks it first. `told` says that one book for which [`headline`] holds, and which has the record of the
 /// seat, gives the answer. If the call records something, it also says what the call makes of this book. It doesn't say
 /// that this book is the one under the lock; the functions that are lent that book say what becomes of it.
 pub struct Desk<N: Names> {
@@ -147,6 +147,22 @@ impl<N: Names> Desk<N> {
         control_or_compact(&mut *locked, event)
     }
 
+    /// [`Desk::control_with_compaction`], if the condition holds; `None` if not, and then nothing is recorded. The condition
+    /// is asked and the event is given under one lock, so nobody calls the book between the two.
+    pub fn control_if<Q: Question<bool>, R: Wait>(
+        &self,
+        rt: &R,
+        condition: Q,
+        event: &Control,
+    ) -> Option<Result<u64, ControlFault>>
+        ensures few { IfSome result (λ answer. IfOk answer (λ n. n ≤ 140)) }
+        ensures told { (b : Routing) × (new : Routing)
+            × AnswersControlIf (Q.gives condition b) b event.now result new }
+    {
+        let mut locked = self.book.lock(rt);
+        control_if(&mut *locked, condition, event)
+    }
+
     /// [`Book::compact`].
     pub fn compact<R: Wait>(&self, rt: &R) -> u64
         ensures told { (b : Routing) × Headline b
@@ -253,6 +269,23 @@ fn control_or_compact<N: Names>(book: &mut Book<N>, event: &Control) -> Result<u
             control(book, event)
         }
         answer => answer,
+    }
+}
+
+/// Gives an event to the book if the condition holds of it, after a compaction if its history is full. `None`, and an
+/// unchanged book, if the condition does not hold.
+fn control_if<N: Names, Q: Question<bool>>(
+    book: &mut Book<N>,
+    condition: Q,
+    event: &Control,
+) -> Option<Result<u64, ControlFault>>
+    ensures few { IfSome result (λ answer. IfOk answer (λ n. n ≤ 140)) }
+    ensures told { AnswersControlIf (Q.gives condition book.old) book.old event.now result book.new }
+{
+    if ask(book, condition) {
+        Some(control_or_compact(book, event))
+    } else {
+        None
     }
 }
 

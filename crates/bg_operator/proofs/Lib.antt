@@ -6,4 +6,5 @@ pub mod WordNumbers
 pub mod PlainLines
 pub mod LongLines
 pub mod LineReadings
+pub mod TimeLimits
 mod HttpLineCases

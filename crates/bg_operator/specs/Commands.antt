@@ -5,11 +5,11 @@ use Rattle.std.specs.List.{list_all}
 use Rattle.std.specs.Str.Parse.{digits_value}
 use Rattle.bg_history.specs.declared.control.Control.TheVariants.{Tick, Deploy, Available, Verdict, Promote, PromoteFull, Abort, Retry}
 use Rattle.bg_operator.specs.declared.command.Command.{Command}
-use Rattle.bg_operator.specs.declared.command.Command.TheVariants.{Open, Control, Enter, Leave, Down, Report, Compact, Quit}
+use Rattle.bg_operator.specs.declared.command.Command.TheVariants.{Open, Control, Before, Enter, Leave, Down, Report, Compact, Quit}
 use Rattle.bg_operator.specs.declared.line_fault.LineFault.{LineFault}
-use Rattle.bg_operator.specs.declared.line_fault.LineFault.TheVariants.{TooLong, NotAscii, Empty, UnknownWord, WrongCount, OutOfMemory}
+use Rattle.bg_operator.specs.declared.line_fault.LineFault.TheVariants.{TooLong, NotAscii, Empty, UnknownWord, WrongCount, BadWord, OutOfMemory}
 use Rattle.bg_operator.specs.Words.{analyses, meaning_in, results, services, words_in, words_of}
-use Rattle.bg_operator.specs.Shapes.{Shape, AnyWord, Number, OneOf, Exactly, AtMost, AndMore, AnyNumber, shape_fault}
+use Rattle.bg_operator.specs.Shapes.{Shape, AnyWord, Number, OneOf, Exactly, AtMost, AndMore, AnyNumber, shape_fault, word_fault}
 
 -- A row of the table of lines: the first word, the words that may follow, and their command. Words
 -- that have a fault give no command.
@@ -157,12 +157,38 @@ abbrev pub row_reading : Row → List (List ℕ) → Result Command LineFault
 row_reading row words =
     option_map_or Err (shape_fault row.shape words) (ok_or (row.command words) WrongCount)
 
+-- the result of reading words by the table of lines
+abbrev pub table_reading : List ℕ → List (List ℕ) → Result Command LineFault
+table_reading first words =
+    option_map_or (λ row. row_reading row words) (find (λ row. bytes_eq first row.first) rows)
+    (Err UnknownWord)
+
+-- whether a line with this first word has a time limit
+abbrev pub is_before : List ℕ → Bool
+is_before first = bytes_eq first (codes "before")
+
+-- the result of reading the words of a line that follow a time limit, and are none with a second time limit
+abbrev pub event_reading : List ℕ → List (List ℕ) → Result Command LineFault
+event_reading first words = if is_before first then Err BadWord else table_reading first words
+
+-- a line with this result, after a time limit: only a line that gives an event may follow it
+abbrev pub with_time_limit : ℕ → Result Command LineFault → Result Command LineFault
+with_time_limit milliseconds (Ok (Control event)) = Ok (Before milliseconds event)
+with_time_limit milliseconds (Ok command) = Err BadWord
+with_time_limit milliseconds (Err fault) = Err fault
+
+-- the result of reading the words after `before`: a number of milliseconds, and then a line that gives an event
+abbrev pub before_reading : List (List ℕ) → Result Command LineFault
+before_reading (limit ∷ first ∷ words) =
+    option_map_or Err (word_fault (Number 64) limit)
+    (with_time_limit (digits_value 10 limit) (event_reading first words))
+before_reading _ = Err WrongCount
+
 -- the result of reading words
 abbrev pub words_reading : List (List ℕ) → Result Command LineFault
 words_reading [] = Err Empty
 words_reading (first ∷ words) =
-    option_map_or (λ row. row_reading row words) (find (λ row. bytes_eq first row.first) rows)
-    (Err UnknownWord)
+    if is_before first then before_reading words else table_reading first words
 
 -- a byte from the space to the tilde
 abbrev pub is_printable : ℕ → Bool
@@ -183,6 +209,7 @@ line_reading line = option_map_or Err (text_fault line) (words_reading (words_of
 abbrev pub NeedsMemory : Result Command LineFault → Type 0
 NeedsMemory (Ok (Open name ports)) = ⊤
 NeedsMemory (Ok (Control (Deploy name ports))) = ⊤
+NeedsMemory (Ok (Before milliseconds (Deploy name ports))) = ⊤
 NeedsMemory (Ok (Down ports)) = ⊤
 NeedsMemory _ = ⊥
 

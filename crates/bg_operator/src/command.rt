@@ -10,6 +10,8 @@ pub enum Command {
     Open { name: Name, ports: Ports },
     /// Give this event to the book.
     Control(Control),
+    /// Give this event to the book, if the boot clock is below this time limit.
+    Before { milliseconds: u64, event: Control },
     /// Enter a request at a seat, for a service.
     Enter { seat: u32, service: Service },
     /// End the request at a seat.

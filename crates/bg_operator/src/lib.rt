@@ -7,6 +7,7 @@
 //! and are not stored.
 #![tactic(auto)]
 
+mod before;
 mod command;
 mod http_lines;
 mod line_fault;

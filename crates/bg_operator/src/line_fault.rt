@@ -6,7 +6,8 @@ use std::alloc::{AllocError, AllocFailed};
 use thiserror::Error;
 
 /// Why a line of a script gives no command. If several of these apply, it is the first in this
-/// order. Between `BadWord` and `BadNumber`, the first wrong word from the left decides.
+/// order. Between `BadWord` and `BadNumber`, the first wrong word from the left decides. After
+/// `before`, a missing word and then the time limit are judged first, and then LINE by itself.
 #[derive(Clone, Copy, PartialEq, Eq, Debug, Drop, Error)]
 pub enum LineFault {
     /// It has more than 4,096 bytes.
@@ -24,7 +25,7 @@ pub enum LineFault {
     /// Too few or too many words follow its first word.
     #[error("the line has too few or too many words")]
     WrongCount,
-    /// A word is not one of those that its place allows.
+    /// A word is not one of those that its place allows, or the line after a time limit gives no event.
     #[error("a word of the line is none that its place allows")]
     BadWord,
     /// A word in the place of a number is not 1 to 20 digits, or its value is too large for that

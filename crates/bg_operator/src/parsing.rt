@@ -3,10 +3,11 @@ ghost use Rattle.std.specs.Prelude.{◌≡◌, [], ◌∷◌, true, map, None, M
 ghost use Rattle.std.specs.List.{list_all};
 ghost use Rattle.std.specs.Str.Parse.{digits_value};
 ghost use Rattle.bg_operator.specs.Words.{is_number, words_ahead};
-ghost use Rattle.bg_operator.specs.Commands.{available_row, deploy_row, down_row, enter_row, is_printable, IsReadAs, leave_row, line_reading, open_row, promote_row, row_reading, single_word, template_shape, text_fault, tick_row, verdict_row, words_reading};
+ghost use Rattle.bg_operator.specs.Commands.{available_row, deploy_row, down_row, enter_row, is_printable, IsReadAs, leave_row, line_reading, open_row, promote_row, row_reading, single_word, table_reading, template_shape, text_fault, tick_row, verdict_row, words_reading};
 ghost use Rattle.bg_operator.specs.Shapes.{shape_fault};
 ghost use Rattle.bg_operator.specs.declared.line_fault.LineFault.TheVariants as line_fault;
 
+use crate::before::before;
 use crate::command::Command;
 use crate::line_fault::LineFault;
 use crate::lines::LONGEST_LINE;
@@ -26,12 +27,16 @@ use std::alloc::Global;
 /// - `enter SEAT active` or `enter SEAT preview`, and `leave SEAT`
 /// - `down PORT..`, with any number of ports
 /// - `report`, `compact` and `quit`
+/// - `before MILLISECONDS LINE`, where LINE is a line that gives an event: `available`, `deploy`, `verdict`,
+///   `promote`, `promote full`, `tick`, `abort` or `retry`
 ///
 /// A number is 1 to 20 digits. Its value is below 2^16 for a port, 2^32 for a seat and a size, and
-/// 2^64 for a moment and a revision. A name may be any word here; the book checks it.
+/// 2^64 for a moment, a revision and a time limit. A name may be any word here; the book checks it.
 ///
-/// For any other line the error is its first fault, in the order of [`LineFault`]. `OutOfMemory`
-/// comes only for an `open`, a `deploy` or a `down` without another fault.
+/// For any other line the error is its first fault, in the order of [`LineFault`]. In a line `before`, a faulty
+/// time limit comes before the faults of LINE, and a LINE without a fault that gives no event is a `BadWord`.
+/// `OutOfMemory` comes only for an `open`, a `deploy` or a `down`, and a `before` with a `deploy`, without another
+/// fault.
 pub fn parse_line(alloc: Global, line: &[u8]) -> Result<Command, LineFault>
     ensures { IsReadAs (line_reading line.now) result }
 {
@@ -43,6 +48,20 @@ pub fn parse_line(alloc: Global, line: &[u8]) -> Result<Command, LineFault>
 /// The command of a line's first word and the words after it.
 fn command(alloc: Global, first: &str, words: Words) -> Result<Command, LineFault>
     ensures { IsReadAs (words_reading (first.now ∷ words_ahead words.entry)) result }
+{
+    match first {
+        "before" => before(alloc, words),
+        _ => command_in_table(alloc, first, words),
+    }
+}
+
+/// The command of a line's first word and the words after it, by the table of lines.
+pub(crate) fn command_in_table(
+    alloc: Global,
+    first: &str,
+    words: Words,
+) -> Result<Command, LineFault>
+    ensures { IsReadAs (table_reading first.now (words_ahead words.entry)) result }
 {
     match first {
         "open" => open(alloc, words),
@@ -103,7 +122,7 @@ fn deploy(alloc: Global, words: Words) -> Result<Command, LineFault>
 }
 
 /// The name of a revision and the words after it, which are one or more ports.
-fn template(mut words: Words<'_>) -> Result<(&str, Words<'_>), LineFault>
+pub(crate) fn template(mut words: Words<'_>) -> Result<(&str, Words<'_>), LineFault>
     ensures { MatchResult result
         (λ t. (shape_fault template_shape (words_ahead words.entry) ≡ None)
         × (words_ahead words.entry ≡ t.0.now ∷ words_ahead t.1)
@@ -120,7 +139,7 @@ fn template(mut words: Words<'_>) -> Result<(&str, Words<'_>), LineFault>
     Ok((name, words))
 }
 
-fn are_ports(mut words: Words) -> bool
+pub(crate) fn are_ports(mut words: Words) -> bool
     ensures { result ≡ list_all (is_number 16) (words_ahead words.entry) }
 {
     words.all(|word| short_number(word).is_ok())

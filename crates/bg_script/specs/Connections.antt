@@ -1,5 +1,5 @@
 -- The answers to the lines of a control connection.
-use Rattle.std.specs.Prelude.{ℕ, Bool, List, Option}
+use Rattle.std.specs.Prelude.{ℕ, Bool, List, Option, ⊤}
 use Rattle.bg_script.specs.declared.answering.LinesEnd.{LinesEnd}
 use Rattle.bg_script.specs.declared.answering.LinesEnd.TheVariants as lines_end
 use Rattle.bg_script.specs.declared.control_connection.ControlEnd.{ControlEnd}
@@ -18,7 +18,16 @@ end_at_desk control_end.Quit = lines_end.Quit
 end_at_desk control_end.SpeaksHttp = lines_end.SpeaksHttp
 end_at_desk control_end.End = lines_end.End
 
--- from first to last the lines of xs were answered by the book of a desk, up to this end; ys are unread
-abbrev pub AnswersAtDesk : ControlEnd → Option (List ℕ) → Option (List ℕ) → List ℕ → List ℕ → Type 0
-AnswersAtDesk end first last xs ys = (faulted : Bool)
-    × AnswersLines ConnectionOpen (end_at_desk end) faulted first last ConnectionOpen xs ys
+-- the lines at a desk may end so: not in an `open`, since a book is open
+abbrev pub MayEndAtDesk : LinesEnd → Type 0
+MayEndAtDesk (lines_end.Open revision) = ⊥
+MayEndAtDesk lines_end.Quit = ⊤
+MayEndAtDesk lines_end.SpeaksHttp = ⊤
+MayEndAtDesk lines_end.End = ⊤
+
+-- from first to last the lines of xs were answered by the book of a desk, with a boot clock that may read so, up to this
+-- end; ys are unread
+abbrev pub AnswersAtDesk : (ℕ → Bool) → ControlEnd → Option (List ℕ) → Option (List ℕ) → List ℕ
+    → List ℕ → Type 0
+AnswersAtDesk reads end first last xs ys = (faulted : Bool)
+    × AnswersLines (ConnectionOpen reads) (end_at_desk end) faulted first last (ConnectionOpen reads) xs ys

@@ -1,6 +1,7 @@
 pub mod Findings
 pub mod Checks
 pub mod AnswerTexts
+pub mod Clocks
 pub mod LineSteps
 pub mod LineAnswers
 pub mod Stages

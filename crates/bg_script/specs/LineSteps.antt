@@ -22,35 +22,37 @@ use Rattle.bg_report.specs.Reports.{report_text}
 use Rattle.bg_script.specs.declared.answer.Answer.{Answer}
 use Rattle.bg_script.specs.declared.answer.Answer.TheVariants as answer
 use Rattle.bg_script.specs.AnswerTexts.{answer_text, is_fault}
+use Rattle.bg_script.specs.Clocks.{ReadsInTime}
 
 -- Where a line is answered: in a script while no book is open, and one may be opened with this strategy and this many
 -- seats; in a script, by this book with these seats; at a control connection while no book is open; or at a control
--- connection, by the book of a desk, which workers share.
+-- connection, by the book of a desk, which workers share, with a boot clock that may read so.
 pub data Stage : Type 0 where
   Closed : (strategy : Strategy) (seats : ℕ) → Stage
   Running : (book : Routing) (seats : List Holding) → Stage
   ConnectionClosed : Stage
-  ConnectionOpen : Stage
+  ConnectionOpen : (reads : ℕ → Bool) → Stage
 
 -- whether a book is open
 abbrev pub is_open : Stage → Bool
 is_open (Closed strategy seats) = false
 is_open (Running book seats) = true
 is_open ConnectionClosed = false
-is_open ConnectionOpen = true
+is_open (ConnectionOpen reads) = true
 
 -- whether lines are answered at a control connection
 abbrev pub is_connection : Stage → Bool
 is_connection (Closed strategy seats) = false
 is_connection (Running book seats) = false
 is_connection ConnectionClosed = true
-is_connection ConnectionOpen = true
+is_connection (ConnectionOpen reads) = true
 
--- how a line may change the stage: it doesn't change whether there is a control connection, and a stage without an open
--- book stays until the caller opens one
+-- how a line may change the stage: it doesn't change whether there is a control connection, a stage without an open
+-- book stays until the caller opens one, and the stage of a control connection stays
 pub record MayFollow (old new : Stage) : Type 0 where
   pub connection : is_connection new ≡ is_connection old
   pub closed : is_open old ≡ false → new ≡ old
+  pub stays : is_connection old ≡ true → new ≡ old
 
 -- what is written for a line: an answer, or the report of a book
 pub data Written : Type 0 where
@@ -86,7 +88,8 @@ OpenStep (Closed s count) name ports written next = ScriptOpens s count name por
 OpenStep (Running book seats) name ports written next =
     Stays (Running book seats) answer.AlreadyOpen written next
 OpenStep ConnectionClosed name ports written next = ⊥
-OpenStep ConnectionOpen name ports written next = Stays ConnectionOpen answer.AlreadyOpen written next
+OpenStep (ConnectionOpen reads) name ports written next =
+    Stays (ConnectionOpen reads) answer.AlreadyOpen written next
 
 -- the answer to a call, by the rules of the book
 abbrev pub CallMade : Routing → List Holding → Call → Written → Stage → Type 0
@@ -101,7 +104,8 @@ RequestStep (Closed s count) request written next =
 RequestStep (Running book seats) request written next = CallMade book seats request written next
 RequestStep ConnectionClosed request written next =
     Stays ConnectionClosed answer.NotHere written next
-RequestStep ConnectionOpen request written next = Stays ConnectionOpen answer.NotHere written next
+RequestStep (ConnectionOpen reads) request written next =
+    Stays (ConnectionOpen reads) answer.NotHere written next
 
 -- The answer to a line that asks for an open book: the first relation is that of a script's book, the second that of a
 -- desk, whose stage does not tell its book.
@@ -112,7 +116,8 @@ ByBook in_script at_desk (Closed s count) written next =
 ByBook in_script at_desk (Running book seats) written next = in_script book seats written next
 ByBook in_script at_desk ConnectionClosed written next =
     Stays ConnectionClosed answer.NotOpen written next
-ByBook in_script at_desk ConnectionOpen written next = at_desk written × (next ≡ ConnectionOpen)
+ByBook in_script at_desk (ConnectionOpen reads) written next =
+    at_desk written × (next ≡ ConnectionOpen reads)
 
 -- the reply of a desk to an event: that of some book, after a compaction if its history is full
 abbrev pub EventReply : Control → Reply → Type 0
@@ -123,6 +128,26 @@ EventReply event reply =
 abbrev pub DeskReplies : Control → Written → Type 0
 DeskReplies event (Said (answer.Made reply)) = EventReply event reply
 DeskReplies event _ = ⊥
+
+-- the answer of a desk to an event with a time limit: the clock is not below it, and it is too late; or the clock is below
+-- it, and this is the reply to the event
+abbrev pub DeskRepliesBefore : (ℕ → Bool) → ℕ → Control → Written → Type 0
+DeskRepliesBefore reads milliseconds event (Said answer.TooLate) =
+    ReadsInTime reads milliseconds false
+DeskRepliesBefore reads milliseconds event (Said (answer.Made reply)) =
+    ReadsInTime reads milliseconds true × EventReply event reply
+DeskRepliesBefore reads milliseconds event _ = ⊥
+
+-- the answer to an event with a time limit; a script has no clock
+abbrev pub BeforeStep : ℕ → Control → Stage → Written → Stage → Type 0
+BeforeStep milliseconds event (Closed s count) written next =
+    Stays (Closed s count) answer.NotOpen written next
+BeforeStep milliseconds event (Running book seats) written next =
+    Stays (Running book seats) answer.NotHere written next
+BeforeStep milliseconds event ConnectionClosed written next =
+    Stays ConnectionClosed answer.NotOpen written next
+BeforeStep milliseconds event (ConnectionOpen reads) written next =
+    DeskRepliesBefore reads milliseconds event written × (next ≡ ConnectionOpen reads)
 
 -- whether these ports can be down: at most 4,096, all distinct and none of them 0
 abbrev pub may_be_down : List ℕ → Bool
@@ -175,6 +200,8 @@ ReadStep stage (Err fault) written next = Stays stage (answer.Unread fault) writ
 ReadStep stage (Ok (command.Open name ports)) written next = OpenStep stage name ports written next
 ReadStep stage (Ok (command.Control event)) written next =
     ByBook (λ book seats. CallMade book seats (call.Control event)) (DeskReplies event) stage written next
+ReadStep stage (Ok (command.Before milliseconds event)) written next =
+    BeforeStep milliseconds event stage written next
 ReadStep stage (Ok (command.Enter seat service)) written next =
     RequestStep stage (call.Enter seat service) written next
 ReadStep stage (Ok (command.Leave seat)) written next =

@@ -27,8 +27,10 @@ pub enum Answer {
     MarkedDown(u64),
     /// The line `down` names a port twice, or the port 0.
     BadPorts,
-    /// Requests enter and leave elsewhere, by the workers. A replay has no endpoints that could be down.
+    /// Requests enter and leave elsewhere, by the workers. A replay has no endpoints that could be down, and no clock.
     NotHere,
+    /// The boot clock is not below the time limit of the line.
+    TooLate,
     /// The allocation for the report, or for the ports that are down, failed.
     OutOfMemory,
     /// The line gives no command.
@@ -59,6 +61,7 @@ pub fn write_answer<W: Write>(answer: &Answer, writer: &mut W) -> io::Result<()>
         Answer::MarkedDown(count) => writeln!(writer, "ok {count}"),
         Answer::BadPorts => writeln!(writer, "refused BadPorts"),
         Answer::NotHere => writeln!(writer, "refused NotHere"),
+        Answer::TooLate => writeln!(writer, "refused TooLate"),
         Answer::OutOfMemory => writeln!(writer, "refused OutOfMemory"),
         Answer::Unread(fault) => writeln!(writer, "fault {}", fault.name()),
     }

@@ -84,6 +84,12 @@ pub(crate) fn step<S: LineStage>(stage: &mut S, read: Result<Command, LineFault>
             }
         }
         Ok(Command::Control(event)) => LineResult::Said(stage.event(event)),
+        Ok(
+            Command::Before {
+                milliseconds,
+                event,
+            },
+        ) => LineResult::Said(stage.before(milliseconds, event)),
         Ok(Command::Enter { seat, service }) => {
             LineResult::Said(stage.request(&Call::Enter { seat, service }))
         }

@@ -4,11 +4,10 @@
 //! workers, not by lines. Each answer is flushed before the next line is read.
 ghost use Rattle.std.specs.Prelude.{◌≡◌, IfOk};
 ghost use Rattle.bg_operator.specs.Reading.{Known};
-ghost use Rattle.bg_script.specs.Connections.{AnswersAtDesk, AnswersBeforeOpen, end_at_desk};
-ghost use Rattle.bg_script.specs.LineAnswers.{MayEnd};
-ghost use Rattle.bg_script.specs.LineSteps.{ConnectionOpen};
+ghost use Rattle.bg_script.specs.Connections.{AnswersAtDesk, AnswersBeforeOpen, MayEndAtDesk, end_at_desk};
 
 use crate::answering::{LinesEnd, answer_lines};
+use crate::boot_clock::BootClock;
 use crate::marks_down::MarksDown;
 use crate::run_end::RunEnd;
 use crate::stages::{AtDesk, WithoutBook};
@@ -54,7 +53,9 @@ pub fn answer_before_open<B: BufRead, W: Write>(
 /// the end of the connection.
 ///
 /// If a line gives no command and is a request line or a field line of HTTP, the answer is its fault, and no
-/// line after it is read. The answer to an event is that of [`bg_book::Desk::control_with_compaction`]. The answer to
+/// line after it is read. The answer to an event is that of [`bg_book::Desk::control_with_compaction`]. The answer to a
+/// `before` is `refused TooLate` if the clock, which is read under the desk's lock, is not below its time limit; then
+/// nothing is recorded. Else it is the answer to its event, which is given under the same lock. The answer to
 /// `report` is the report, or `refused OutOfMemory` if the allocation for it fails. The answer to `compact` is the
 /// number of entries that were dropped, to `open` `refused AlreadyOpen`, to `enter` and `leave` `refused NotHere`, and
 /// to a line that gives no command its fault. The ports of a `down` go to the receiver, and the answer is their number;
@@ -63,14 +64,14 @@ pub fn answer_before_open<B: BufRead, W: Write>(
 /// is locked. A `RunEnd` comes if a read, a write or the allocation for a line fails, and after 2^24 lines.
 ///
 /// Each event whose answer is `refused HistoryFull` adds 1 to `refused_for_room` of the desk.
-pub fn answer_at_desk<N: Names, R: Wait, M: MarksDown, B: BufRead, W: Write>(
-    mut at_desk: AtDesk<N, R, M>,
+pub fn answer_at_desk<N: Names, R: Wait, C: BootClock, M: MarksDown, B: BufRead, W: Write>(
+    mut at_desk: AtDesk<N, R, C, M>,
     lines: &mut OperatorLines,
     reader: &mut B,
     writer: &mut W,
 ) -> Result<ControlEnd, RunEnd>
     ensures { IfOk result (λ end. Known (B.remaining reader.old) (B.remaining reader.new)
-        (AnswersAtDesk end (W.contents writer.old) (W.contents writer.new))) }
+        (AnswersAtDesk (C.reads at_desk.entry.clock.now) end (W.contents writer.old) (W.contents writer.new))) }
 {
     let answered = answer_lines(&mut at_desk, lines, reader, writer)?;
     Ok(control_end(answered.end))
@@ -78,7 +79,7 @@ pub fn answer_at_desk<N: Names, R: Wait, M: MarksDown, B: BufRead, W: Write>(
 
 /// The end of the lines at a desk, where no book can be opened.
 fn control_end(end: LinesEnd) -> ControlEnd
-    requires { MayEnd end ConnectionOpen }
+    requires { MayEndAtDesk end }
     ensures { end_at_desk result ≡ end }
 {
     match end {

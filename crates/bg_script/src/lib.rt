@@ -4,11 +4,12 @@
 //! strategy. Both write exact texts and return the exit status. A [`RunEnd`] says why a run ended
 //! early. [`answer_before_open`] and [`answer_at_desk`] answer the lines of a control connection
 //! while no book is open, and by a book that workers share. A [`MarksDown`] takes the ports of a line
-//! `down`.
+//! `down`, and a [`BootClock`] says whether a line `before` comes in time.
 #![tactic(auto)]
 
 mod answer;
 mod answering;
+mod boot_clock;
 mod checking;
 mod control_connection;
 mod finding;
@@ -19,6 +20,7 @@ mod stages;
 
 pub use answer::{Answer, write_answer};
 pub use answering::{FirstRevision, LinesEnd};
+pub use boot_clock::BootClock;
 pub use checking::{check, finding_of_input};
 pub use control_connection::{ControlEnd, answer_at_desk, answer_before_open};
 pub use finding::{Finding, write_finding};

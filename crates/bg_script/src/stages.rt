@@ -6,6 +6,7 @@ ghost use Rattle.bg_script.specs.LineSteps.{ConnectionOpen, EventReply, MayFollo
 ghost use Rattle.bg_script.specs.Stages.{closed_stage};
 
 use crate::answer::{Answer, write_answer};
+use crate::boot_clock::{BootClock, answer_before};
 use crate::marks_down::{MarksDown, mark_down};
 use crate::run_end::RunEnd;
 use bg_book::{Book, Call, Control, ControlFault, Desk, OpenBook, Question, Reply};
@@ -33,6 +34,12 @@ pub(crate) trait LineStage {
     /// Gives an event to the book.
     fn event(&mut self, event: Control) -> Answer
         ensures answer { ReadStep (stage self.old) (Ok (command.Control event)) (Said result)
+            (stage self.new) }
+        ensures next { MayFollow (stage self.old) (stage self.new) };
+
+    /// Gives an event to the book, if the boot clock is below this time limit.
+    fn before(&mut self, milliseconds: u64, event: Control) -> Answer
+        ensures answer { ReadStep (stage self.old) (Ok (command.Before milliseconds event)) (Said result)
             (stage self.new) }
         ensures next { MayFollow (stage self.old) (stage self.new) };
 
@@ -96,6 +103,10 @@ impl LineStage for WithoutBook<'_> {
         Answer::NotOpen
     }
 
+    fn before(&mut self, _milliseconds: u64, _event: Control) -> Answer {
+        Answer::NotOpen
+    }
+
     fn request(&mut self, _request: &Call) -> Answer {
         match self {
             WithoutBook::Script(_) => Answer::NotOpen,
@@ -132,6 +143,10 @@ impl<N: Names> LineStage for OpenBook<N> {
         Answer::Made(self.call(&Call::Control(event)))
     }
 
+    fn before(&mut self, _milliseconds: u64, _event: Control) -> Answer {
+        Answer::NotHere
+    }
+
     fn request(&mut self, request: &Call) -> Answer {
         Answer::Made(self.call(request))
     }
@@ -151,20 +166,22 @@ impl<N: Names> LineStage for OpenBook<N> {
 
 /// A desk, which answers the lines of control connections.
 #[derive(Drop)]
-pub struct AtDesk<'a, N: Names, R: Wait, M: MarksDown> {
+pub struct AtDesk<'a, N: Names, R: Wait, C: BootClock, M: MarksDown> {
     /// The handle that waits for the desk's lock.
     pub rt: &'a R,
     /// The allocator of the report.
     pub alloc: Global,
     pub desk: &'a Desk<N>,
+    /// The clock for the time limits of lines.
+    pub clock: &'a C,
     /// The number of events that were refused with `HistoryFull`.
     pub refused_for_room: &'a AtomicU64,
     /// What takes the ports of a line `down`.
     pub receiver: &'a M,
 }
 
-impl<N: Names, R: Wait, M: MarksDown> LineStage for AtDesk<'_, N, R, M> {
-    ghost stage = { λ _. ConnectionOpen };
+impl<N: Names, R: Wait, C: BootClock, M: MarksDown> LineStage for AtDesk<'_, N, R, C, M> {
+    ghost stage = { λ at_desk. ConnectionOpen (C.reads at_desk.clock.now) };
 
     fn is_open(&self) -> bool {
         true
@@ -175,11 +192,15 @@ impl<N: Names, R: Wait, M: MarksDown> LineStage for AtDesk<'_, N, R, M> {
     }
 
     fn event(&mut self, event: Control) -> Answer {
-        let reply = event_reply(self.rt, self.desk, &event);
-        if let Reply::ControlRefused(ControlFault::HistoryFull) = reply {
-            self.refused_for_room.fetch_add(1, Ordering::SeqCst);
-        }
-        Answer::Made(reply)
+        let answer = Answer::Made(event_reply(self.rt, self.desk, &event));
+        count_if_full(&answer, self.refused_for_room);
+        answer
+    }
+
+    fn before(&mut self, milliseconds: u64, event: Control) -> Answer {
+        let answer = answer_before(self.rt, self.desk, self.clock, milliseconds, &event);
+        count_if_full(&answer, self.refused_for_room);
+        answer
     }
 
     fn request(&mut self, _request: &Call) -> Answer {
@@ -199,6 +220,13 @@ impl<N: Names, R: Wait, M: MarksDown> LineStage for AtDesk<'_, N, R, M> {
             Some(text) => Ok(writer.write_all(&text)?),
             None => Ok(write_answer(&Answer::OutOfMemory, writer)?),
         }
+    }
+}
+
+/// Adds 1 to the count, if the answer is that the history is full.
+fn count_if_full(answer: &Answer, refused_for_room: &AtomicU64) {
+    if let Answer::Made(Reply::ControlRefused(ControlFault::HistoryFull)) = answer {
+        refused_for_room.fetch_add(1, Ordering::SeqCst);
     }
 }
 

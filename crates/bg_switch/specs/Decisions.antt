@@ -1,7 +1,7 @@
 -- Which lines of operators make a decision.
 use Rattle.std.specs.Prelude.{Bool, true, false, Result, Ok}
 use Rattle.bg_operator.specs.declared.command.Command.{Command}
-use Rattle.bg_operator.specs.declared.command.Command.TheVariants.{Control, Open, Quit}
+use Rattle.bg_operator.specs.declared.command.Command.TheVariants.{Before, Control, Open, Quit}
 use Rattle.bg_operator.specs.declared.line_fault.LineFault.{LineFault}
 use Rattle.bg_history.specs.declared.control.Control.{Control as Event}
 use Rattle.bg_history.specs.declared.control.Control.TheVariants.{Available, Tick}
@@ -15,6 +15,7 @@ is_decision _ = true
 -- whether a line opens the book, changes the rollout by a decision, or ends the program
 abbrev pub makes_decision : Result Command LineFault → Bool
 makes_decision (Ok (Control event)) = is_decision event
+makes_decision (Ok (Before milliseconds event)) = is_decision event
 makes_decision (Ok (Open name ports)) = true
 makes_decision (Ok Quit) = true
 makes_decision _ = false

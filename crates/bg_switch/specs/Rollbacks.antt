@@ -3,7 +3,7 @@ use Rattle.std.specs.Prelude.{Bool, true, false, Result, Ok}
 use Rattle.bg_history.specs.declared.entry.AnalysisResult.{AnalysisResult}
 use Rattle.bg_history.specs.declared.entry.AnalysisResult.TheVariants.{Successful, Failed, Error}
 use Rattle.bg_operator.specs.declared.command.Command.{Command}
-use Rattle.bg_operator.specs.declared.command.Command.TheVariants.{Control}
+use Rattle.bg_operator.specs.declared.command.Command.TheVariants.{Before, Control}
 use Rattle.bg_operator.specs.declared.line_fault.LineFault.{LineFault}
 use Rattle.bg_history.specs.declared.control.Control.{Control as Event}
 use Rattle.bg_history.specs.declared.control.Control.TheVariants.{Abort, Verdict}
@@ -22,4 +22,5 @@ is_rollback _ = false
 -- whether a line ends an attempt, so that services select the stable revision
 abbrev pub ends_attempt : Result Command LineFault → Bool
 ends_attempt (Ok (Control event)) = is_rollback event
+ends_attempt (Ok (Before milliseconds event)) = is_rollback event
 ends_attempt _ = false

@@ -4,6 +4,7 @@
 mod book_opener;
 mod buffered_output;
 mod context;
+mod kernel_clock;
 mod operator_users;
 mod operators;
 mod revision_ports;

@@ -4,6 +4,7 @@ ghost use Rattle.bg_switch.specs.Decisions.{is_decision, makes_decision};
 ghost use Rattle.bg_switch.specs.Rollbacks.{ends_attempt, is_rollback, is_unsuccessful};
 
 use crate::context::ServeContext;
+use crate::kernel_clock::KernelClock;
 use crate::revision_ports::{DownPorts, update_directory};
 use bg_book::{Control, Desk};
 use bg_control_port::{AfterReply, Asker, ControlPort, LinePriority, Reply};
@@ -83,10 +84,12 @@ impl<'c, R: Clock + Wait> Operator<'c, R> {
     ) -> Result<ControlEnd, RunEnd> {
         self.next(control);
         let mut line = self.line.as_slice();
+        let clock = KernelClock;
         let at_desk = AtDesk {
             rt: self.rt,
             alloc,
             desk,
+            clock: &clock,
             refused_for_room: self.notices.refused_lines(),
             receiver: down,
         };
@@ -151,13 +154,13 @@ impl<'c, R: Clock + Wait> Operator<'c, R> {
     }
 }
 
-/// Whether a line opens the book, changes the rollout by a decision, or ends the program.
+/// Whether a line opens the book, changes the rollout by a decision, also with `before` in front, or ends the program.
 fn makes_decision(read: &Result<Command, LineFault>) -> bool
     ensures { result ≡ makes_decision read.now }
 {
     match read {
         Ok(command) => match command {
-            Command::Control(event) => is_decision(event),
+            Command::Control(event) | Command::Before { event, .. } => is_decision(event),
             Command::Open { .. } | Command::Quit => true,
             _ => false,
         },
@@ -173,7 +176,7 @@ fn is_decision(event: &Control) -> bool
 }
 
 /// The lines that go before all others: those that end an attempt, by which services select the stable
-/// revision again.
+/// revision again. They also do with `before` in front.
 #[derive(Drop)]
 struct RollbacksFirst {
     alloc: Global,
@@ -188,13 +191,13 @@ impl LinePriority for RollbacksFirst {
     }
 }
 
-/// Whether a line is an `abort`, or a failed or erroneous verdict.
+/// Whether a line is an `abort`, or a failed or erroneous verdict, also with `before` in front.
 fn ends_attempt(read: &Result<Command, LineFault>) -> bool
     ensures { result ≡ ends_attempt read.now }
 {
     match read {
         Ok(command) => match command {
-            Command::Control(event) => is_rollback(event),
+            Command::Control(event) | Command::Before { event, .. } => is_rollback(event),
             _ => false,
         },
         Err(_) => false,

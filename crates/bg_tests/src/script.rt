@@ -1,6 +1,7 @@
 //! Lines, commands, texts, and whole runs of `check` and `replay`: over memory, and over readers
 //! and writers that are slow or fail.
 
+mod before;
 mod control;
 mod input_lines;
 mod large_inputs;

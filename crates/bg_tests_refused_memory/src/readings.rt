@@ -12,10 +12,17 @@ use std::io;
 const STRATEGY: &str =
     "{\"spec\": {\"replicas\": 2, \"strategy\": {\"blueGreen\": {\"activeService\": \"web\"}}}}";
 
+const DEPLOY: &[u8] = b"deploy v2 9101 9102";
+
+/// The same, with a time limit.
+const DEPLOY_IN_TIME: &[u8] = b"before 5000 deploy v2 9101 9102";
+
 pub fn make_calls<R: AllocGlobal + Print + Eprint>(rt: &R) -> Result<(), Stop> {
     let order = make_order(rt)?;
     println!(rt; "{order:?}")?;
-    let command = make_command(rt)?;
+    let command = make_command(rt, "parse_line", DEPLOY)?;
+    println!(rt; "{command:?}")?;
+    let command = make_command(rt, "parse_line before", DEPLOY_IN_TIME)?;
     println!(rt; "{command:?}")?;
     let settings = make_settings(rt)?;
     show(rt, &settings)
@@ -33,16 +40,20 @@ fn new_order<'a>(alloc: Global) -> Result<Invocation<'a>, Stop> {
     Ok(parse_command_line(alloc, &["bg_switch", "replay", "--seats", "2"])?)
 }
 
-fn make_command<R: AllocGlobal + Print + Eprint>(rt: &R) -> Result<Command, Stop> {
+fn make_command<R: AllocGlobal + Print + Eprint>(
+    rt: &R,
+    name: &str,
+    line: &[u8],
+) -> Result<Command, Stop> {
     let alloc = rt.alloc();
-    match made(rt, "parse_line", new_command(alloc))? {
+    match made(rt, name, new_command(alloc, line))? {
         Some(command) => Ok(command),
-        None => made_again(rt, "parse_line", new_command(alloc)),
+        None => made_again(rt, name, new_command(alloc, line)),
     }
 }
 
-fn new_command(alloc: Global) -> Result<Command, Stop> {
-    Ok(parse_line(alloc, b"deploy v2 9101 9102")?)
+fn new_command(alloc: Global, line: &[u8]) -> Result<Command, Stop> {
+    Ok(parse_line(alloc, line)?)
 }
 
 fn make_settings<R: AllocGlobal + Print + Eprint>(rt: &R) -> Result<Page, Stop> {

@@ -1,5 +1,5 @@
 //! The lines of a control connection, over memory.
-ghost use Rattle.std.specs.Prelude.{◌≡◌};
+ghost use Rattle.std.specs.Prelude.{◌≡◌, true};
 ghost use Rattle.bg_ledger.specs.Blanks.{AreAllFor};
 
 use crate::book::samples::strategy;
@@ -9,7 +9,7 @@ use bg_book::{Book, Desk, Limits, RolloutOpening};
 use bg_ledger::{Blanks, Names};
 use bg_operator::OperatorLines;
 use bg_script::{
-    AtDesk, ControlEnd, LinesEnd, MarksDown, RunEnd, answer_at_desk, answer_before_open,
+    AtDesk, BootClock, ControlEnd, LinesEnd, MarksDown, RunEnd, answer_at_desk, answer_before_open,
 };
 use std::alloc::{AllocError, Global};
 use std::cell::RefCell;
@@ -20,10 +20,10 @@ use std::sync::atomic::{AtomicU64, Ordering};
 use std::test::Fail;
 
 const BEFORE: &str =
-    "tick 1\nenter 0 active\nleave 0\njump\nreport\ndown 9001\ndown\nopen\nopen v1 9001 9002\ntick 2\n";
+    "tick 1\nenter 0 active\nleave 0\njump\nreport\ndown 9001\ndown\nbefore 9 tick 1\nbefore 9 report\nopen\nopen v1 9001 9002\ntick 2\n";
 
 const BEFORE_ANSWERS: &str =
-    "refused NotOpen\nrefused NotHere\nrefused NotHere\nfault UnknownWord\nrefused NotOpen\nrefused NotOpen\nrefused NotOpen\nfault WrongCount\n";
+    "refused NotOpen\nrefused NotHere\nrefused NotHere\nfault UnknownWord\nrefused NotOpen\nrefused NotOpen\nrefused NotOpen\nrefused NotOpen\nfault BadWord\nfault WrongCount\n";
 
 const AT_DESK: &str =
     "open v1 9001 9002\nenter 0 active\nleave 0\navailable 1 2\ntick 3\ntick 2\ntick\nreport\r\nquit now\nquit\nreport\n";
@@ -76,14 +76,15 @@ fn leaves_an_open_to_the_caller(rt: HostRuntime) -> Result<(), Fail> {
 }
 
 /// How the lines ended, the answers to them, how many were refused because the history is full, the ports of each
-/// line `down`, and the number of entries of the history.
+/// line `down`, how often the clock was read, and the number of entries of the history.
 #[derive(Drop)]
-struct Answered {
-    end: Result<ControlEnd, RunEnd>,
-    answers: Vec<u8>,
-    refused_for_room: u64,
-    down: Vec<u8>,
-    entries: u64,
+pub(super) struct Answered {
+    pub(super) end: Result<ControlEnd, RunEnd>,
+    pub(super) answers: Vec<u8>,
+    pub(super) refused_for_room: u64,
+    pub(super) down: Vec<u8>,
+    pub(super) readings: u64,
+    pub(super) entries: u64,
 }
 
 /// Writes the ports of each call, in a line of its own. A call with the port 7 fails.
@@ -101,6 +102,20 @@ impl MarksDown for Written {
             return Err(AllocError);
         }
         writeln!(text, "{ports:?}").map_err(|_| AllocError)
+    }
+}
+
+/// A clock that reads 0, then 1, and so on.
+#[derive(Drop)]
+struct CountingClock {
+    readings: AtomicU64,
+}
+
+impl BootClock for CountingClock {
+    ghost reads = { λ _ _. true };
+
+    fn milliseconds(&self) -> u64 {
+        self.readings.fetch_add(1, Ordering::SeqCst)
     }
 }
 
@@ -130,10 +145,14 @@ fn answer<N: Names, R: Wait>(
     let written = Written {
         text: RefCell::new(Vec::new(alloc)),
     };
+    let clock = CountingClock {
+        readings: AtomicU64::new(0),
+    };
     let at_desk = AtDesk {
         rt,
         alloc,
         desk: &desk,
+        clock: &clock,
         refused_for_room: &refused,
         receiver: &written,
     };
@@ -145,15 +164,20 @@ fn answer<N: Names, R: Wait>(
         answers,
         refused_for_room: refused.load(Ordering::SeqCst),
         down: written.text.into_inner(),
+        readings: clock.readings.load(Ordering::SeqCst),
         entries: history.len(),
     })
 }
 
-fn answer_lines<R: Wait>(rt: &R, alloc: Global, lines: &mut &[u8]) -> Result<Answered, Fail> {
+pub(super) fn answer_lines<R: Wait>(
+    rt: &R,
+    alloc: Global,
+    lines: &mut &[u8],
+) -> Result<Answered, Fail> {
     answer_within(rt, alloc, Limits::usual(), lines)
 }
 
-fn answer_within<R: Wait>(
+pub(super) fn answer_within<R: Wait>(
     rt: &R,
     alloc: Global,
     limits: Limits,
