@@ -100,6 +100,12 @@ PLANTED = (
         "ordered[seen_id]",
     ),
     Check("old-reads", f"{bounded(ONE, ABORTS=1)} OLD_READS", "rule 2", "late[att[i]]"),
+    Check(
+        "line-without-time-limit",
+        f"{bounded(ONE, ABORTS=1)} NO_TIME_LIMIT",
+        "rule 2",
+        "late[att[i]]",
+    ),
     Check("lagging-reads", f"{bounded(ONE, ABORTS=1)} LAGGING_READS", "rule 2", "late[att[i]]"),
     Check(
         "nothing-compared",

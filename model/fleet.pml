@@ -128,6 +128,7 @@ byte vid[NM], vstage[NM], vstable[NM];           /* the record as the agent read
 bit known[NM];                                   /* whether it has read one since its start; vid.. are then of the state file */
 bit old[NM];                                     /* whether that read is older than a second, where it says promoting */
 bit conn[NM];                                    /* whether it has etcd */
+bit line[NM];                                    /* whether a `promote` is on its way: its agent or the switch may be stopped */
 #ifdef EDGES
 bit changed[NM];
 #endif
@@ -146,6 +147,12 @@ bit changed[NM];
 #define IS_FRESH(i) true
 #else
 #define IS_FRESH(i) (!old[i])
+#endif
+/* A second passes: the time limit of a line that rests on a read of before is over, so the switch refuses it. */
+#ifdef NO_TIME_LIMIT
+#define LINE_IS_LATE(i) skip
+#else
+#define LINE_IS_LATE(i) line[i] = 0
 #endif
 #ifdef NO_ID
 #define OF_ATTEMPT(i) true
@@ -202,7 +209,7 @@ proctype Machine(byte i) {
 #endif
     /* the agent takes the fleet's stable revision over: it deploys it and promotes it, or sends the verdict held back */
 #ifndef NO_CATCH_UP
-    :: atomic { known[i] && stab[i] != VSTABLE(i) ->
+    :: atomic { known[i] && !line[i] && stab[i] != VSTABLE(i) ->
         RULE_1(VSTABLE(i) == 0 || promoted[VSTABLE(i)]);
         stab[i] = VSTABLE(i); live[i] = stab[i]; att[i] = stab[i]; phase[i] = STEADY }
 #else
@@ -210,14 +217,19 @@ proctype Machine(byte i) {
         stab[i] = vid[i]; live[i] = stab[i]; phase[i] = STEADY }
 #endif
     /* the agent deploys; an older attempt that still runs is aborted first */
-    :: atomic { known[i] && HAS_STABLE(i) && SEES_CHANGE(i) && (vstage[i] == DEPLOYING || vstage[i] == PROMOTING) && att[i] != vid[i] ->
+    :: atomic { known[i] && !line[i] && HAS_STABLE(i) && SEES_CHANGE(i) && (vstage[i] == DEPLOYING || vstage[i] == PROMOTING) && att[i] != vid[i] ->
         live[i] = stab[i]; att[i] = vid[i]; phase[i] = TESTING;
 #ifdef EDGES
         changed[i] = 0;
 #endif
         }
-    /* the agent promotes */
-    :: atomic { known[i] && IS_FRESH(i) && vstage[i] == PROMOTING && OF_ATTEMPT(i) && phase[i] == PAUSED ->
+    /* the agent decides to promote. Its line is on its way then, also if the agent is gone by the time that it arrives */
+    :: atomic { known[i] && !line[i] && IS_FRESH(i) && vstage[i] == PROMOTING && OF_ATTEMPT(i) && phase[i] == PAUSED ->
+        line[i] = 1 }
+    /* the switch promotes; it refuses the line where it was aborted meanwhile */
+    :: atomic { line[i] && phase[i] != PAUSED -> line[i] = 0 }
+    :: atomic { line[i] && phase[i] == PAUSED ->
+        line[i] = 0;
         RULE_1(promoted[att[i]]);
         RULE_2(!late[att[i]]);
 #ifdef STRICT
@@ -232,7 +244,7 @@ proctype Machine(byte i) {
         live[i] = stab[i]; phase[i] = BACK }
     /* faults: the switch, alone or with its agent, and it opens with what the state file names; the agent alone; etcd */
     :: atomic { (i <= crashes || LAST(i)) && crashes < CRASHES -> crashes++;
-        stab[i] = VSTABLE(i); live[i] = stab[i]; att[i] = UNKNOWN; phase[i] = STEADY;
+        stab[i] = VSTABLE(i); live[i] = stab[i]; att[i] = UNKNOWN; phase[i] = STEADY; line[i] = 0;
         if :: known[i] = 0 :: skip fi }
     :: atomic { (i <= crashes || LAST(i)) && crashes < CRASHES && known[i] -> crashes++; known[i] = 0 }
     :: atomic { (i <= CRASHES + cuts || LAST(i)) && cuts < CUTS && conn[i] -> cuts++; conn[i] = 0 }
@@ -405,7 +417,7 @@ proctype Leader(byte me) {
     od
 }
 
-#define IS_OLD(i) old[i] = (vstage[i] == PROMOTING)
+#define IS_OLD(i) old[i] = (vstage[i] == PROMOTING); LINE_IS_LATE(i)
 
 proctype World() {
     do

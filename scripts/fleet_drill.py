@@ -5,7 +5,8 @@ usage: scripts/fleet_drill.py --seed N --seconds S [--folder FOLDER]    faults, 
        scripts/fleet_drill.py --fault NAME [--folder FOLDER]            agents with a planted fault, and without it; `all` is each one
 
 It needs the built program, etcd, HAProxy and nginx. Where root may, the machines are network
-namespaces; else they are ports of this one. What was recorded stays in the folder: without one, in
+namespaces, and a machine that is cut off takes its member of etcd with it; else they are ports of
+this one. Several drills may run side by side. What was recorded stays in the folder: without one, in
 a new one below /tmp.
 
 At the end it prints the figures, and for each rule whether it holds. Exit status: 0 if all rules

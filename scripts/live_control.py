@@ -1,5 +1,5 @@
-"""The control port and the control socket of a running `serve`: the order of connections, those that are idle, silent,
-endless or don't read, requests of browsers, and accepts that fail."""
+"""The control port and the control socket of a running `serve`: the order of connections, time limits of lines, connections that are
+idle, silent, endless or don't read, requests of browsers, and accepts that fail."""
 import contextlib
 import os
 import pathlib
@@ -15,8 +15,9 @@ from support import checks, processes
 from support.checks import check, check_beside, check_soon, check_within, comes
 from support.clients import SMALL_BUFFER, connect, received, send_in_pieces, timed_for
 from support.many_sockets import many_sockets
+from support.late_lines import milliseconds
 from support.messages import BY_HAND
-from support.operators import Operator
+from support.operators import LONGEST, Operator
 from support.ports import HOST
 from support.stderr_lines import accepts_fail, check_told_once, told
 from support.switch import Switch, book
@@ -64,6 +65,46 @@ FAULTS = {
     b": x": "UnknownWord",
     b"a b: c": "UnknownWord",
 }
+
+
+# Lines with a time limit, as far as they stand after `before`, and their faults.
+FAULTS_OF_LIMITED = {
+    "": "WrongCount",
+    "9": "WrongCount",
+    "x promote": "BadNumber",
+    "18446744073709551616 promote": "BadNumber",
+    "000000000000000000001 promote": "BadNumber",
+    "x jump": "BadNumber",
+    "9 jump": "UnknownWord",
+    "9 tick": "WrongCount",
+    "9 promote half": "BadWord",
+    "9 deploy two 65536": "BadNumber",
+    "9 open two": "WrongCount",
+    "9 before x promote": "BadWord",
+    **dict.fromkeys(
+        (
+            f"9 {line}"
+            for line in ("report", "quit", "compact", "open two 2", "down 2", "enter 0 active")
+        ),
+        "BadWord",
+    ),
+    "9 leave 0": "BadWord",
+    "9 before 9 promote": "BadWord",
+}
+# Events with a time limit that is never over, in turn, and their replies at a book that is open.
+LIMITED = {
+    "tick 5": "ok 0",
+    "tick 3": "refused MomentBack",
+    "available 1 1": "ok 0",
+    "deploy two 2": "ok 0",
+    "available 2 2": "refused MoreThanDesired",
+    "promote": "refused NotPaused",
+    "verdict post error": "refused NoAnalysis",
+    "abort": "ok 0",
+    "promote full": "refused Aborted",
+    "retry": "ok 0",
+}
+NEVER_OVER = 2**64 - 1
 
 
 def check_line(name: str, switch: Switch, line: str, most: float = SOON) -> None:
@@ -277,6 +318,34 @@ def lines_take_turns(path: str = "") -> None:
             (b"ok 0", b"refused MomentBack"),
         )
         check("each report of a connection with 5,000 lines", lines.count(b"end"), 5000)
+
+
+def time_limits(path: str = "") -> None:
+    """A line `before` is carried out while the boot clock is below its time limit. Else it is refused,
+    and nothing changes, also if it has waited at a switch that was stopped."""
+    with book(is_open=False, path=path) as switch, contextlib.closing(
+        switch.operator()
+    ) as operator:
+        for limit in (0, NEVER_OVER):
+            operator.check(f"before {limit} promote", "refused NotOpen")
+        for is_open in (False, True):
+            for words, fault in FAULTS_OF_LIMITED.items():
+                operator.check(f"before {words}", f"fault {fault}")
+            if not is_open:
+                operator.check("open one 1", "ok 0")
+        state = operator.report()
+        for line in LIMITED:
+            for limit in (0, milliseconds()):
+                operator.check(f"before {limit} {line}", "refused TooLate")
+        with stopped(switch):
+            limit = milliseconds() + round(BETWEEN_LINES * 500)
+            operator.socket.sendall(b"before %d tick 7\n" % limit)
+        check("a line whose time limit was over", operator.next_line(), "refused TooLate")
+        check("the state after lines that were too late", operator.report(), state)
+        for line, reply in LIMITED.items():
+            operator.check(f"before {NEVER_OVER} {line}", reply)
+        limit = milliseconds() + round(1000 * LONGEST)
+        operator.check(f"before {limit} tick 6", "ok 0")
 
 
 def sequence_within_a_connection(path: str = "") -> None:
@@ -598,6 +667,7 @@ AT_SOCKET = (
     lines_take_turns,
     sequence_within_a_connection,
     urgent_lines,
+    time_limits,
     full_port,
     lines_that_are_too_long,
     lines_of_the_gone,
@@ -740,6 +810,7 @@ if __name__ == "__main__":
             replies_not_taken_hold_nobody,
             abort_beside_watchers,
             lines_take_turns,
+            time_limits,
             sequence_within_a_connection,
             urgent_lines,
             full_port,

@@ -41,6 +41,7 @@ MAINS = {"bgctl": bgctl_cli.main, "operator": operator_cli.main}
 VARYING = (
     (re.compile(r"\d{4}-\d\d-\d\dT\d\d:\d\d:\d\d[+-]\d\d:\d\d"), "{time}"),
     (re.compile(r"process \d+"), "process {number}"),
+    (re.compile(r"\bbefore \d{4,}"), "before {milliseconds}"),
 )
 STEADY = ("open web-v1 1 2", "available 1 2")
 SCALING = (*STEADY, "deploy web-v2 3 4")

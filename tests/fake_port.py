@@ -1,4 +1,5 @@
 """A control port that a thread answers at, as the switch does: one connection after the other."""
+import contextlib
 import socket
 import threading
 from collections.abc import Callable, Iterable, Sequence
@@ -94,6 +95,35 @@ class FakePort:
         for line in lines:
             self.lines.append(line.rstrip("\n"))
             reply = self.answer(line.rstrip("\n"))
+            if reply is ENDS:
+                return
+            connection.sendall("".join(f"{each}\n" for each in reply).encode("latin-1"))
+
+
+class SharedPort(FakePort):
+    """Many connections at a time, which take turns by lines."""
+
+    def __init__(self, answer: Answer, port: int = 0) -> None:
+        self.turn = threading.Lock()
+        super().__init__(answer, port)
+
+    def _serve(self) -> None:
+        while True:
+            try:
+                connection, _ = self.listener.accept()
+            except OSError:
+                return
+            threading.Thread(target=self._serve_one, args=(connection,), daemon=True).start()
+
+    def _serve_one(self, connection: socket.socket) -> None:
+        with connection, connection.makefile("r", encoding="latin-1", newline="\n") as lines:
+            with contextlib.suppress(OSError):
+                self._answer_lines(connection, lines)
+
+    def _answer_lines(self, connection: socket.socket, lines: Iterable[str]) -> None:
+        for line in lines:
+            with self.turn:
+                reply = self.answer(line.rstrip("\n"))
             if reply is ENDS:
                 return
             connection.sendall("".join(f"{each}\n" for each in reply).encode("latin-1"))

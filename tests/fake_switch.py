@@ -4,6 +4,8 @@ import dataclasses
 import pathlib
 from collections.abc import Callable, Sequence
 
+from bg_switch_tools.switch.before import WORD, boot_clock
+from tests.before_line import Clock, answer_before
 from tests.fake_port import ENDS, FakePort
 
 
@@ -39,6 +41,8 @@ class FakeBook:
         ] | None = (
             None  # what the line `down` has named; None for a switch that does not know the line
         )
+        self.clock: Clock = boot_clock  # by which a line `before` is judged
+        self.knows_before = True
         # by the first word: what a test wants each line of it to be refused with
         self.refusals: dict[str, str] = {}
         self.active = self.stable = self.newest = 1
@@ -48,6 +52,8 @@ class FakeBook:
         words = line.split()
         if line == "quit":
             return ENDS
+        if words[:1] == [WORD] and self.knows_before:
+            return answer_before(line, bool(self.revisions), self.clock, self.answer)
         known: dict[str, Callable[[list[str]], Sequence[str]]] = {
             "open": self._open,
             "report": self._report,

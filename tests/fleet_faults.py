@@ -5,9 +5,11 @@ The simulation plants them in its agents, and the drill in agents of its own.
 """
 import contextlib
 import dataclasses
+from collections.abc import Iterator
 from unittest import mock
 
-from bg_switch_tools.fleet import leader, next_line
+from bg_switch_tools.controller.plan import Plan
+from bg_switch_tools.fleet import fleet_lines, leader, next_line
 from bg_switch_tools.fleet.candidate import Candidate
 from bg_switch_tools.fleet.fleet_lines import FleetLines
 from bg_switch_tools.fleet.fleet_plan import FleetPlan
@@ -44,16 +46,22 @@ def without_one_member() -> Patch:
 
 def alone() -> Patch:
     """An agent that promotes when it has lost the store."""
-    line_of = Machine.next_line
+    line_of = FleetLines.next_line
 
-    def or_promote(self: Machine, report: Report, now: float) -> str | None:
-        return (
-            "promote"
-            if self.read_at is None and report.phase == "paused"
-            else line_of(self, report, now)
-        )
+    def or_promote(self: FleetLines, plan: Plan, report: Report) -> str | None:
+        is_alone = self.machine.read_at is None and report.phase == "paused"
+        return "promote" if is_alone else line_of(self, plan, report)
 
-    return mock.patch.object(Machine, "next_line", or_promote)
+    return mock.patch.object(FleetLines, "next_line", or_promote)
+
+
+def without_time_limit() -> Patch:
+    """An agent whose promotes have no time limit."""
+
+    def as_it_is(limit: float, line: str) -> str:
+        return line
+
+    return mock.patch.object(fleet_lines, "before", as_it_is)
 
 
 def on_changes() -> Patch:
@@ -72,11 +80,15 @@ def on_changes() -> Patch:
     return mock.patch.object(Machine, "next_line", once)
 
 
-def on_reads_of_any_age() -> Patch:
+@contextlib.contextmanager
+def on_reads_of_any_age() -> Iterator[None]:
+    """An agent that asks neither itself nor the switch how old its read is."""
+
     def is_fresh(self: Machine, now: float) -> bool:
         return self.record is not None
 
-    return mock.patch.object(Machine, "is_fresh", is_fresh)
+    with mock.patch.object(Machine, "is_fresh", is_fresh), without_time_limit():
+        yield
 
 
 def no_catch_up() -> Patch:

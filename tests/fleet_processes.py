@@ -26,6 +26,7 @@ from bg_switch_tools.fleet.store import (
     StoreFault,
     WatchState,
 )
+from bg_switch_tools.switch.before import without_time_limit
 from tests.fake_switch import FakeSwitch
 from tests.memory_store import Keys, MemoryStore
 from tests.tool_runs import WAIT, Endpoint, comes
@@ -253,5 +254,9 @@ class FleetProcessCase(unittest.TestCase):
         return told is not None and told.state == state
 
     def own_lines(self) -> list[str]:
-        """The lines that select something."""
-        return [line for line in self.switch.sent_lines() if not line.startswith("available ")]
+        """The lines that select something, without their time limits."""
+        return [
+            without_time_limit(line)
+            for line in self.switch.sent_lines()
+            if not line.startswith("available ")
+        ]

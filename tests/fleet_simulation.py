@@ -24,8 +24,10 @@ from bg_switch_tools.fleet.machine import Machine
 from bg_switch_tools.fleet.machine_state import MachineState, read_machine_state
 from bg_switch_tools.fleet.record import FOLLOWS, PersonOrder, View
 from bg_switch_tools.fleet.store import Compare
+from bg_switch_tools.switch.before import WORD, without_time_limit
 from bg_switch_tools.switch.lines import was_carried_out
 from bg_switch_tools.switch.reports import RUNNING, Report, Revision
+from tests.before_line import answer_before
 from tests.fleet_rules import Promote, Said, Selection, Trace
 from tests.memory_store import Keys, MemoryStore
 
@@ -39,6 +41,9 @@ SPOILED = 0.1  # how probable it is that what is put is no plan
 # that is gone may come first.
 ENDING = {"promoting": PROMOTING_SECONDS + LEASE + 2.0, "abort": LEASE + 2.0}
 AIMED = 0.1  # how probable it is that a person aborts between a leader's read and its write
+# How probable it is that the agent or the switch is stopped while a promote is on its way, and for how
+# many seconds.
+STOPPED, STOP_SECONDS = 0.3, (0.2, 6.0)
 
 
 class SimulatedSwitch:
@@ -88,8 +93,14 @@ class SimulatedSwitch:
         self.names, self.up, self.desired, self.phase = [name], {1}, {1}, "steady"
         self.active = self.stable = self.newest = 1
 
-    def send(self, line: str) -> str:
+    def send(self, line: str, now: float = 0.0) -> str:
+        """The reply to a line. `now` are the seconds since the boot at which it is carried out."""
         words = line.split()
+        if words[0] == WORD:
+            answers = answer_before(
+                line, bool(self.phase), lambda: now, lambda each: [self.send(each)]
+            )
+            return answers[0] if answers else ""
         if words[0] == "deploy":
             return self._deploy(words[1])
         if words[0] == "promote":
@@ -169,6 +180,20 @@ class RunningAnalysis:
         return (self.name, self.number) == (name, number)
 
 
+@dataclasses.dataclass
+class LineOnItsWay:
+    """A line of an agent, which it has decided on by this plan and this report. Until a moment its
+    agent is stopped, and has not sent it; or the switch is, and has not carried it out."""
+
+    line: str
+    plan: Plan
+    report: Report
+    until: float
+    is_sent: bool
+    read_at: float
+    record: str  # by the agent's read
+
+
 class NoLog:
     def say(self, event: str, text: str) -> None:
         """A trace has it all."""
@@ -199,13 +224,17 @@ class Host:
             ""  # the record that the attempt of the switch was begun by, by the store's note
         )
         self.frozen_until = 0.0
+        self.on_its_way: LineOnItsWay | None = None
+        self.offset = 0.0
         self.has_failed = False  # whether the analysis after the switch has failed, and the switch has not gone back
         self.agent: FleetAgent | None = None
         self.start_agent()
 
     def start_agent(self) -> None:
-        """The agent begins with what it has kept, on a clock of its own."""
-        self.offset = self.world.chance.uniform(0, 100000)
+        """The agent begins with what it has kept. A machine whose switch is gone too was started again,
+        and its clock counts anew."""
+        if self.agent is None and (self.switch is None or not self.switch.phase):
+            self.offset = self.world.chance.uniform(0, 100000)
         state = read_machine_state(self.kept) if self.kept else MachineState()
         machine = Machine(self.name, f"id-{self.name}", SETTINGS, self.keep, state)
         self.agent = FleetAgent(machine, self.store, self.world.say, self.now, LEASE)
@@ -231,16 +260,21 @@ class Host:
 
     def kill_agent(self) -> None:
         self.agent, self.analysis, self.pending, self.has_failed = None, None, None, False
+        if self.on_its_way and not self.on_its_way.is_sent:
+            self.on_its_way = None
 
     def kill_switch(self) -> None:
         self.switch, self.has_failed, self.begun_by = None, False, ""
+        self.on_its_way = None
 
     def record_read(self) -> str:
         """The text of the record by the agent's latest read, by the store's note."""
         return self.world.record_at(self.store.read_revision)
 
     def go_on(self) -> None:
-        """The next step of the agent: a read, a round at the switch, or what it tells."""
+        """The next step of the agent: a read, a round at the switch, or what it tells. A line that is
+        on its way comes first: the agent waits for its reply, and the switch answers in turn."""
+        self.let_line_arrive()
         if self.agent is None:
             return
         if self.step == 0:
@@ -315,10 +349,42 @@ class Host:
             self.send(f"verdict {name} {self.analysis.verdict}")
             self.analysis = None
 
+    def let_line_arrive(self) -> None:
+        """The switch carries out the line that is on its way, whose stop is over."""
+        sent = self.on_its_way
+        if sent is None or self.world.time < sent.until:
+            return
+        self.on_its_way = None
+        reply = self.carry_out(sent.line, sent.read_at, sent.record)
+        if self.agent:  # another one than before has given the reply up
+            self.lines.take_reply(sent.plan, sent.report, sent.line, reply)
+
+    def is_stopped_with(self, line: str, plan: Plan, report: Report) -> bool:
+        """Whether the agent or the switch is stopped while a promote is on its way."""
+        world = self.world
+        if (
+            without_time_limit(line) != "promote"
+            or world.is_resting
+            or world.chance.random() >= STOPPED
+        ):
+            return False
+        until, is_sent = (
+            world.time + world.chance.uniform(*STOP_SECONDS),
+            world.chance.random() < 0.5,
+        )
+        self.on_its_way = LineOnItsWay(
+            line, plan, report, until, is_sent, self.store.read_at, self.record_read()
+        )
+        self.frozen_until = max(self.frozen_until, until)
+        world.log(
+            f"{self.name}: {line} is on its way until {until:.2f}; the {'switch' if is_sent else 'agent'} is stopped"
+        )
+        return True
+
     def send_lines(self, plan: Plan, report: Report) -> None:
         for _ in range(MOST_LINES):
             line = self.lines.next_line(plan, report)
-            if line is None:
+            if line is None or self.is_stopped_with(line, plan, report):
                 return
             reply = self.send(line)
             self.lines.take_reply(plan, report, line, reply)
@@ -327,23 +393,26 @@ class Host:
             report = self.switch.report()
 
     def send(self, line: str) -> str:
-        """A line of the agent's."""
+        """A line of the agent's, which the switch carries out at once."""
+        return self.carry_out(line, self.store.read_at, self.record_read())
+
+    def carry_out(self, line: str, read_at: float, record: str) -> str:
+        """The switch carries out a line that rests on a read of this moment and record."""
         switch = self.switch
         if switch is None:
             return "refused NotOpen"
-        record = self.record_read()
-        reply = switch.send(line)
+        reply = switch.send(line, self.now())
         self.world.log(f"{self.name}: {line} => {reply}")
         if was_carried_out(reply):
             if line.startswith(("deploy ", "retry")):
                 self.begun_by = record
-            elif line == "promote":
+            elif without_time_limit(line) == "promote":
                 self.world.trace.promotes.append(
                     Promote(
                         self.world.time,
                         self.name,
                         switch.name(switch.newest),
-                        self.store.read_at,
+                        read_at,
                         record,
                         self.begun_by,
                     )
@@ -534,7 +603,14 @@ class World:
             self.keys.end(lease)
         if kind == "lost answers":
             host.store.loses = host.leader_store.loses = chance.choice((0.0, 0.3))
-        if kind == "by hand" and host.switch and host.switch.phase and chance.random() < 0.5:
+        is_stopped = host.on_its_way is not None and host.on_its_way.is_sent
+        if (
+            kind == "by hand"
+            and host.switch
+            and host.switch.phase
+            and chance.random() < 0.5
+            and not is_stopped
+        ):
             self.log(f"{host.name}: abort by hand => {host.switch.send('abort')}")
             self.note_selection(host)
 
@@ -594,7 +670,9 @@ class World:
                 self.switch_goes_on(host)
 
     def switch_goes_on(self, host: Host) -> None:
-        if host.switch and host.switch.phase:
+        host.let_line_arrive()
+        is_stopped = host.on_its_way is not None and host.on_its_way.is_sent
+        if host.switch and host.switch.phase and not is_stopped:
             host.switch.endpoints_come_up()
             if self.chance.random() < 0.3:
                 host.switch.scale_down()
@@ -612,6 +690,8 @@ class World:
         for host in self.hosts:
             host.store.loses = host.leader_store.loses = 0.0
             host.frozen_until = 0.0
+            if host.on_its_way:
+                host.on_its_way.until = self.time
             self.mend(host)
         if not self.has_plan:
             self.end_without_a_plan()

@@ -7,7 +7,7 @@ import socket
 import sys
 import threading
 
-from tests.fake_port import FakePort
+from tests.fake_port import SharedPort
 from tests.fake_switch import FakeBook
 
 HOST, LONGEST = "127.0.0.1", 10.0  # seconds
@@ -61,7 +61,7 @@ def port_of(words: list[str], name: str) -> int:
 def main(words: list[str]) -> None:
     sys.stdin.read()
     book = FakeBook("pre", "pause", "post")
-    FakePort(book.answer, port_of(words, "--control"))
+    SharedPort(book.answer, port_of(words, "--control"))
     services = [
         Service(book, port_of(words, name), name == "--preview")
         for name in ("--active", "--preview")

@@ -13,7 +13,8 @@ from collections.abc import Sequence
 from typing import cast
 from unittest import mock
 
-from bg_switch_tools.fleet import leader, next_line
+from bg_switch_tools.controller.book import Book
+from bg_switch_tools.fleet import fleet_lines, leader, next_line
 from bg_switch_tools.fleet.candidate import Candidate
 from bg_switch_tools.fleet.fleet_lines import FleetLines
 from bg_switch_tools.fleet.leader import Votes
@@ -36,9 +37,10 @@ from support.fleet.random_drill import (
 )
 from support.fleet.random_faults import Fault, Faults, next_fault
 from support.fleet.programs import Programs
-from support.fleet.recording import Answered, Event, Promote
+from support.fleet.recording import Answered, Event, Look, Promote
 from support.fleet.rules import RULES, Broken, Run
 from support.fleet.seen import Seen
+from support.fleet.stepped_clock import clock_file, stepped
 from support.fleet.verdict import Mix, mix_of, rule_lines, table, verdict
 from tests.test_fleet_rules import SECOND, good, record
 from tests.tool_runs import TOP, WAIT, comes
@@ -103,8 +105,17 @@ class LabOfCalls:
     def __init__(self) -> None:
         self.calls: list[str] = []
 
+    def looks(self) -> dict[str, Look]:
+        return {}
+
+    def compact(self) -> bool:
+        return True
+
     def __getattr__(self, name: str) -> object:
-        return lambda *words: self.calls.append(" ".join((name, *words)))
+        """Notes a call, with its words but for numbers."""
+        return lambda *words: self.calls.append(
+            " ".join((name, *(word for word in words if isinstance(word, str))))
+        )
 
 
 class RunningFaults(unittest.TestCase):
@@ -129,7 +140,7 @@ class RunningFaults(unittest.TestCase):
         begun = [
             call
             for call in self.lab.calls
-            if call.split()[0] in ("kill", "stop", "cut", "delay_switch")
+            if call.split()[0] in ("kill", "stop", "cut", "delay_switch", "step_clock")
         ]
         self.assertEqual(len(self.lab.calls), 2 * len(begun))
         self.assertFalse(self.faults.delay_some_switch(0.1))
@@ -151,6 +162,7 @@ class RunningFaults(unittest.TestCase):
             "kill": "restart",
             "stop": "wake",
             "cut": "mend",
+            "step_clock": "set_clock_right",
             "delay_switch": "let_switch_go_on",
         }
         for _ in range(300):
@@ -161,6 +173,40 @@ class RunningFaults(unittest.TestCase):
         self.assertEqual(
             begun, collections.Counter((what, words) for what, words in calls if what not in ends)
         )
+
+    def test_a_switch_that_is_not_up_again_keeps_the_others_up(self) -> None:
+        """One that was started again waits for its agent, which may be killed."""
+        looks = {host: Look(1.0, 1.1, "" if host == "b" else "steady") for host in HOSTS}
+        with mock.patch.object(LabOfCalls, "looks", lambda _: looks):
+            self.assertFalse(self.faults.delay_some_switch(0.1))
+            for _ in range(300):
+                self.faults.begin_some("a")
+        self.faults.end_all()
+        hit = [call for call in self.lab.calls if "switch" in call]
+        self.assertEqual((hit, len(self.lab.calls) > 10), ([], True))
+
+    def test_etcd_is_compacted_while_a_link_is_cut_and_only_then(self) -> None:
+        for _ in range(300):
+            self.faults.begin_some("a")
+            compacted = self.faults.counts[random_faults.COMPACTED]
+            if "cut" in " ".join(self.lab.calls):
+                break
+            self.assertEqual(compacted, 0)
+        for _ in range(20):
+            self.faults.begin_some("a")
+        self.assertGreater(self.faults.counts[random_faults.COMPACTED], 0)
+
+
+class Clocks(unittest.TestCase):
+    def test_a_clock_is_stepped_by_its_file(self) -> None:
+        with tempfile.TemporaryDirectory() as folder:
+            path = clock_file(pathlib.Path(folder), "a")
+            clock = stepped(path, lambda: 1000.0)
+            self.assertEqual(clock(), 1000.0)
+            path.write_text("-7200.000", encoding="ascii")
+            self.assertEqual(clock(), -6200.0)
+            path.write_text("", encoding="ascii")  # it is being written
+            self.assertEqual(clock(), 1000.0)
 
 
 class Plans(unittest.TestCase):
@@ -383,6 +429,7 @@ class PlantedFaults(unittest.TestCase):
                 "without-compares",
                 "no-catch-up",
                 "old-reads",
+                "without-time-limit",
                 "order-not-compared",
                 "silent-about-orders",
                 "plan-first",
@@ -421,6 +468,9 @@ class PlantedFaults(unittest.TestCase):
                     (leader, "decision_of"),
                     (next_line, "_catch_up"),
                     (FleetLines, "may_hand_in"),
+                    (FleetLines, "next_line"),
+                    (fleet_lines, "before"),
+                    (Book, "send"),
                     (Candidate, "send"),
                     (Candidate, "_tell_dropped"),
                 )

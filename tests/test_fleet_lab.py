@@ -176,6 +176,8 @@ class Base(unittest.TestCase):
         self.check_cut(lab, member)
         self.check_follow(lab)
         lab.etcd.put("plan", "second")
+        self.assertTrue(comes(lab.compact))
+        self.assertFalse(lab.compact())  # which it was already
         lab.etcd.delete("plan")
 
     def check_follow(self, lab: Lab) -> None:

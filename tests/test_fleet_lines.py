@@ -36,6 +36,7 @@ from bg_switch_tools.fleet.record import (
     read_machine_report,
 )
 from bg_switch_tools.switch.connection import Connection
+from bg_switch_tools.switch.before import boot_clock, without_time_limit
 from tests.fake_switch import FakeSwitch
 from tests.memory_store import Keys, MemoryStore
 from tests.tool_runs import WAIT, Endpoint
@@ -64,12 +65,19 @@ class FleetLinesCase(unittest.TestCase):
         )
         self.switch = FakeSwitch("pause", "post")
         self.stack.callback(self.switch.kill)
+        self.ahead = 0.0
+        self.switch.book.clock = self.clock
         self.keys = Keys(time.monotonic)
         self.person = MemoryStore(self.keys, "person")
         self.put_plan()
         self.put(SUCCESSFUL, self.v1)
         self.out = io.StringIO()
         self.start()
+
+    def clock(self) -> float:
+        """The clock since boot of the agent and of the switch, which goes on by itself, and further
+        where a test sets it ahead."""
+        return boot_clock() + self.ahead
 
     def put_plan(self) -> None:
         revisions = [{"name": one.name, "ports": list(one.ports)} for one in (self.v1, self.v2)]
@@ -107,7 +115,7 @@ class FleetLinesCase(unittest.TestCase):
         settings = MachineSettings(self.switch.port, self.analyses(judge), commands)
         machine = Machine("a", "m1", settings, file.write, file.read())
         self.store = MemoryStore(self.keys, "a")
-        self.agent = FleetAgent(machine, self.store, lambda *_: None)
+        self.agent = FleetAgent(machine, self.store, lambda *_: None, self.clock)
         self.agent.read()
         plan = machine.plan()
         assert plan is not None
@@ -119,7 +127,8 @@ class FleetLinesCase(unittest.TestCase):
             Log(self.out, False),
             probes,
             Makers(
-                lambda *told: FleetMemory(machine, *told), lambda parts: FleetLines(machine, parts)
+                lambda *told: FleetMemory(machine, *told),
+                lambda parts: FleetLines(machine, parts, self.clock),
             ),
         )
         self.stack.callback(self.controller.end)
@@ -162,8 +171,9 @@ class FleetLinesCase(unittest.TestCase):
         return f"deploy {revision.words}"
 
     def own_lines(self) -> list[str]:
-        """The lines that select something."""
-        return [line for line in self.switch.sent_lines() if not line.startswith("available ")]
+        """The lines that select something, without the moments of lines `before`."""
+        sent = [line for line in self.switch.sent_lines() if not line.startswith("available ")]
+        return [without_time_limit(line) for line in sent]
 
 
 class Attempts(FleetLinesCase):

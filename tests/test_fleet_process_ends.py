@@ -18,7 +18,6 @@ from bg_switch_tools.fleet.agent_files import StateKeeper, machine_id, path_of
 from bg_switch_tools.fleet.agent_process import (
     AgentArguments,
     AgentProcess,
-    clock,
     lease_seconds,
     start_faults,
 )
@@ -28,6 +27,7 @@ from bg_switch_tools.fleet.fleet_file import FleetFile
 from bg_switch_tools.fleet.fleet_plan import MachineSettings
 from bg_switch_tools.fleet.machine_state import MachineState
 from bg_switch_tools.fleet.store import Snapshot, Store
+from bg_switch_tools.switch.before import boot_clock
 from tests.fleet_processes import FIT, LEASE, FleetProcessCase, SharedStore
 from tests.tool_runs import WAIT, comes
 
@@ -276,7 +276,7 @@ class Starts(unittest.TestCase):
         self.assertLess(AgentArguments().round_seconds, 1)
 
     def test_the_clock_counts_on_while_the_system_is_suspended(self) -> None:
-        self.assertLess(abs(clock() - time.clock_gettime(time.CLOCK_BOOTTIME)), 1)
+        self.assertLess(abs(boot_clock() - time.clock_gettime(time.CLOCK_BOOTTIME)), 1)
 
 
 class ComesBack(FleetProcessCase):

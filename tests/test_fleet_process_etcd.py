@@ -17,6 +17,7 @@ from bg_switch_tools.fleet.etcd import EtcdStore
 from bg_switch_tools.fleet.etcd_gateway import EtcdSettings
 from bg_switch_tools.fleet.record import MachineReport, PersonOrder, View, read_machine_report
 from bg_switch_tools.fleet.store import StoreFault
+from bg_switch_tools.switch.before import without_time_limit
 from support import processes
 from support.pace import is_within
 from tests.fake_switch import FakeSwitch
@@ -132,7 +133,7 @@ class AgentCase(WithCluster):
 
     def own_lines(self) -> list[str]:
         return [
-            line.split(" ")[0]
+            without_time_limit(line).split(" ")[0]
             for line in self.switch.sent_lines()
             if not line.startswith("available ")
         ]

@@ -11,7 +11,7 @@ from collections.abc import Callable, Mapping
 from typing import NamedTuple
 from unittest import mock
 
-from bg_switch_tools.fleet import agent, agent_process, rest
+from bg_switch_tools.fleet import agent, rest
 from bg_switch_tools.fleet.agent import Lease
 from bg_switch_tools.fleet.candidate import Candidate, Clocks
 from bg_switch_tools.fleet.record import (
@@ -26,6 +26,7 @@ from bg_switch_tools.fleet.record import (
 from bg_switch_tools.fleet.rest import UNREST, Standing
 from bg_switch_tools.fleet.store import Store, StoreFault
 from bg_switch_tools.fleet.wake import Wake
+from bg_switch_tools.switch.before import boot_clock
 from tests import rest_faults
 from tests.fleet_faults import Patch
 from tests.fleet_processes import LEASE, LONGEST, FleetProcessCase
@@ -180,7 +181,7 @@ def a_stop_of_the_process(case: RestCase) -> None:
     """The clock jumps between two renewals, and the watch hangs since."""
     case.rests()
     jump = [0.0]
-    with mock.patch.object(case.process.turns.rest, "now", lambda: agent_process.clock() + jump[0]):
+    with mock.patch.object(case.process.turns.rest, "now", lambda: boot_clock() + jump[0]):
         time.sleep(QUIET)
         case.network.hangs = True
         jump[0] = 3 * rest.LATE

@@ -156,6 +156,16 @@ class Good(unittest.TestCase):
             [],
         )
 
+    def test_an_answer_of_the_load_balancer_while_all_switches_were_killed(self) -> None:
+        run = good()
+        run = run._replace(requests=[*run.requests, Answered(35.0, 0.01, 503)])
+        killed = [Outage("switch", host, 34.4, 36.0) for host in HOSTS]
+        self.assertEqual(broken_rules(run._replace(outages=killed)), [])
+        for count in (0, 2):
+            found = broken_rules(run._replace(outages=killed[:count]))
+            self.assertEqual([rule for rule, _ in found], [5])
+            self.assertIn("got 503 from no machine", found[0].text)
+
     def test_no_promote_of_a_machine_without_a_vote_is_needed(self) -> None:
         run = good()
         events = with_event(

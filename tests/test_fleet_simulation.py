@@ -12,6 +12,7 @@ from unittest import mock
 
 from bg_switch_tools.fleet import machine
 from bg_switch_tools.fleet.record import ATTEMPT, LEADER, MACHINES, MEMBERS, ORDER, PLAN
+from bg_switch_tools.switch.before import TOO_LATE
 from tests.fleet_faults import (
     Patch,
     after_the_end,
@@ -25,6 +26,7 @@ from tests.fleet_faults import (
     verdict_at_once,
     votes_for_any_leader,
     without_compares,
+    without_time_limit,
     without_one_member,
     without_the_id,
 )
@@ -32,7 +34,7 @@ from tests.fleet_rules import broken
 from tests.fleet_simulation import World, history
 
 SEEDS = 500  # of each class of histories
-MOST_PLANTED = 1000  # histories until a planted fault has to be found
+MOST_PLANTED = 3000  # histories until a planted fault has to be found
 # What a history has to meet so many times on the average.
 LEAST = {
     "deploying": 1,
@@ -42,6 +44,8 @@ LEAST = {
     "missing": 0.05,
     "promote": 1,
     "store lost": 1,
+    "stopped": 0.1,
+    "too late": 0.05,
     "failed": 0.2,
 }
 RETRY = 2.0  # seconds, in place of the agent's own, so that histories stay short
@@ -96,6 +100,8 @@ def counts(world: World) -> collections.Counter[str]:
     found["missing"] = sum(bool(record["missing"]) for record in records)
     found["promote"] = len(world.trace.promotes)
     found["store lost"] = sum("cut off from the store" in line for line in world.lines)
+    found["stopped"] = sum("is on its way" in line for line in world.lines)
+    found["too late"] = sum(line.endswith(TOO_LATE) for line in world.lines)
     found["failed"] = sum("failed => ok" in line or "error => ok" in line for line in world.lines)
     return found
 
@@ -127,6 +133,9 @@ class PlantedFaults(unittest.TestCase):
 
     def test_lines_on_reads_of_any_age(self) -> None:
         self.check(on_reads_of_any_age, "rule 2: h")
+
+    def test_promotes_that_the_switch_carries_out_however_late(self) -> None:
+        self.check(without_time_limit, "rule 2: h")
 
     def test_an_attempt_that_goes_on_after_its_end(self) -> None:
         self.check(after_the_end, "rule 2: attempt")

@@ -274,7 +274,7 @@ class Prompts(Operated):
             "refused NotPaused: the rollout is not paused\n",
             "makes revision 2 web-v2\n",
             "the status\n",
-            "quit, exit, ctrl-D   leave this prompt",
+            "quit, exit, ctrl-D       leave this prompt",
         ):
             self.assertIn(text, told)
 

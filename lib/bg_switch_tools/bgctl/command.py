@@ -46,6 +46,8 @@ def flag(word: str, help: str) -> Argument:
 
 
 JSON = flag("--json", "prints JSON")
+IN_TIME = "the switch carries the line out within so many seconds from now, and else refuses it"
+WITHIN = argument("--within", "SECONDS", IN_TIME, type=seconds_of)
 UNTIL_THE_END = flag("--wait", "waits for the end of the attempt, which gives the exit status")
 
 
@@ -81,7 +83,9 @@ class CommandRun:
 
     def switch(self) -> Switch:
         """The switch. `Unusable` where nothing names it."""
-        return Switch(self.target.control(), getattr(self.given, "request_timeout", WAIT))
+        wait = getattr(self.given, "request_timeout", WAIT)
+        within = getattr(self.given, "within", None)
+        return Switch(self.target.control(), wait, within)
 
     def show_json(self, told: object) -> None:
         print(json.dumps(told), flush=True)

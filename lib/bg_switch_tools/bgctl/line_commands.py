@@ -5,7 +5,7 @@ import itertools
 import sys
 from collections.abc import Callable, Iterable, Sequence
 
-from bg_switch_tools.bgctl.command import JSON, Command, CommandRun, argument, flag
+from bg_switch_tools.bgctl.command import JSON, WITHIN, Command, CommandRun, argument, flag
 from bg_switch_tools.bgctl.completions import line_words, names_of_revisions
 from bg_switch_tools.bgctl.exit_statuses import DONE, NO_ANSWER, REFUSED
 from bg_switch_tools.bgctl.prompt import Prompt, PromptCommand, confirm_shutdown
@@ -129,8 +129,11 @@ PROMOTE = Command(
         argument("name", "NAME", PROMOTED, names_of_revisions, nargs="?"),
         JSON,
         flag("--full", "skips the analyses and pauses of the attempt"),
+        WITHIN,
     ),
-    more="With NAME, nothing is sent if another revision is the newest: somebody else may have deployed one meanwhile.",
+    more="With NAME, nothing is sent if another revision is the newest: somebody else may have deployed one meanwhile. "
+    "With --within, a promote that comes late changes nothing: it is refused by TooLate, also if bgctl or the switch was stopped "
+    "meanwhile. The switch has to run on this machine, since both read its boot clock.",
     fault=empty_name,
 )
 ABORT = Command(
@@ -138,10 +141,14 @@ ABORT = Command(
     "ends the attempt: both services select the stable revision again",
     "bgctl abort",
     abort,
-    (JSON,),
+    (JSON, WITHIN),
 )
 RETRY = Command(
-    "retry", "begins the attempt of the newest revision again", "bgctl retry", retry, (JSON,)
+    "retry",
+    "begins the attempt of the newest revision again",
+    "bgctl retry",
+    retry,
+    (JSON, WITHIN),
 )
 LINE = Command(
     "line",

@@ -16,7 +16,7 @@ except ImportError:
 LEAVE = ("quit", "exit")
 HELP = Line("help", "lists the lines and commands", "help")
 LEAVING = Line("quit, exit, ctrl-D", "leave this prompt; the switch continues", "exit")
-WIDTH = 20  # of the column of the forms
+WIDTH = 24  # of the column of the forms
 PromptCommand = Callable[[Sequence[str]], object]
 
 

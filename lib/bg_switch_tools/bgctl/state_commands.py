@@ -1,5 +1,4 @@
 """The commands that show the state of a switch, and wait for one."""
-import argparse
 from collections.abc import Callable, Sequence
 
 from bg_switch_tools.bgctl.command import (
@@ -16,7 +15,7 @@ from bg_switch_tools.bgctl.plan_notices import tell_analyses, tell_pause
 from bg_switch_tools.controller.announced_deploy import AnnouncedDeploy, held_back
 from bg_switch_tools.controller.controller_life import ControllerLife, Life, life_of
 from bg_switch_tools.controller.state_file import HeldBack
-from bg_switch_tools.switch.conditions import CONDITION_SYNTAX, Conditions, WrongCondition
+from bg_switch_tools.switch.conditions import CONDITION_SYNTAX, Conditions, wrong_condition
 from bg_switch_tools.switch.connection import Unreachable
 from bg_switch_tools.switch.lines import Line
 from bg_switch_tools.switch.report_text import in_one_line
@@ -149,15 +148,6 @@ def wait(run: CommandRun) -> int:
     return wait_until(run, run.given.conditions)
 
 
-def wrong_condition(given: argparse.Namespace) -> str:
-    """Which text is no condition, and why; empty where each is one."""
-    try:
-        Conditions(given.conditions)
-    except WrongCondition as wrong:
-        return str(wrong)
-    return ""
-
-
 STATUS = Command(
     "status",
     "shows the state in one line",
@@ -190,7 +180,7 @@ WAIT = Command(
         timeout_of("it"),
     ),
     more="With a plan it first waits until the controller has deployed the last revision of the plan.",
-    fault=wrong_condition,
+    fault=wrong_condition(Conditions),
     line=Line(
         "wait CONDITION..",
         "waits until all conditions hold; status 0 then, 1 as soon as they cannot hold unless a line is sent, "

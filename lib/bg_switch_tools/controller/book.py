@@ -4,6 +4,7 @@ import time
 from bg_switch_tools.controller.crash_losses import last_seen
 from bg_switch_tools.controller.log import Log
 from bg_switch_tools.switch.connection import Connection, Unreachable
+from bg_switch_tools.switch.before import without_time_limit
 from bg_switch_tools.switch.lines import was_carried_out
 from bg_switch_tools.switch.report_changes import changes, is_another_book
 from bg_switch_tools.switch.reports import SERVICES, Report, read_report
@@ -68,8 +69,9 @@ class Book:
 
     def note(self, line: str, reply: str) -> str:
         """Puts the reply to a line into the log: that of a tick only where it is refused, a refusal
-        once a minute."""
-        kind, now = "tick" if line.startswith("tick ") else line, time.monotonic()
+        once a minute, also where the line has another time limit each time."""
+        kind = "tick" if line.startswith("tick ") else without_time_limit(line)
+        now = time.monotonic()
         if was_carried_out(reply):
             self.has_sent = True
             self.refused.pop(kind, None)

@@ -1,6 +1,5 @@
 """What an agent does at the store: it keeps the lease of its machine, reads all keys, and tells
 what the machine reports."""
-import time
 from collections.abc import Callable
 from typing import NamedTuple
 
@@ -8,6 +7,7 @@ from bg_switch_tools.fleet.machine import Machine
 from bg_switch_tools.fleet.record import MACHINES, View
 from bg_switch_tools.fleet.rest import LATE, is_at_rest
 from bg_switch_tools.fleet.store import Compare, Snapshot, Store, StoreFault
+from bg_switch_tools.switch.before import boot_clock
 from bg_switch_tools.switch.reports import Report
 
 LEASE = 10  # seconds: longer than a round at a switch that hangs
@@ -111,7 +111,7 @@ class FleetAgent:
         machine: Machine,
         store: Store,
         say: Say,
-        now: Clock = time.monotonic,
+        now: Clock = boot_clock,
         seconds: int = LEASE,
     ) -> None:
         """`seconds` are those of the machine's lease."""

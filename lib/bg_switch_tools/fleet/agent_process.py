@@ -29,6 +29,7 @@ from bg_switch_tools.fleet.status_text import plain
 from bg_switch_tools.fleet.store import Store, StoreFault
 from bg_switch_tools.fleet.store_threads import Leading, StoreTurns, Watch
 from bg_switch_tools.fleet.time_limit import TimeLimit
+from bg_switch_tools.switch.before import boot_clock
 from bg_switch_tools.switch.frame import Signals
 
 TURN = 0.3  # seconds
@@ -57,12 +58,6 @@ def lease_seconds(timeout: float) -> int:
     return max(LEASE, math.ceil(CALLS * timeout + CONNECT + ANSWER + 2 * ROUND))
 
 
-def clock() -> float:
-    """Monotonic seconds, which count also while the system is suspended: by them a read that was
-    made before is old."""
-    return time.clock_gettime(time.CLOCK_BOOTTIME)
-
-
 class AgentProcess:
     """The threads of an agent: the rounds at the switch, the turns at the store, the candidate, and
     the wait for events."""
@@ -86,9 +81,10 @@ class AgentProcess:
             file.host, machine_id(path, log.say), settings, self.keeper.keep, self.keeper.read()
         )
         store, standing = make_store(timeout), Standing()
-        self.agent = FleetAgent(machine, store, log.say, clock, self.seconds)
+        # by this clock a read is old that was made before the system was suspended
+        self.agent = FleetAgent(machine, store, log.say, boot_clock, self.seconds)
         self.candidate = Candidate(
-            file.host, make_store(timeout), log.say, Clocks(clock), self.seconds
+            file.host, make_store(timeout), log.say, Clocks(boot_clock), self.seconds
         )
         self.rounds = AgentRounds(self.agent, ControllerFiles(path, file.folder), log)
         self.status = AgentStatusFile(path, AgentStatus(file.fleet, file.host, os.getpid()))
@@ -155,7 +151,7 @@ class AgentProcess:
         if read.snapshot is None:
             self.lost_at = self.lost_at or time.time()
             return
-        self.read_at, self.lost_at = time.time() - max(clock() - read.begun, 0.0), 0.0
+        self.read_at, self.lost_at = time.time() - max(boot_clock() - read.begun, 0.0), 0.0
         if not self.agent.is_of_another(read.snapshot):
             self.is_known = self.is_known or self.agent.key in read.snapshot.keys
             self.other_since = None
@@ -168,12 +164,12 @@ class AgentProcess:
         before. So its lease has twice the time that it needs to end."""
         limit = 2 * self.seconds
         if self.other_since is None:
-            self.other_since = clock()
+            self.other_since = boot_clock()
             self.log.say(
                 "fleet",
                 f"this agent ends, unless the lease of the other one ends within {limit} seconds",
             )
-        elif clock() >= self.other_since + limit:
+        elif boot_clock() >= self.other_since + limit:
             self.refusal = self.agent.machine.fault
             self.stopping.set()
 

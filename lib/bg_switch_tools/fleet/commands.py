@@ -30,7 +30,7 @@ from bg_switch_tools.fleet.status_text import draw, in_one_line
 from bg_switch_tools.fleet.store import Snapshot, Store, StoreFault
 from bg_switch_tools.fleet.wait import wait_for
 from bg_switch_tools.fleet.watch import watch
-from bg_switch_tools.switch.conditions import WrongCondition
+from bg_switch_tools.switch.conditions import wrong_condition
 
 
 StoreOf = Callable[[FleetFile], Store]
@@ -167,15 +167,6 @@ def no_fault(_: argparse.Namespace) -> str:
     return ""
 
 
-def wrong_condition(given: argparse.Namespace) -> str:
-    """Which text is no condition, and why; empty where each is one."""
-    try:
-        FleetConditions(given.conditions)
-    except WrongCondition as wrong:
-        return str(wrong)
-    return ""
-
-
 class FleetCommand(NamedTuple):
     """A command. `more` is told by its help alone. `fault` says what is wrong with words that are each
     right."""
@@ -248,7 +239,7 @@ FLEET_COMMANDS = (
         "waits until conditions hold",
         FleetRun.wait,
         add_wait,
-        fault=wrong_condition,
+        fault=wrong_condition(FleetConditions),
     ),
 )
 FLEET_COMMAND_NAMES = tuple(command.name for command in FLEET_COMMANDS)

@@ -1,20 +1,26 @@
 """The lines that the record of a fleet asks for: a controller's source of lines in place of a
 plan's file."""
-import time
-
 from bg_switch_tools.controller.line_source import SourceParts
 from bg_switch_tools.controller.plan import Plan, PlannedRevision
 from bg_switch_tools.fleet.agent import Clock
 from bg_switch_tools.fleet.machine import Machine
+from bg_switch_tools.fleet.next_line import PROMOTE_LINE
+from bg_switch_tools.switch.before import TOO_LATE, before, boot_clock, without_time_limit
 from bg_switch_tools.switch.lines import was_carried_out
 from bg_switch_tools.switch.reports import Report
+
+
+# By an answer to a promote: what else is told of it, where people see it.
+MORE_OF = {"fault UnknownWord": ", since this switch does not know the line `before`: upgrade it"}
 
 
 class FleetLines:
     """The source of lines of an agent. Each line rests on a fresh read of the record; a failed
     verdict of this machine's own analysis does not, since going back needs no permission."""
 
-    def __init__(self, machine: Machine, parts: SourceParts, now: Clock = time.monotonic) -> None:
+    def __init__(self, machine: Machine, parts: SourceParts, now: Clock = boot_clock) -> None:
+        """`now` is the boot clock, by which reads are dated, and by which the switch judges the time
+        limit of a line."""
         self.machine = machine
         self.log = parts.log
         self.history = parts.history
@@ -47,22 +53,31 @@ class FleetLines:
         line = self.machine.next_line(report, self.now())
         if coming and line and line.startswith("deploy "):
             self.history.announce(coming)
-        if line != "promote" or self.machine.record is None or self.machine.read_at is None:
-            return line
+        return self._promote(report) if line == PROMOTE_LINE else line
+
+    def _promote(self, report: Report) -> str | None:
+        """The line by which the switch promotes, unless the read of the record is too old by then:
+        the agent and the switch may be stopped on the way. None where it is too old already."""
+        machine = self.machine
+        if machine.record is None or machine.read_at is None or machine.promotes_before is None:
+            return None
         self.log.say(
             "fleet",
-            f"promotes {report.newest.name} by attempt {self.machine.record.id}, which was read "
-            f"{self.now() - self.machine.read_at:.3f} seconds ago",
+            f"promotes {report.newest.name} by attempt {machine.record.id}, which was read "
+            f"{self.now() - machine.read_at:.3f} seconds ago",
         )
-        # The log may wait for its reader, or the process may be stopped meanwhile: the age that
-        # counts is that when the line is sent.
-        if self.machine.next_line(report, self.now()) == line:
-            return line
+        # the log may have waited for its reader
+        if machine.next_line(report, self.now()) == PROMOTE_LINE:
+            return before(machine.promotes_before, PROMOTE_LINE)
         self.log.say("fleet", f"does not promote {report.newest.name}: the read has become too old")
         return None
 
     def take_reply(self, plan: Plan, report: Report, line: str, reply: str) -> bool:
-        self.machine.take_reply(line, was_carried_out(reply), reply, report, self.now())
+        """Takes in a reply. A line that was too late is no fault of the machine: it is decided anew
+        by the next read."""
+        if reply != TOO_LATE:
+            sent, told = without_time_limit(line), reply + MORE_OF.get(reply, "")
+            self.machine.take_reply(sent, was_carried_out(reply), told, report, self.now())
         return False
 
     def is_paused(self) -> bool:

@@ -36,7 +36,11 @@ from bg_switch_tools.fleet.record import (
 from bg_switch_tools.fleet.store import Snapshot
 from bg_switch_tools.switch.reports import SERVICES, Report
 
-FRESH = 1.0  # seconds: how old a read may be that a line rests on
+# Seconds: how old a read may be when the agent decides by it, and when the switch promotes by it. So
+# however long an agent or a switch is stopped, a machine promotes at most a second after `aborted` was
+# written. One second suffices, since a read and a line take milliseconds. It is below the seconds of a
+# lease (10 at least), after which a fleet may go on without this machine: nothing of it is on its way then.
+FRESH = 1.0
 RETRY = 60.0  # seconds until an attempt begins again that has failed on this machine alone
 NO_RECORD = "the record of the fleet is not known yet"
 
@@ -145,6 +149,11 @@ class Machine:
     def is_fresh(self, now: float) -> bool:
         """Whether the latest read is young enough for a line."""
         return self.read_at is not None and now - self.read_at < FRESH
+
+    @property
+    def promotes_before(self) -> float | None:
+        """The time limit of a promote by the latest read; None without one."""
+        return None if self.read_at is None else self.read_at + FRESH
 
     def _known(self, record: Record, now: float) -> Known:
         may_retry = self.failed_at is not None and now >= self.failed_at + RETRY

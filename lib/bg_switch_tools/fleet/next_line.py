@@ -22,6 +22,7 @@ from bg_switch_tools.switch.reports import Report
 
 HAS_SWITCHED = ("sizing", "postAnalysis")  # the phases after the pause
 PASSED_LINE = "verdict post successful"
+PROMOTE_LINE = "promote"
 
 
 @dataclasses.dataclass(frozen=True)
@@ -105,7 +106,7 @@ def next_line(report: Report, known: Known) -> str | None:
         return "abort" if report.is_running else "retry"
     if record.stage == DEPLOYING and report.phase in HAS_SWITCHED:
         return "abort"  # somebody has promoted on this machine alone
-    return "promote" if record.stage == PROMOTING and report.phase == "paused" else None
+    return PROMOTE_LINE if record.stage == PROMOTING and report.phase == "paused" else None
 
 
 def _catch_up(report: Report, known: Known) -> str | None:
@@ -118,7 +119,7 @@ def _catch_up(report: Report, known: Known) -> str | None:
         return "retry" if known.may_retry or not known.has_joined(report) else None
     if report.phase == "postAnalysis":
         return PASSED_LINE if known.has_passed(report) else None
-    return "promote" if report.phase == "paused" else None
+    return PROMOTE_LINE if report.phase == "paused" else None
 
 
 def joined_after(line: str, report: Report, known: Known) -> Joined:

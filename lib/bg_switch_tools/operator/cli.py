@@ -6,7 +6,7 @@ import sys
 from collections.abc import Callable, Sequence
 
 from bg_switch_tools.bgctl.cli import ENDS
-from bg_switch_tools.bgctl.command import CommandRun
+from bg_switch_tools.bgctl.command import IN_TIME, CommandRun
 from bg_switch_tools.bgctl.exit_statuses import DONE
 from bg_switch_tools.bgctl.line_commands import (
     SHUTDOWN,
@@ -22,7 +22,7 @@ from bg_switch_tools.switch.arguments import control_of, seconds_of
 from bg_switch_tools.switch.conditions import CONDITION_SYNTAX
 from bg_switch_tools.switch.frame import Frame
 from bg_switch_tools.switch.installed_names import named
-from bg_switch_tools.switch.lines import LINES, Line
+from bg_switch_tools.switch.lines import EVENT_WORDS, LINES, Line
 
 FRAME = Frame("operator", ENDS)
 COMMANDS = {command.name: command for command in (STATUS, WAIT, WATCH, SHUTDOWN)}
@@ -81,6 +81,7 @@ def parser() -> argparse.ArgumentParser:
         metavar="SECONDS",
         help="how long `wait` waits for its conditions (600)",
     )
+    made.add_argument("--within", type=seconds_of, metavar="SECONDS", help=IN_TIME)
     made.add_argument(
         "--keep-going",
         action="store_true",
@@ -126,6 +127,8 @@ def fault_of(given: argparse.Namespace) -> str:
         return "--timeout is only for wait; --wait says how long to wait for an answer"
     if given.idempotent and command not in ("", "deploy"):
         return "--idempotent is only for deploy"
+    if given.within is not None and command not in EVENT_WORDS:
+        return f"--within is only for a line that gives an event: {', '.join(EVENT_WORDS)}"
     if given.yes and command not in ("", SHUTDOWN.name, "tick"):
         return "--yes is only for shutdown and tick"
     if given.plan is not None and command not in (WAIT.name, STATUS.name):

@@ -3,9 +3,10 @@ asks of it, and what came of each."""
 from collections.abc import Sequence
 from typing import Literal, NamedTuple
 
+from bg_switch_tools.switch.before import WORD, before, boot_clock
 from bg_switch_tools.switch.connection import Connection, Unreachable, ask, sent, words_of
 from bg_switch_tools.switch.control import Control
-from bg_switch_tools.switch.lines import meaning_of, was_carried_out
+from bg_switch_tools.switch.lines import EVENT_WORDS, meaning_of, was_carried_out
 from bg_switch_tools.switch.moments import DAY
 from bg_switch_tools.switch.reports import NoReport, Report, as_json, read_report
 
@@ -59,9 +60,19 @@ class Switch:
     its own, and ends with `Unreachable` where the switch gives no answer within `wait` seconds.
     """
 
-    def __init__(self, control: Control, wait: float = WAIT) -> None:
+    def __init__(self, control: Control, wait: float = WAIT, within: float | None = None) -> None:
+        """With `within`, lines that give an event have a time limit: so many seconds from now."""
         self.control = control
         self.wait = wait
+        self.time_limit = None if within is None else boot_clock() + within
+
+    def _in_time(self, line: bytes) -> bytes:
+        """The line with its time limit, where there is one and the line gives an event."""
+        words = words_of(line)
+        is_event = len(words) > 0 and words[0].decode("latin-1") in EVENT_WORDS
+        if self.time_limit is None or not is_event:
+            return line
+        return _line(before(self.time_limit, line.decode("utf-8", "surrogateescape")))
 
     def report(self, wait: float | None = None) -> Report | None:
         """The state; None where no book is open. `NoReport` where what answers is no switch."""
@@ -70,13 +81,13 @@ class Switch:
     def deploy(self, name: str, ports: Sequence[int], is_idempotent: bool = False) -> Reply:
         """Deploys a revision, and tells which one it made or took again. With `is_idempotent`, one
         that is running or stable already counts as deployed."""
-        return self._deploy(_line("deploy", name, *ports), is_idempotent)
+        return self._deploy(self._in_time(_line("deploy", name, *ports)), is_idempotent)
 
     def promote(self, full: bool = False, name: str | None = None) -> Reply:
         """Ends the pause of the attempt, or with `full` skips all analyses and pauses of it. With
         `name`, nothing is sent if another revision is the newest by a report on the same
         connection."""
-        line = b"promote full" if full else b"promote"
+        line = self._in_time(b"promote full" if full else b"promote")
         if name is None:
             return _reply(line, ask(self.control, line, self.wait))
         with Connection(self.control, self.wait) as connection:
@@ -108,7 +119,8 @@ class Switch:
 
     def send(self, line: bytes, is_idempotent: bool = False, is_sure: bool = False) -> Reply:
         """Sends a line as a person wrote it, with what `deploy` and `tick` do beside it."""
-        words = words_of(line)
+        line = self._in_time(line)
+        words = _words_of_event(line)
         if words[:1] == [b"deploy"]:
             return self._deploy(line, is_idempotent)
         if words[:1] == [b"tick"] and not is_sure:
@@ -116,11 +128,11 @@ class Switch:
         return _reply(line, ask(self.control, line, self.wait))
 
     def _ask(self, *words: object) -> Reply:
-        line = _line(*words)
+        line = self._in_time(_line(*words))
         return _reply(line, ask(self.control, line, self.wait))
 
     def _tick(self, line: bytes) -> Reply:
-        told = words_of(line)[1:]
+        told = _words_of_event(line)[1:]
         is_number = len(told) == 1 and told[0].isdigit() and len(told[0]) <= LONGEST_NUMBER
         moment = int(told[0]) if is_number else 0
         with Connection(self.control, self.wait) as connection:
@@ -145,6 +157,12 @@ class Switch:
 
 def _line(*words: object) -> bytes:
     return " ".join(map(str, words)).encode("utf-8", "surrogateescape")
+
+
+def _words_of_event(line: bytes) -> list[bytes]:
+    """The words of a line, without the time limit of a line `before`."""
+    words = words_of(line)
+    return words[2:] if words[:1] == [WORD.encode("ascii")] else words
 
 
 def _made(connection: Connection, before: Report) -> str | None:

@@ -1,9 +1,10 @@
 """What `wait` can wait for: conditions on a report, and whether one can still hold unless a line is
 sent."""
+import argparse
 import dataclasses
 import difflib
 import re
-from collections.abc import Sequence
+from collections.abc import Callable, Sequence
 from typing import NamedTuple, Protocol
 
 from bg_switch_tools.switch.json_values import NAME
@@ -218,3 +219,19 @@ class Conditions:
                         False, f"{text} cannot hold unless a line is sent: {outlook.never}"
                     )
         return HOLDS if all(outlook.holds for outlook in outlooks) else MAY_COME
+
+
+def wrong_condition(
+    conditions: Callable[[Sequence[str]], object]
+) -> Callable[[argparse.Namespace], str]:
+    """Which of the texts that were given is none of these conditions, and why; empty where each is
+    one."""
+
+    def fault(given: argparse.Namespace) -> str:
+        try:
+            conditions(given.conditions)
+        except WrongCondition as wrong:
+            return str(wrong)
+        return ""
+
+    return fault

@@ -43,6 +43,11 @@ LINES = (
     Line("abort", "ends the attempt: both services select the stable revision again", "abort"),
     Line("retry", "begins the attempt of the newest revision again", "retry"),
     Line(
+        "before MILLISECONDS LINE",
+        "carries out LINE, which gives an event, if the boot clock is below MILLISECONDS",
+        "before 81234567 promote",
+    ),
+    Line(
         "down PORT..",
         "names all ports that are down now, in place of those before; without a port, none is down",
         "down 9101",
@@ -52,6 +57,8 @@ LINES = (
     Line("quit", "shuts the switch down: no operator is answered any more", "quit"),
 )
 
+# The first words of the lines that give an event: those that may have a time limit.
+EVENT_WORDS = ("available", "deploy", "tick", "verdict", "promote", "abort", "retry")
 LINE_WORDS = tuple(dict.fromkeys(line.syntax.split()[0] for line in LINES))  # their first words
 
 # The sentences of the switch itself: those of its error types. tests/test_sentences.py compares
@@ -86,6 +93,7 @@ REFUSALS = {
     "SameTemplate": "the newest revision already has this name and these ports",
     "SeatBusy": "the seat holds a request, so none can enter at it",
     "SeatIdle": "the seat holds no request, so none can leave it",
+    "TooLate": "the boot clock is not below the time limit of the line",
     "TooManyRevisions": "64 revisions exist already",
 }
 
@@ -107,6 +115,7 @@ HINTS = {
     "NotOpen": "open NAME PORT.. opens one",
     "OutOfMemory": "nothing has changed",
     "PortsDiffer": "deploy these ports by a new name",
+    "TooLate": "nothing has changed",
     "UnknownWord": "help lists the lines",
 }
 

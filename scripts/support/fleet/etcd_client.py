@@ -15,6 +15,9 @@ from support.fleet.recording import HISTORY, POLLS, Event, Poll
 
 TIMEOUT = 1.0  # seconds for a call
 PERIOD = 0.05  # seconds between two polls
+SILENCE = 2.0  # seconds without a change, after which another member is asked for changes
+END_OF_HISTORY = "drill/end-of-history"
+LONGEST_END = 30.0  # seconds in which the last changes come
 FIELDS = {"Grpc-Metadata-hasleader": "true"}  # a member without a leader says so, and is not silent
 
 
@@ -107,35 +110,17 @@ class EtcdClient:
             ]
         )
 
-    def history(self, seconds: float = 30.0) -> list[Event]:
-        """All changes of the keys so far, by a watch from the first revision on. It needs a store
-        that was never compacted. `NoAnswer` where they did not come in time."""
-        end = time.monotonic() + seconds
-        while True:
-            with contextlib.suppress(NoAnswer):
-                return self._history(end)
-            if time.monotonic() > end:
-                raise NoAnswer("the history of the keys did not come in time")
-            time.sleep(PERIOD)
+    def compact(self, revision: int) -> None:
+        """Lets the store drop the values before those of this revision. `NoAnswer` also where it
+        has done so before."""
+        self._call("/v3/kv/compaction", {"revision": str(revision)})
 
-    def _history(self, end: float) -> list[Event]:
-        last = self.revision()
-        # the watch has all changes before it once it has this one
-        marker = self.put("drill/end-of-history", "")
-        for endpoint in list(self.endpoints):
-            found: list[Event] = []
-            with contextlib.suppress(OSError, ValueError, http.client.HTTPException):
-                for event in self._watched(endpoint, max(PERIOD, end - time.monotonic())):
-                    if event.revision >= marker:
-                        return [
-                            each
-                            for each in found
-                            if not each.name.startswith("drill/") and each.revision <= last
-                        ]
-                    found.append(event)
-                    if time.monotonic() > end:
-                        break
-        raise NoAnswer("no member gives the history")
+    def changes(self, first: int) -> Iterator[Event]:
+        """The changes from a revision on, by one member, until none comes for a while. Another call
+        asks the next member."""
+        with contextlib.suppress(OSError, ValueError, http.client.HTTPException):
+            yield from self._watched(self.endpoints[0], SILENCE, first)
+        self.endpoints.append(self.endpoints.pop(0))
 
     def follow(self, seconds: float) -> Iterator[Event]:
         """The changes of the keys from now on, as they come, for so many seconds. `NoAnswer` where
@@ -165,14 +150,28 @@ class EtcdClient:
 
 
 class Recorder:
-    """Reads the store's revision again and again, and at the end its history."""
+    """Reads the store's revision again and again, and keeps all changes as they come, so that the
+    store may be compacted."""
 
     def __init__(self, network: Network, fleet: str, folder: pathlib.Path) -> None:
-        self.client = EtcdClient(network, fleet)
+        self.client, self.follower = EtcdClient(network, fleet), EtcdClient(network, fleet)
         self.folder = folder
-        self.ending = threading.Event()
+        self.events: list[Event] = []
+        self.followed = 0  # the revision of the latest change that was kept
+        self.ending, self.has_all = threading.Event(), threading.Event()
         self.thread = threading.Thread(target=self._poll, daemon=True)
         self.thread.start()
+        threading.Thread(target=self._follow, daemon=True).start()
+
+    def _follow(self) -> None:
+        while not self.has_all.is_set():
+            for event in self.follower.changes(self.followed + 1):
+                self.events.append(event)
+                self.followed = event.revision
+                if event.name == END_OF_HISTORY:
+                    self.has_all.set()
+                    return
+            time.sleep(PERIOD)
 
     def _poll(self) -> None:
         with open(self.folder / POLLS, "a", encoding="ascii") as file:
@@ -181,10 +180,18 @@ class Recorder:
                     file.write(json.dumps(self.client.poll()._asdict()) + "\n")
 
     def end(self) -> None:
-        """Writes the history. `NoAnswer` where etcd does not give it."""
+        """Writes the history. `NoAnswer` where etcd does not give it in time."""
         self.ending.set()
         self.thread.join()
-        write_rows(self.folder / HISTORY, self.client.history())
+        end = time.monotonic() + LONGEST_END
+        while not self.has_all.is_set():
+            with contextlib.suppress(NoAnswer):
+                self.client.put(END_OF_HISTORY, "")
+            if time.monotonic() > end:
+                raise NoAnswer("the history of the keys did not come in time")
+            self.has_all.wait(SILENCE)
+        rows = [each for each in self.events if not each.name.startswith("drill/")]
+        write_rows(self.folder / HISTORY, rows)
 
 
 def write_rows(path: pathlib.Path, rows: Sequence[Any]) -> None:

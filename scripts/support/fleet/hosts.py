@@ -102,9 +102,7 @@ class Namespaces:
 
     def __init__(self, hosts: Sequence[str]) -> None:
         self.hosts = hosts
-        self.mark = (
-            f"bg{os.getpid() % 100_000}"  # two drills at a time have namespaces of their own
-        )
+        self.mark = f"bg{os.getpid()}"  # drills that run side by side have namespaces of their own
 
     @staticmethod
     def can_be_made() -> bool:

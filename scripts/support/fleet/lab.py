@@ -29,6 +29,7 @@ from support.fleet.recording import (
 )
 from support.fleet.seen import Seen
 from support.fleet.servers import etcd_words, haproxy_words, nginx_words
+from support.fleet.stepped_clock import clock_file
 from support.processes import Run, run_to_end
 from support.switch import words_of_serve
 
@@ -80,6 +81,12 @@ def switch_words(lab: "Lab", host: str) -> Sequence[str]:
             places.active.port, places.control.port, places.preview.port, WORKERS, None
         ),
     ]
+
+
+def stepped_agent_words(lab: "Lab", host: str) -> Sequence[str]:
+    """The same agent, whose wall clock can be stepped."""
+    clock = clock_file(lab.folder, host)
+    return module_words("stepped_agent", str(clock), str(lab.fleet_file(host)))
 
 
 def agent_words(lab: "Lab", host: str) -> Sequence[str]:
@@ -376,6 +383,26 @@ class Lab:
                 self.wake(what, host)
             else:
                 self.restart(what, host)
+
+    def compact(self) -> bool:
+        """Lets etcd drop its old values, as far as the recorder has them. False where etcd gives no
+        answer, or has dropped them before."""
+        revision = self.recorder.followed if self.recorder else 0
+        try:
+            EtcdClient(self.network, FLEET).compact(revision)
+        except NoAnswer:
+            return False
+        self.say(f"COMPACT etcd up to revision {revision}")
+        return True
+
+    def step_clock(self, host: str, seconds: float) -> None:
+        """Steps the wall clock of the agent of a host: it is so many seconds off from now on."""
+        clock_file(self.folder, host).write_text(f"{seconds:.3f}", encoding="ascii")
+        self.say(f"STEP the wall clock of the agent of {host} by {seconds:.0f} seconds")
+
+    def set_clock_right(self, host: str) -> None:
+        clock_file(self.folder, host).unlink()
+        self.say(f"the wall clock is right again: {host}")
 
     # ---- what is seen ----
 

@@ -17,9 +17,15 @@ from support.fleet.session import Session
 
 # isort: split; `support` tells where the packages of the tools and of the tests are
 sys.path.insert(0, str(TOP))
+from bg_switch_tools.controller.book import Book  # noqa: E402
+from bg_switch_tools.controller.plan import Plan  # noqa: E402
 from bg_switch_tools.fleet.agent import LEASE  # noqa: E402
 from bg_switch_tools.fleet.candidate import Candidate, Pending  # noqa: E402
+from bg_switch_tools.fleet.fleet_lines import FleetLines  # noqa: E402
+from bg_switch_tools.fleet.next_line import PROMOTE_LINE  # noqa: E402
 from bg_switch_tools.fleet.record import ORDER, PROMOTING  # noqa: E402
+from bg_switch_tools.switch.connection import Connection  # noqa: E402
+from bg_switch_tools.switch.reports import Report  # noqa: E402
 from tests.fleet_faults import (  # noqa: E402
     Patch,
     alone,
@@ -31,9 +37,12 @@ from tests.fleet_faults import (  # noqa: E402
     silent_about_orders,
     without_compares,
     without_one_member,
+    without_time_limit,
 )
 
-LATE = 2.0  # seconds for which a switch is late: a read of before is too old then, and no round has given up yet
+LATE = 2.0  # seconds for which an agent waits: a read of before is too old then, and no round has given up yet
+STOPPED = 4.0  # seconds for which an agent is stopped after it has decided
+ON_ITS_WAY = 0.3  # seconds in which each agent has read that an attempt is promoting
 PROMOTING_SECONDS = 4.0
 ENDING = 25.0  # seconds for which the end of an attempt is awaited: longer than the rule allows
 READING = 0.6  # seconds in which a leader has read what was written
@@ -68,6 +77,36 @@ def slow_without_the_order() -> Iterator[None]:
         return send(self, pending)
 
     with without_compares(ORDER), mock.patch.object(Candidate, "send", late):
+        yield
+
+
+@contextlib.contextmanager
+def slow_on_old_reads() -> Iterator[None]:
+    """An agent that waits before it decides to promote, and does not ask how old its read is then."""
+    line_of = FleetLines.next_line
+
+    def late(self: FleetLines, plan: Plan, report: Report) -> str | None:
+        record = self.machine.record
+        if record and record.stage == PROMOTING and report.phase == "paused":
+            time.sleep(LATE)
+        return line_of(self, plan, report)
+
+    with on_reads_of_any_age(), mock.patch.object(FleetLines, "next_line", late):
+        yield
+
+
+@contextlib.contextmanager
+def slow_without_time_limit() -> Iterator[None]:
+    """An agent that is stopped after it has decided to promote, and whose promotes have no time
+    limit."""
+    send = Book.send
+
+    def late(self: Book, connection: Connection, line: str) -> str:
+        if line == PROMOTE_LINE:
+            time.sleep(STOPPED)
+        return send(self, connection, line)
+
+    with without_time_limit(), mock.patch.object(Book, "send", late):
         yield
 
 
@@ -113,16 +152,14 @@ def missed_attempt(session: Session) -> None:
     session.until(lambda seen: seen.is_settled, CATCHING_UP)
 
 
-def late_switch(session: Session) -> None:
-    """A switch is late when its attempt begins to be promoted, and a person aborts meanwhile."""
-    host, client = session.follower(), EtcdClient(session.lab.network, FLEET)
+def abort_when_promoting(session: Session) -> None:
+    """A person aborts as soon as the attempt begins to be promoted."""
+    client = EtcdClient(session.lab.network, FLEET)
     session.put(1, 2, seconds=2)  # so that the keys are followed before it is promoted
-    attempt = promoted_attempt(client, name_of(2), CATCHING_UP)
-    session.lab.delay_switch(host)
-    if attempt:
+    if attempt := promoted_attempt(client, name_of(2), CATCHING_UP):
+        time.sleep(ON_ITS_WAY)
         put_abort(client, attempt)
-    time.sleep(LATE)
-    session.lab.let_switch_go_on(host)
+    time.sleep(STOPPED + LATE)
     session.until(lambda seen: seen.is_settled, CATCHING_UP)
 
 
@@ -196,7 +233,10 @@ PLANTED: Mapping[str, Planted] = {
         slow_without_compares, one_good_revision, 3, "was written by the leader"
     ),
     "no-catch-up": Planted(no_catch_up, missed_attempt, 4, "at the end"),
-    "old-reads": Planted(on_reads_of_any_age, late_switch, 2, "by a read"),
+    "old-reads": Planted(slow_on_old_reads, abort_when_promoting, 2, "by a read"),
+    "without-time-limit": Planted(
+        slow_without_time_limit, abort_when_promoting, 2, "more than a second after"
+    ),
     "order-not-compared": Planted(
         slow_without_the_order, abort_when_ready, 7, "whose abort was ordered before"
     ),

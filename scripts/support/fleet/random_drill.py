@@ -10,7 +10,7 @@ from typing import NamedTuple
 
 from support.fleet.aimed_abort import promoted_attempt, put_abort
 from support.fleet.etcd_client import EtcdClient, NoAnswer
-from support.fleet.lab import FLEET, Lab, name_of
+from support.fleet.lab import FLEET, Lab, name_of, stepped_agent_words
 from support.fleet.random_faults import Faults
 from support.fleet.recording import Recording
 from support.fleet.seen import Seen
@@ -234,5 +234,5 @@ def revisions_for(seconds: float) -> int:
 
 def random_drill(folder: pathlib.Path, seed: int, seconds: float) -> Outcome:
     """A whole drill, on a fleet of its own."""
-    with Lab(folder, revisions=revisions_for(seconds)) as lab:
+    with Lab(folder, revisions=revisions_for(seconds), agent=stepped_agent_words) as lab:
         return RandomDrill(lab, seed).play(seconds)

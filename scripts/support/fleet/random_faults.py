@@ -19,7 +19,10 @@ MEMBER_KILLED, MAJORITY_KILLED, SWITCH_KILLED = (
     "majorities of etcd killed",
     "switches killed",
 )
-SWITCH_DELAYED = "switches delayed"
+SWITCH_DELAYED, CLOCK_STEPPED = "switches delayed", "wall clocks of agents stepped"
+COMPACTED = (
+    "compactions of etcd while a link is cut"  # which has no end, and so is none of the kinds
+)
 KINDS = (
     AGENT_KILLED,
     AGENT_STOPPED,
@@ -28,10 +31,14 @@ KINDS = (
     MAJORITY_KILLED,
     SWITCH_KILLED,
     SWITCH_DELAYED,
+    CLOCK_STEPPED,
 )
 # How often a kind comes beside the others. Without a majority or a leader nothing is decided, so
 # those are rare.
-WEIGHTS = (3, 3, 2, 3, 0.5, 3, 2)
+WEIGHTS = (3, 3, 2, 3, 0.5, 3, 2, 1)
+STEPS = (-7200.0, -30.0, 30.0, 7200.0)  # seconds by which a wall clock is stepped
+COMPACTING = 0.8  # how probable it is that etcd is compacted at a look while a link is cut
+RETURNING = 2.0  # seconds until the load balancer has a machine again whose switch is up
 LEADER = 0.1  # how probable it is that a fault of an agent hits the leader
 PAST_LEASE = 0.2  # how probable it is that an agent is stopped past its lease
 # Seconds from the fault to its end, by its kind.
@@ -43,6 +50,7 @@ SECONDS: Mapping[str, tuple[float, float]] = {
     MAJORITY_KILLED: (1, 4),
     SWITCH_KILLED: (0.3, 2),
     SWITCH_DELAYED: (0.1, 1.4),
+    CLOCK_STEPPED: (1, 15),
 }
 PAST_LEASE_SECONDS = (11.0, 15.0)
 PERIOD = 0.02  # seconds between two looks at whether a fault is to end
@@ -55,6 +63,7 @@ BREAKS: Mapping[str, str] = {
     MAJORITY_KILLED: "etcd",
     SWITCH_KILLED: "switch",
     SWITCH_DELAYED: "delay",
+    CLOCK_STEPPED: "clock",
 }
 EXCLUDED_BY: Mapping[str, tuple[str, ...]] = {
     "agent": (),
@@ -62,6 +71,7 @@ EXCLUDED_BY: Mapping[str, tuple[str, ...]] = {
     "etcd": ("link", "etcd"),
     "switch": ("switch", "delay"),
     "delay": ("switch", "delay"),
+    "clock": (),
 }
 Broken = Collection[tuple[str, str]]  # by what and host
 
@@ -112,6 +122,7 @@ class Faults:
         self.chance = chance
         self.counts: collections.Counter[str] = collections.Counter({kind: 0 for kind in KINDS})
         self.lasting: list[tuple[float, Fault]] = []  # with the moment of the end of each
+        self.down_at: dict[str, float] = {}  # by host: when a look at its switch had no answer
         self.lock = threading.Lock()
         self.ending = threading.Event()
         self.error: Exception | None = None  # why faults are not ended any more
@@ -128,16 +139,31 @@ class Faults:
         if self.error:
             raise self.error
         with self.lock:
-            fault = next_fault(self.chance, self.lab.hosts, leader, self.broken)
+            broken = [*self.broken, *self._down()]
+            fault = next_fault(self.chance, self.lab.hosts, leader, broken)
             if fault:
                 self._begin(fault)
+            self._compact()
+
+    def _down(self) -> list[tuple[str, str]]:
+        """The switches that are down, by looks, or were so until now: one that was started again
+        waits for its agent, which may be gone, and then for the load balancer."""
+        now = time.monotonic()
+        self.down_at |= {host: now for host, look in self.lab.looks().items() if not look.is_up}
+        return [("switch", host) for host, at in self.down_at.items() if now < at + RETURNING]
+
+    def _compact(self) -> None:
+        """Etcd drops what an agent that is cut off has not seen."""
+        is_cut = any(what == "link" for what, _ in self.broken)
+        if is_cut and self.chance.random() < COMPACTING and self.lab.compact():
+            self.counts[COMPACTED] += 1
 
     def delay_some_switch(self, seconds: float) -> bool:
         """A switch at random answers late from now on, for so many seconds. False where one is down
         or late already."""
         with self.lock:
             fault = Fault(SWITCH_DELAYED, (self.chance.choice(self.lab.hosts),), seconds)
-            if self.ending.is_set() or not may_come(fault, self.broken):
+            if self.ending.is_set() or not may_come(fault, [*self.broken, *self._down()]):
                 return False
             self._begin(fault)
             return True
@@ -150,6 +176,8 @@ class Faults:
                 self.lab.cut(host)
             elif what == "delay":
                 self.lab.delay_switch(host)
+            elif what == "clock":
+                self.lab.step_clock(host, self.chance.choice(STEPS))
             elif fault.kind == AGENT_STOPPED:
                 self.lab.stop(what, host)
             else:
@@ -184,6 +212,8 @@ class Faults:
                 self.lab.mend(host)
             elif what == "delay":
                 self.lab.let_switch_go_on(host)
+            elif what == "clock":
+                self.lab.set_clock_right(host)
             elif fault.kind == AGENT_STOPPED:
                 self.lab.wake(what, host)
             else:

@@ -362,9 +362,16 @@ def rule_4(run: Run) -> Iterator[str]:
 
 
 def _is_excused(run: Run, request: Answered) -> bool:
-    """Whether the switch of the machine that answered was killed itself."""
-    for outage in run.outages("switch", request.host):
-        looks = run.recording.looks.get(request.host, ())
+    """Whether the switch of the machine that answered was killed itself. An answer of the load
+    balancer names no machine: it is excused where the switches of all machines were killed."""
+    hosts = [request.host] if request.host else list(run.recording.looks)
+    return bool(hosts) and all(_was_killed(run, host, request) for host in hosts)
+
+
+def _was_killed(run: Run, host: str, request: Answered) -> bool:
+    """Whether the switch of a machine was killed when a request came, or was not up again."""
+    for outage in run.outages("switch", host):
+        looks = run.recording.looks.get(host, ())
         back = next(
             (look.ended for look in looks if look.begun >= outage.ended and look.is_up),
             outage.ended,

@@ -19,6 +19,8 @@ from support.fleet.random_drill import (
 from support.fleet.random_faults import (
     AGENT_KILLED,
     AGENT_STOPPED,
+    CLOCK_STEPPED,
+    COMPACTED,
     LINK_CUT,
     MAJORITY_KILLED,
     MEMBER_KILLED,
@@ -39,6 +41,7 @@ ROWS: Mapping[str, tuple[str, ...]] = {
         MAJORITY_KILLED,
     ),
     "switches killed / delayed": (SWITCH_KILLED, SWITCH_DELAYED),
+    "wall clocks of agents stepped / compactions while a link is cut": (CLOCK_STEPPED, COMPACTED),
     "plans good / bad before / bad after": (GOOD, BAD_BEFORE, BAD_AFTER),
     "ordered: promotes / aborts / aborts aimed at promoting / retries / undos": (
         PROMOTE,
