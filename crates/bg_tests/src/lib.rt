@@ -10,6 +10,8 @@ mod desk;
 #[cfg(test)]
 mod history;
 #[cfg(test)]
+mod journal;
+#[cfg(test)]
 mod ledger;
 #[cfg(test)]
 mod openlist;

@@ -1,0 +1,10 @@
+pub mod Loops
+pub mod Bytes
+pub mod LineWords
+pub mod WordNumbers
+pub mod EntryWords
+pub mod EntryReadings
+pub mod Texts
+pub mod BadLines
+pub mod Utf8
+pub mod LegalEntries

@@ -1,0 +1,17 @@
+//! The text of a journal: writes and reads a line for each entry.
+//!
+//! A journal has the entries of a history without those of requests ([`bg_history_laws::journals`]). [`write_entries`]
+//! writes their lines, and [`read_entries`] reads them: each text that was written is read as the entries that were
+//! written, and no other text is read.
+#![tactic(auto)]
+
+mod entry_line;
+pub mod laws;
+mod reading;
+mod text_fault;
+mod words;
+mod writing;
+
+pub use reading::{read_entries, read_entry};
+pub use text_fault::TextFault;
+pub use writing::{has_line, write_entries, write_entry};
