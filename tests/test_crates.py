@@ -9,7 +9,7 @@ from tests.tool_runs import TOP
 
 CRATES = crates_in((TOP / "crates.txt").read_text(encoding="utf-8"))
 MEND = "run scripts/crate_map.py --write"
-MOST_LINES_DRAWN = 60
+MOST_LINES_DRAWN = 62
 SMALL = crates_in(
     "bg_low: std\nbg_beside:\nbg_middle: bg_low std\nbg_top: bg_low bg_middle bg_beside\n"
 )

@@ -1,0 +1,7 @@
+pub mod ClosingLemmas
+pub mod KeptLemmas
+pub mod KeptRunLemmas
+pub mod LawLemmas
+pub mod ReceivingLemmas
+pub mod TextLemmas
+pub mod VersionLemmas

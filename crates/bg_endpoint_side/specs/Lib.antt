@@ -1,0 +1,11 @@
+pub mod Closing
+pub mod Deadlines
+pub mod Dialing
+pub mod Forwarding
+pub mod KeptLists
+pub mod KeptRuns
+pub mod Laws
+pub mod Methods
+pub mod Outcomes
+pub mod OutgoingTexts
+pub mod Versions

@@ -1,0 +1,165 @@
+//! A request that is dialled for.
+ghost use Rattle.std.specs.Prelude.{◌≡◌, ◌&&◌, IsTrue, false, nat_le, not, true};
+ghost use Rattle.bg_endpoint_side.specs.Deadlines.{deadlines_from};
+ghost use Rattle.bg_endpoint_side.specs.Dialing.{begins_on};
+ghost use Rattle.bg_endpoint_side.specs.Outcomes.{health_of_dial, of_dial, of_giving_up, refused};
+ghost use Rattle.bg_endpoint_side.specs.declared.outcome.Health.TheVariants as health;
+
+use crate::connection_state::ConnectionState;
+use crate::deadlines::{Deadlines, Timeouts, WRITE_MILLIS};
+use crate::forwarded_request::ForwardedRequest;
+use crate::outcome::{DialFault, ForwardFault, GivingUp, Health, Outcome};
+use crate::outgoing_text::OutgoingText;
+use crate::terms::Terms;
+use bg_http::Request;
+use std::alloc::Global;
+use std::marker::Model;
+
+/// A request that waits for a connection to its endpoint. Nothing of it was written to that connection.
+pub struct DialingRequest<'a> {
+    pub(crate) alloc: Global,
+    pub(crate) request: &'a Request,
+    pub(crate) text: OutgoingText,
+    pub(crate) terms: Terms,
+    pub(crate) deadlines: Deadlines,
+    pub(crate) is_again: bool,
+}
+
+impl Drop for DialingRequest<'_> {
+    /// Drops the fields by one call, so that the proofs of what owns a value are short (CONTRIBUTING.md, "What a check costs").
+    fn drop(self) {
+        let DialingRequest {
+            alloc: _,
+            request: _,
+            text: _,
+            terms: _,
+            deadlines: _,
+            is_again: _,
+        } = self;
+    }
+}
+
+impl<'a> Model for DialingRequest<'a> {
+    ghost use Rattle.std.specs.Prelude.{◌≡◌, []};
+    ghost use Rattle.bg_endpoint_side.specs.Dialing.{Dialing};
+
+    ghost Value = { Dialing };
+
+    ghost view = { λ r. record {
+      request = r.request.now;
+      text = r.text.rest;
+      terms = r.terms;
+      deadlines = r.deadlines;
+      is_again = r.is_again;
+    } };
+
+    ghost invariant = { λ r. r.text.sent ≡ [] };
+}
+
+impl<'a> DialingRequest<'a> {
+    /// A request that is dialled for from now on, in milliseconds from the start of the program. `text` is what is written
+    /// to its endpoint. Its response is read as the one to `request`.
+    pub fn new(
+        alloc: Global,
+        request: &'a Request,
+        outgoing: (Vec<u8>, Terms),
+        timeouts: Timeouts,
+        now: u64,
+    ) -> DialingRequest<'a>
+        ensures { result ≡ record {
+          request = request.now;
+          text = outgoing.0.items;
+          terms = outgoing.1;
+          deadlines = deadlines_from timeouts now;
+          is_again = false;
+        } }
+    {
+        let (text, terms) = outgoing;
+        DialingRequest {
+            alloc,
+            request,
+            text: OutgoingText::new(text),
+            terms,
+            deadlines: Deadlines::new(timeouts, now),
+            is_again: false,
+        }
+    }
+
+    /// What the request means for its connection.
+    pub fn terms(&self) -> Terms
+        ensures { result ≡ self.now.terms }
+    {
+        self.terms
+    }
+
+    /// Whether it may be sent on a connection that was kept. If it was sent on one before, a new connection is dialled.
+    pub fn may_be_on_kept(&self) -> bool
+        ensures { result ≡ not self.now.is_again }
+    {
+        !self.is_again
+    }
+
+    /// Whether its dial, or its response, has timed out.
+    pub fn is_late(&self, now: u64) -> bool
+        ensures { result ≡ nat_le self.now.deadlines.until now }
+    {
+        self.deadlines.until <= now
+    }
+
+    /// A new connection was made for it.
+    pub fn on_new(self, now: u64) -> ForwardedRequest<'a>
+        ensures { result ≡ begins_on false self.entry now }
+    {
+        self.on(false, now)
+    }
+
+    /// A connection that was kept was taken for it.
+    pub fn on_kept(self, now: u64) -> ForwardedRequest<'a>
+        requires { IsTrue (not self.is_again) }
+        ensures { result ≡ begins_on true self.entry now }
+    {
+        self.on(true, now)
+    }
+
+    /// It is sent on a connection from now on.
+    fn on(self, is_kept: bool, now: u64) -> ForwardedRequest<'a>
+        requires { (is_kept && self.is_again) ≡ false }
+        ensures { result ≡ begins_on is_kept self.entry now }
+    {
+        let DialingRequest {
+            alloc,
+            request,
+            text,
+            terms,
+            deadlines,
+            is_again,
+        } = self;
+        let state = ConnectionState {
+            terms,
+            deadlines: deadlines.renewed(WRITE_MILLIS, now),
+            is_kept,
+            is_again,
+            is_unread: false,
+            is_ending: false,
+        };
+        ForwardedRequest::new(alloc, request, text, state)
+    }
+
+    /// The dial gave no connection.
+    pub fn fail(self, why: DialFault) -> Outcome
+        ensures { result ≡ refused (of_dial why) (health_of_dial why) }
+    {
+        let health = match why {
+            DialFault::Failed | DialFault::TimedOut => Health::Fails,
+            DialFault::NoSocket => Health::Unknown,
+        };
+        Outcome::refused(why.fault(), health)
+    }
+
+    /// The request is given up.
+    pub fn give_up(self, why: GivingUp) -> Outcome
+        ensures { result ≡ refused (of_giving_up why) health.Unknown }
+    {
+        Outcome::refused(why.fault(), Health::Unknown)
+    }
+}

@@ -1,0 +1,25 @@
+//! The endpoints' side of the switch, as a machine without sockets: a request that is forwarded to an endpoint, and the
+//! connections that are kept for further requests.
+#![tactic(auto)]
+
+mod answering;
+#[cfg(test)]
+mod attacks;
+mod closing;
+mod connection_state;
+mod deadlines;
+mod dialing_request;
+mod forwarded_request;
+mod kept_connections;
+pub mod laws;
+mod outcome;
+mod outgoing_text;
+mod terms;
+mod version;
+
+pub use deadlines::Timeouts;
+pub use dialing_request::DialingRequest;
+pub use forwarded_request::{ForwardedRequest, Step};
+pub use kept_connections::{KeptConnection, KeptConnections};
+pub use outcome::{DialFault, ForwardFault, GivingUp, Health, Outcome};
+pub use terms::{Terms, is_idempotent};
