@@ -307,13 +307,13 @@ def stalled_reader() -> None:
     """A client that takes nothing of its answer for 30 seconds is let go, and not before."""
     with serving(Endpoint(by_target(b"one")).port, workers=1, timeout=TIMEOUT) as switch:
         with connect(switch.active, SMALL_BUFFER) as client:
+            start = time.monotonic()
             client.sendall(request(b"/big"))
             check(
                 "the answer is pending",
                 comes(lambda: switch.open_requests() == [0] and connections_at(switch.active) == 1),
                 True,
             )
-            start = time.monotonic()
             check(
                 "a client that takes nothing is let go",
                 comes(lambda: connections_at(switch.active) == 0, 30 + SLACK),

@@ -177,7 +177,8 @@ class Base(unittest.TestCase):
         self.check_follow(lab)
         lab.etcd.put("plan", "second")
         self.assertTrue(comes(lab.compact))
-        self.assertFalse(lab.compact())  # which it was already
+        # it is not compacted again, once the recorder has learnt of all changes
+        self.assertTrue(comes(lambda: not lab.compact()))
         lab.etcd.delete("plan")
 
     def check_follow(self, lab: Lab) -> None:
