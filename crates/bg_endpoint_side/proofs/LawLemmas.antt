@@ -4,6 +4,7 @@ use Rattle.bg_http.specs.Codings.{is_empty}
 use Rattle.bg_http.specs.Persistences.{keeps}
 use Rattle.bg_http.specs.Elements.{has_field}
 use Rattle.bg_http.specs.Lengths.{content_length}
+use Rattle.bg_http.specs.Removed.{says_close}
 use Rattle.bg_http.specs.ResponseRules.{asks_for_head, framing_by_codings, framing_by_length, is_bad_code, is_interim, response_framing}
 use Rattle.bg_http.specs.declared.request.Request.{Request}
 use Rattle.bg_http.specs.declared.response.Response.{Response}
@@ -13,7 +14,6 @@ use Rattle.bg_http.specs.declared.response_fault.ResponseFault.TheVariants as fa
 use Rattle.bg_http.specs.declared.response_rules.ResponseFraming.{ResponseFraming}
 use Rattle.bg_http.specs.declared.response_rules.ResponseFraming.TheVariants as framing
 use Rattle.bg_http_read.specs.Responses.{JudgedResponse, SkipsInterim}
-use Rattle.bg_endpoint_side.specs.Closing.{says_close}
 use Rattle.bg_endpoint_side.specs.Dialing.{Forwarded}
 use Rattle.bg_endpoint_side.specs.Forwarding.{is_sent, may_stay, renew_if}
 use Rattle.bg_endpoint_side.specs.Laws.{GoesBackDrained, ReadsAlike, RepeatsOnlySafely, StaysOnNew, TextStays}

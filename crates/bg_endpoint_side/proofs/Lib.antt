@@ -1,4 +1,3 @@
-pub mod ClosingLemmas
 pub mod KeptLemmas
 pub mod KeptRunLemmas
 pub mod LawLemmas

@@ -3,7 +3,7 @@ use Rattle.std.proofs.Common.{◌≡◌, ◌&&◌, ◌||◌, ◌∙◌, ℕ, Boo
 use Rattle.bg_http.specs.Codings.{is_empty}
 use Rattle.bg_http.specs.declared.request.Request.{Request}
 use Rattle.bg_http.specs.declared.response_fault.ResponseFault.{ResponseFault}
-use Rattle.bg_http_read.specs.ResponseStates.{IsReceived, IsRefused, NeedsMore}
+use Rattle.bg_http_read.specs.ResponseStates.{IsReceived, IsRefused, NeedsMore, ResponseState}
 use Rattle.bg_http_read.specs.declared.received_response.ReceivedResponse.{ReceivedResponse}
 use Rattle.bg_endpoint_side.specs.Dialing.{Forwarded}
 use Rattle.bg_endpoint_side.specs.Forwarding.{IsDecided, may_stay, renew_if, with_bytes}
@@ -22,13 +22,16 @@ come_more (byte ∷ seen) bytes = refl
 abbrev pub forwarded_as : Request → Outgoing → List ℕ → ConnectionState → Forwarded
 forwarded_as request text seen state = record { request = request; text = text; came = seen; state = state }
 
-pub more_came : (request : Request) (text : Outgoing) (seen came : List ℕ) (state : ConnectionState) (self next : Forwarded)
-    (bytes : List ℕ) (now : ℕ) → forwarded_as request text seen state ≡ self → came ≡ seen ++ bytes
-    → next ≡ renew_if (not (is_empty bytes)) (forwarded_as request text came state) now → NeedsMore request (seen ++ bytes)
+pub more_came : (before after : ResponseState) (text : Outgoing) (state : ConnectionState) (self next : Forwarded)
+    (bytes : List ℕ) (now : ℕ) → forwarded_as before.request text before.seen state ≡ self
+    → after ≡ record before { seen = before.seen ++ bytes }
+    → next ≡ renew_if (not (is_empty bytes)) (forwarded_as after.request text after.seen state) now
+    → NeedsMore before.request (before.seen ++ bytes)
     → (next ≡ with_bytes self bytes now) × NeedsMore self.request (self.came ++ bytes)
-more_came request text seen came state self next bytes now is grown renewed needs =
-    let at : next ≡ with_bytes (forwarded_as request text seen state) bytes now =
-    renewed ∙ ap (λ all. renew_if (not (is_empty bytes)) (forwarded_as request text all state) now) grown in
+more_came before after text state self next bytes now is grown renewed needs =
+    let at : next ≡ with_bytes (forwarded_as before.request text before.seen state) bytes now =
+    renewed
+    ∙ ap (λ (p : ResponseState). renew_if (not (is_empty bytes)) (forwarded_as p.request text p.seen state) now) grown in
     subst (λ (f : Forwarded). (next ≡ with_bytes f bytes now) × NeedsMore f.request (f.came ++ bytes)) is (at, needs)
 
 pub answered_now : (request : Request) (text : Outgoing) (seen : List ℕ) (state : ConnectionState) (self : Forwarded)

@@ -2,12 +2,12 @@
 use Rattle.std.specs.Prelude.{◌≡◌, ℕ, Bool, true, false, ◌&&◌, ◌||◌, not, if◌then◌else◌, List, [], ◌++◌, nat_le, nat_lt, Result, Ok, Err}
 use Rattle.bg_http.specs.Codings.{is_empty}
 use Rattle.bg_http.specs.Persistences.{keeps}
+use Rattle.bg_http.specs.Removed.{says_close}
 use Rattle.bg_http.specs.declared.request.Request.{Request}
 use Rattle.bg_http.specs.declared.response.Response.{Response}
 use Rattle.bg_http.specs.declared.response_fault.ResponseFault.{ResponseFault}
 use Rattle.bg_http_read.specs.ResponseStates.{IsReadThen, IsRefused, NeedsMore}
 use Rattle.bg_http_read.specs.Responses.{ReadsResponse, ResponseFails}
-use Rattle.bg_endpoint_side.specs.Closing.{says_close}
 use Rattle.bg_endpoint_side.specs.Deadlines.{renewed}
 use Rattle.bg_endpoint_side.specs.Dialing.{Dialing, Forwarded}
 use Rattle.bg_endpoint_side.specs.Outcomes.{health_of, refused}

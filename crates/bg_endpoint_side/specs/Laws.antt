@@ -1,13 +1,13 @@
 -- The laws of the endpoints' side.
 use Rattle.std.specs.Prelude.{◌≡◌, ◌⊎◌, ℕ, Bool, true, false, List, [], ◌∷◌, ◌++◌, Ok}
 use Rattle.bg_http.specs.Persistences.{keeps}
+use Rattle.bg_http.specs.Removed.{says_close}
 use Rattle.bg_http.specs.ResponseRules.{asks_for_head}
 use Rattle.bg_http.specs.declared.request.Request.{Request}
 use Rattle.bg_http.specs.declared.response.Response.{Response}
 use Rattle.bg_http_read.specs.ResponseStates.{IsReadThen}
 use Rattle.bg_http_read.specs.Responses.{ReadsResponseThen}
 use Rattle.bg_http_read.specs.Sequences.{AreResponsesOf}
-use Rattle.bg_endpoint_side.specs.Closing.{says_close}
 use Rattle.bg_endpoint_side.specs.Dialing.{Dialing, Forwarded, begins_on}
 use Rattle.bg_endpoint_side.specs.Forwarding.{again, goes_back, may_repeat, unread, with_bytes, with_end, wrote}
 use Rattle.bg_endpoint_side.specs.OutgoingTexts.{whole}

@@ -1,4 +1,3 @@
-pub mod Closing
 pub mod Deadlines
 pub mod Dialing
 pub mod Forwarding

@@ -3,16 +3,15 @@ ghost use Rattle.std.specs.Prelude.{◌≡◌, ◌&&◌, ◌||◌, Ok, not};
 ghost use Rattle.std.specs.Option.{option_copied};
 ghost use Rattle.bg_http.specs.Codings.{is_empty};
 ghost use Rattle.bg_http.specs.Persistences.{keeps};
-ghost use Rattle.bg_endpoint_side.specs.Closing.{says_close as has_close};
+ghost use Rattle.bg_http.specs.Removed.{says_close as has_close};
 ghost use Rattle.bg_endpoint_side.specs.Outcomes.{told};
 ghost use Rattle.bg_endpoint_side.specs.Versions.{is_whole};
 
-use crate::closing::says_close;
 use crate::connection_state::ConnectionState;
 use crate::outcome::{Health, Outcome};
 use crate::outgoing_text::OutgoingText;
 use crate::version::VersionMatch;
-use bg_http::{Persistence, Response};
+use bg_http::{Persistence, Response, says_close};
 use bg_http_read::ReceivedResponse;
 
 /// What is told of an endpoint by whether a byte came.

@@ -60,7 +60,7 @@ fn where_of(outcome: Outcome) -> Where {
     }
 }
 
-fn carry_out<'a>(mut request: ForwardedRequest<'a>, event: &Event) -> Step<'a> {
+fn carry_out(mut request: ForwardedRequest, event: &Event) -> Step {
     match event {
         Event::Wrote(count, now) => request.wrote(*count, *now),
         Event::Unread(now) => request.note_unread(*now),
@@ -73,7 +73,7 @@ fn carry_out<'a>(mut request: ForwardedRequest<'a>, event: &Event) -> Step<'a> {
     Step::GoesOn(request)
 }
 
-fn after<'a>(request: ForwardedRequest<'a>, events: &[Event]) -> Where {
+fn after(request: ForwardedRequest, events: &[Event]) -> Where {
     let mut now = request;
     for event in events {
         match carry_out(now, event) {
@@ -85,7 +85,7 @@ fn after<'a>(request: ForwardedRequest<'a>, events: &[Event]) -> Where {
     Where::GoesOn
 }
 
-fn begin<'a>(alloc: Global, request: &'a Request, is_kept: bool) -> Option<ForwardedRequest<'a>> {
+fn begin(alloc: Global, request: &Request, is_kept: bool) -> Option<ForwardedRequest> {
     let terms = Terms {
         port: 8081,
         persistence: Persistence::Keep,

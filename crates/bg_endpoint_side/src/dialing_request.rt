@@ -12,25 +12,25 @@ use crate::outcome::{DialFault, ForwardFault, GivingUp, Health, Outcome};
 use crate::outgoing_text::OutgoingText;
 use crate::terms::Terms;
 use bg_http::Request;
+use bg_http_read::ResponseParser;
 use std::alloc::Global;
 use std::marker::Model;
 
 /// A request that waits for a connection to its endpoint. Nothing of it was written to that connection.
-pub struct DialingRequest<'a> {
-    pub(crate) alloc: Global,
-    pub(crate) request: &'a Request,
+pub struct DialingRequest {
+    /// The parser of its response, which was fed nothing.
+    pub(crate) parser: ResponseParser,
     pub(crate) text: OutgoingText,
     pub(crate) terms: Terms,
     pub(crate) deadlines: Deadlines,
     pub(crate) is_again: bool,
 }
 
-impl Drop for DialingRequest<'_> {
+impl Drop for DialingRequest {
     /// Drops the fields by one call, so that the proofs of what owns a value are short (CONTRIBUTING.md, "What a check costs").
     fn drop(self) {
         let DialingRequest {
-            alloc: _,
-            request: _,
+            parser: _,
             text: _,
             terms: _,
             deadlines: _,
@@ -39,33 +39,33 @@ impl Drop for DialingRequest<'_> {
     }
 }
 
-impl<'a> Model for DialingRequest<'a> {
-    ghost use Rattle.std.specs.Prelude.{◌≡◌, []};
+impl Model for DialingRequest {
+    ghost use Rattle.std.specs.Prelude.{◌≡◌, [], IsTrue};
     ghost use Rattle.bg_endpoint_side.specs.Dialing.{Dialing};
 
     ghost Value = { Dialing };
 
     ghost view = { λ r. record {
-      request = r.request.now;
+      request = r.parser.request;
       text = r.text.rest;
       terms = r.terms;
       deadlines = r.deadlines;
       is_again = r.is_again;
     } };
 
-    ghost invariant = { λ r. r.text.sent ≡ [] };
+    ghost invariant = { λ r. IsTrue r.parser.is_open × (r.parser.seen ≡ []) × (r.text.sent ≡ []) };
 }
 
-impl<'a> DialingRequest<'a> {
+impl DialingRequest {
     /// A request that is dialled for from now on, in milliseconds from the start of the program. `text` is what is written
     /// to its endpoint. Its response is read as the one to `request`.
     pub fn new(
         alloc: Global,
-        request: &'a Request,
+        request: &Request,
         outgoing: (Vec<u8>, Terms),
         timeouts: Timeouts,
         now: u64,
-    ) -> DialingRequest<'a>
+    ) -> DialingRequest
         ensures { result ≡ record {
           request = request.now;
           text = outgoing.0.items;
@@ -76,8 +76,7 @@ impl<'a> DialingRequest<'a> {
     {
         let (text, terms) = outgoing;
         DialingRequest {
-            alloc,
-            request,
+            parser: ResponseParser::new(alloc, request),
             text: OutgoingText::new(text),
             terms,
             deadlines: Deadlines::new(timeouts, now),
@@ -107,28 +106,27 @@ impl<'a> DialingRequest<'a> {
     }
 
     /// A new connection was made for it.
-    pub fn on_new(self, now: u64) -> ForwardedRequest<'a>
-        ensures { result ≡ begins_on false self.entry now }
+    pub fn on_new(self, now: u64) -> ForwardedRequest
+        ensures { result ≡ begins_on false self now }
     {
         self.on(false, now)
     }
 
     /// A connection that was kept was taken for it.
-    pub fn on_kept(self, now: u64) -> ForwardedRequest<'a>
+    pub fn on_kept(self, now: u64) -> ForwardedRequest
         requires { IsTrue (not self.is_again) }
-        ensures { result ≡ begins_on true self.entry now }
+        ensures { result ≡ begins_on true self now }
     {
         self.on(true, now)
     }
 
     /// It is sent on a connection from now on.
-    fn on(self, is_kept: bool, now: u64) -> ForwardedRequest<'a>
+    fn on(self, is_kept: bool, now: u64) -> ForwardedRequest
         requires { (is_kept && self.is_again) ≡ false }
-        ensures { result ≡ begins_on is_kept self.entry now }
+        ensures { result ≡ begins_on is_kept self now }
     {
         let DialingRequest {
-            alloc,
-            request,
+            parser,
             text,
             terms,
             deadlines,
@@ -142,7 +140,7 @@ impl<'a> DialingRequest<'a> {
             is_unread: false,
             is_ending: false,
         };
-        ForwardedRequest::new(alloc, request, text, state)
+        ForwardedRequest::new(parser, text, state)
     }
 
     /// The dial gave no connection.

@@ -1,5 +1,5 @@
 //! A request that is forwarded on a connection to its endpoint.
-ghost use Rattle.std.specs.Prelude.{◌≡◌, ◌&&◌, [], IsFalse, false, true};
+ghost use Rattle.std.specs.Prelude.{◌≡◌, ◌&&◌, [], IsFalse, IsTrue, false, true};
 ghost use Rattle.bg_endpoint_side.specs.Forwarding.{AnswersAtEnd, Ends, Receives, again, failed, is_again, is_sent};
 ghost use Rattle.bg_endpoint_side.specs.Forwarding.{late_health, looked, may_repeat, patience, renew_if, to_write};
 ghost use Rattle.bg_endpoint_side.specs.Forwarding.{unread, with_end, wrote};
@@ -13,17 +13,13 @@ use crate::outcome::{ForwardFault, GivingUp, Health, Outcome};
 use crate::outgoing_text::OutgoingText;
 use crate::terms::Terms;
 use crate::version::VersionMatch;
-use bg_http::Request;
 use bg_http_read::ResponseParser;
-use std::alloc::Global;
 use std::marker::Model;
 
 /// A request that is forwarded on a connection to its endpoint. Its caller writes what [`Self::rest`] gives, and tells
 /// what happened on the connection.
-pub struct ForwardedRequest<'a> {
-    alloc: Global,
-    request: &'a Request,
-    parser: ResponseParser<'a>,
+pub struct ForwardedRequest {
+    parser: ResponseParser,
     /// How far the response begins with the version by which a connection is kept.
     version: VersionMatch,
     /// Whether a byte came.
@@ -32,12 +28,10 @@ pub struct ForwardedRequest<'a> {
     state: ConnectionState,
 }
 
-impl Drop for ForwardedRequest<'_> {
+impl Drop for ForwardedRequest {
     /// Drops the fields by one call, so that the proofs of what owns a value are short (CONTRIBUTING.md, "What a check costs").
     fn drop(self) {
         let ForwardedRequest {
-            alloc: _,
-            request: _,
             parser: _,
             version: _,
             has_come: _,
@@ -47,7 +41,7 @@ impl Drop for ForwardedRequest<'_> {
     }
 }
 
-impl<'a> Model for ForwardedRequest<'a> {
+impl Model for ForwardedRequest {
     ghost use Rattle.std.specs.Prelude.{◌≡◌, ◌&&◌, IsTrue, false, not};
     ghost use Rattle.bg_http.specs.Codings.{is_empty};
     ghost use Rattle.bg_endpoint_side.specs.Dialing.{Forwarded};
@@ -56,44 +50,42 @@ impl<'a> Model for ForwardedRequest<'a> {
     ghost Value = { Forwarded };
 
     ghost view = { λ r. record {
-      request = r.request.now;
+      request = r.parser.request;
       text = r.text;
       came = r.parser.seen;
       state = r.state;
     } };
 
     ghost invariant = { λ r. IsTrue r.parser.is_open
-        × (r.parser.request ≡ r.request.now)
         × (r.has_come ≡ not (is_empty r.parser.seen))
         × IsMatch r.version r.parser.seen
         × ((r.state.is_kept && r.state.is_again) ≡ false) };
 }
 
 /// What an event makes of a request that is forwarded.
-pub enum Step<'a> {
+pub enum Step {
     /// It goes on.
-    GoesOn(ForwardedRequest<'a>),
+    GoesOn(ForwardedRequest),
     /// The connection is closed, and the request is sent again on a new one.
-    Again(DialingRequest<'a>),
+    Again(DialingRequest),
     /// It is over.
     Over(Outcome),
 }
 
-impl<'a> ForwardedRequest<'a> {
+impl ForwardedRequest {
     /// A request of which nothing was written to the connection, and no byte came.
     pub(crate) fn new(
-        alloc: Global,
-        request: &'a Request,
+        parser: ResponseParser,
         text: OutgoingText,
         state: ConnectionState,
-    ) -> ForwardedRequest<'a>
-        requires { (state.is_kept && state.is_again) ≡ false }
-        ensures { result ≡ record { request = request.now; text = text; came = []; state = state } }
+    ) -> ForwardedRequest
+        requires is_open { IsTrue parser.is_open }
+        requires none { parser.seen ≡ [] }
+        requires once { (state.is_kept && state.is_again) ≡ false }
+        ensures { result ≡ record { request = parser.request; text = text; came = []; state = state } }
     {
         ForwardedRequest {
-            alloc,
-            request,
-            parser: ResponseParser::new(alloc, request),
+            parser,
             version: VersionMatch::new(),
             has_come: false,
             text,
@@ -153,12 +145,10 @@ impl<'a> ForwardedRequest<'a> {
     /// Bytes came. Once the request is over, its connection goes back for another request only if the whole text was
     /// written, the response was read by its own framing with nothing left of these bytes, and neither side ends the
     /// connection.
-    pub fn receive(self, bytes: &[u8], now: u64) -> Step<'a>
-        ensures { Receives self.entry bytes.now now result }
+    pub fn receive(self, bytes: &[u8], now: u64) -> Step
+        ensures { Receives self bytes.now now result }
     {
         let ForwardedRequest {
-            alloc,
-            request,
             mut parser,
             version,
             has_come,
@@ -170,8 +160,6 @@ impl<'a> ForwardedRequest<'a> {
         match parser.receive(bytes) {
             Ok(None) => {
                 let mut next = ForwardedRequest {
-                    alloc,
-                    request,
                     parser,
                     version,
                     has_come,
@@ -194,9 +182,9 @@ impl<'a> ForwardedRequest<'a> {
 
     /// The endpoint ended the connection. If it was kept, no byte of a response came, and the method is idempotent or
     /// nothing of the request was written, the request is sent again (RFC 9112 section 9.3.1). Otherwise it is over.
-    pub fn end(self, now: u64) -> Step<'a>
-        ensures step { Ends self.entry now result }
-        ensures once { self.entry.state.is_again ≡ true → IsFalse (is_again result) }
+    pub fn end(self, now: u64) -> Step
+        ensures step { Ends self now result }
+        ensures once { self.state.is_again ≡ true → IsFalse (is_again result) }
     {
         if self.may_repeat() {
             return Step::Again(self.again(now));
@@ -208,9 +196,9 @@ impl<'a> ForwardedRequest<'a> {
     }
 
     /// The connection failed: it was reset, or a read or a write failed. As at its end, the request may be sent again.
-    pub fn fail(self, now: u64) -> Step<'a>
-        ensures step { result ≡ failed self.entry now }
-        ensures once { self.entry.state.is_again ≡ true → IsFalse (is_again result) }
+    pub fn fail(self, now: u64) -> Step
+        ensures step { result ≡ failed self now }
+        ensures once { self.state.is_again ≡ true → IsFalse (is_again result) }
     {
         if self.may_repeat() {
             return Step::Again(self.again(now));
@@ -219,8 +207,8 @@ impl<'a> ForwardedRequest<'a> {
     }
 
     /// Ends the request if one of its timeouts has passed. It is not sent again then.
-    pub fn look(self, now: u64) -> Step<'a>
-        ensures { result ≡ looked self.entry now }
+    pub fn look(self, now: u64) -> Step
+        ensures { result ≡ looked self now }
     {
         if now < self.state.deadlines.until {
             return Step::GoesOn(self);
@@ -230,7 +218,7 @@ impl<'a> ForwardedRequest<'a> {
 
     /// The request is given up.
     pub fn give_up(self, why: GivingUp) -> Outcome
-        ensures { result ≡ refused (of_giving_up why) (health_of self.entry.came) }
+        ensures { result ≡ refused (of_giving_up why) (health_of self.came) }
     {
         self.refuse(why.fault())
     }
@@ -264,14 +252,13 @@ impl<'a> ForwardedRequest<'a> {
             && (self.state.terms.is_idempotent || self.text.is_unsent())
     }
 
-    /// The request is sent again on a new connection.
-    fn again(self, now: u64) -> DialingRequest<'a>
-        ensures { result ≡ again self.entry now }
+    /// The request is sent again on a new connection. No byte came, so the parser was fed nothing.
+    fn again(self, now: u64) -> DialingRequest
+        requires none { self.came ≡ [] }
+        ensures { result ≡ again self now }
     {
         let ForwardedRequest {
-            alloc,
-            request,
-            parser: _,
+            parser,
             version: _,
             has_come: _,
             mut text,
@@ -279,8 +266,7 @@ impl<'a> ForwardedRequest<'a> {
         } = self;
         text.restart();
         DialingRequest {
-            alloc,
-            request,
+            parser,
             text,
             terms: state.terms,
             deadlines: state.deadlines.renewed(DIAL_MILLIS, now),
@@ -309,21 +295,19 @@ impl<'a> ForwardedRequest<'a> {
 
     /// There is no response.
     fn refuse(self, fault: ForwardFault) -> Outcome
-        ensures { result ≡ refused fault (health_of self.entry.came) }
+        ensures { result ≡ refused fault (health_of self.came) }
     {
         Outcome::refused(fault, self.health())
     }
 
     /// What the request comes to if the bytes that came are all.
     fn ended(self) -> Outcome
-        ensures answer { AnswersAtEnd self.entry.request self.entry.came result.answer }
+        ensures answer { AnswersAtEnd self.request self.came result.answer }
         ensures goes_back { result.goes_back ≡ false }
-        ensures health { result.health ≡ health_of self.entry.came }
+        ensures health { result.health ≡ health_of self.came }
     {
         let health = self.health();
         let ForwardedRequest {
-            alloc: _,
-            request: _,
             parser,
             version: _,
             has_come: _,

@@ -5,7 +5,6 @@
 mod answering;
 #[cfg(test)]
 mod attacks;
-mod closing;
 mod connection_state;
 mod deadlines;
 mod dialing_request;

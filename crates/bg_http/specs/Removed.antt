@@ -20,6 +20,11 @@ is_named_by_connection fields name =
     list_any (λ element. str_eq_ignore_ascii_case element name)
     (elements_named (codes "connection") fields)
 
+-- an element of the Connection fields is `close`, in any case of its letters: the connection carries
+-- no message after this one (RFC 9112 section 9.6)
+abbrev pub says_close : List Field → Bool
+says_close fields = is_named_by_connection fields (codes "close")
+
 -- the field is not forwarded: it is one of those, or Connection names it; but Host is always
 -- forwarded
 abbrev pub is_removed : List Field → Field → Bool

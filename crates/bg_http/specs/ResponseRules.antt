@@ -25,9 +25,14 @@ is_bad_code code = nat_lt code 100 || (code == 101)
 abbrev pub is_interim : ℕ → Bool
 is_interim code = nat_lt code 200
 
--- a response that never has a body: to HEAD, and 204 and 304 (RFC 9112 section 6.3)
+-- a response that never has a body: to HEAD, and 204 and 304 (RFC 9112 section 6.3). `to_head` says
+-- whether the method of the request is HEAD, here and below
+abbrev pub lacks_body : Bool → ℕ → Bool
+lacks_body to_head code = to_head || (code == 204) || (code == 304)
+
+-- the same for a response to the request
 abbrev pub has_no_body : Request → ℕ → Bool
-has_no_body request code = asks_for_head request || (code == 204) || (code == 304)
+has_no_body request code = lacks_body (asks_for_head request) code
 
 -- `chunked` is the only coding
 abbrev pub is_chunked_only : List (List ℕ) → Bool
@@ -54,13 +59,17 @@ framing_by_length (is digits) = or_too_large (number_within MOST_RESPONSE_BODY d
 framing_by_length wrong = Err fault.Bad
 
 -- the judgement of a response's head: the first rule that applies decides
-abbrev pub response_framing : Request → ResponseHead → Result ResponseFraming ResponseFault
-response_framing request head =
+abbrev pub framing_for : Bool → ResponseHead → Result ResponseFraming ResponseFault
+framing_for to_head head =
     if is_bad_code head.code then Err fault.Bad
     else (if is_interim head.code then Ok framing.Interim
-    else (if has_no_body request head.code then Ok framing.NoBody
+    else (if lacks_body to_head head.code then Ok framing.NoBody
     else (if has_field (codes "transfer-encoding") head.fields then framing_by_codings head
     else framing_by_length (content_length head.fields))))
+
+-- the judgement of the head of a response to the request
+abbrev pub response_framing : Request → ResponseHead → Result ResponseFraming ResponseFault
+response_framing request head = framing_for (asks_for_head request) head
 
 -- the digits of a number; `0` for zero, which has no digits without its leading zeros
 abbrev pub digits_or_zero : List ℕ → List ℕ

@@ -34,6 +34,7 @@ pub use field::Field;
 pub use fields::{FieldIter, Fields};
 pub use memory_stream::MemoryStream;
 pub use persistence::Persistence;
+pub use removed::says_close;
 pub use request::{Request, RequestHead};
 pub use request_fault::RequestFault;
 pub use request_rules::{Framing, MOST_REQUEST_BODY, judge_request, owes_continue};

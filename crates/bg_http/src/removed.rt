@@ -1,4 +1,4 @@
-//! The fields that are not forwarded.
+//! The fields that are not forwarded, and what Connection fields name.
 ghost use Rattle.std.specs.Prelude.{◌≡◌, codes};
 ghost use Rattle.std.specs.List.{list_any};
 ghost use Rattle.std.specs.Str.{str_eq_ignore_ascii_case};
@@ -46,6 +46,14 @@ fn is_of_connection(field: &Field<'_>) -> bool
         || field.is(RuledName::Upgrade)
         || field.is(RuledName::Trailer)
         || field.is(RuledName::ContentLength)
+}
+
+/// Whether an element of the Connection fields is `close`: the connection carries no message after
+/// this one (RFC 9112 section 9.6).
+pub fn says_close(fields: &Fields) -> bool
+    ensures { result ≡ spec.says_close fields.now }
+{
+    have_name(elements_named(fields, RuledName::Connection), b"close")
 }
 
 /// Whether an element of the Connection fields is the name. An element that is not a valid name

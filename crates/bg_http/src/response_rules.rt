@@ -29,22 +29,20 @@ pub enum ResponseFraming {
 /// The most bytes that a response's body may have.
 pub const MOST_RESPONSE_BODY: usize = 4_194_304;
 
-/// Judges the head of a response to `request`. The first of these rules that applies decides.
+/// Judges the head of a response. `to_head` says whether the method of the request is HEAD
+/// (`asks_for_head`). The first of these rules that applies decides.
 ///
 /// - A code below 100, and 101: Bad. The request asked for no other protocol (RFC 9110 section
 ///   15.2.2).
 /// - A code below 200 is interim (RFC 9110 section 15.2).
-/// - The method is HEAD, or the code is 204 or 304: no body (RFC 9112 section 6.3).
+/// - The method of the request is HEAD, or the code is 204 or 304: no body (RFC 9112 section 6.3).
 /// - Transfer-Encoding: chunked, if version 1.1 names `chunked` and no other coding; otherwise Bad.
 ///   A Content-Length that comes with it is ignored (RFC 9112 section 6.3).
 /// - Content-Length: this length, if its elements are all digits and equal without their leading
 ///   zeros; otherwise Bad. TooLarge if it is above 4,194,304.
 /// - Otherwise the body goes to the end of the input.
-pub fn judge_response(
-    request: &Request,
-    head: &ResponseHead,
-) -> Result<ResponseFraming, ResponseFault>
-    ensures { result ≡ spec.response_framing request.now head.now }
+pub fn judge_response(to_head: bool, head: &ResponseHead) -> Result<ResponseFraming, ResponseFault>
+    ensures { result ≡ spec.framing_for to_head head.now }
 {
     if is_bad_code(head.code) {
         return Err(ResponseFault::Bad);
@@ -52,7 +50,7 @@ pub fn judge_response(
     if head.code < 200 {
         return Ok(ResponseFraming::Interim);
     }
-    if has_no_body(request, head.code) {
+    if has_no_body(to_head, head.code) {
         return Ok(ResponseFraming::NoBody);
     }
     if has_field(&head.fields, RuledName::TransferEncoding) {
@@ -101,10 +99,10 @@ pub fn asks_for_head(request: &Request) -> bool
 }
 
 /// Whether a response with the code never has a body.
-pub(crate) fn has_no_body(request: &Request, code: u16) -> bool
-    ensures { result ≡ spec.has_no_body request.now code }
+pub(crate) fn has_no_body(to_head: bool, code: u16) -> bool
+    ensures { result ≡ spec.lacks_body to_head code }
 {
-    asks_for_head(request) || code == 204 || code == 304
+    to_head || code == 204 || code == 304
 }
 
 fn framing_by_codings(head: &ResponseHead) -> Result<ResponseFraming, ResponseFault>

@@ -18,7 +18,7 @@ use crate::persistence::Persistence;
 use crate::removed::{is_removed, is_removed_from_request};
 use crate::request::Request;
 use crate::response::Response;
-use crate::response_rules::has_no_body;
+use crate::response_rules::{asks_for_head, has_no_body};
 use std::io;
 use std::io::Write;
 
@@ -210,7 +210,7 @@ fn write_sent<W: Write>(request: &Request, response: &Response, writer: &mut W) 
     ensures { OnOk result (Appends (W.contents writer.old) (W.contents writer.new)
         (spec.body_sent request.now response.now)) }
 {
-    if has_no_body(request, response.code) {
+    if has_no_body(asks_for_head(request), response.code) {
         return Ok(());
     }
     writer.write_all(response.body.get())

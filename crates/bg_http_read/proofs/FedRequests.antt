@@ -1,8 +1,9 @@
 -- The answers of a request's parser, by the bytes that it was fed.
-use Rattle.std.proofs.Common.{◌≡◌, Bool, true, false, ℕ, ◌+◌, ◌≤◌, List, [], ◌++◌, drop, length, refl, ap, sym, ◌∙◌, arith, subst, inl, inr, Result, Ok, Err, IsErrAnd}
+use Rattle.std.proofs.Common.{◌≡◌, ◌&&◌, Bool, true, false, ℕ, ◌+◌, ◌≤◌, List, [], ◌∷◌, ◌++◌, drop, length, refl, ap, sym, ◌∙◌, arith, subst, inl, inr, Result, Ok, Err, IsErrAnd}
 use Rattle.std.proofs.lemmas.List.{append-nil}
 use Rattle.httparse.specs.Grammar.{HasNoRequest}
 use Rattle.httparse.specs.Grammar as grammar
+use Rattle.bg_http.specs.Codings.{is_empty}
 use Rattle.bg_http.specs.RequestRules.{owes_continue, request_framing}
 use Rattle.bg_http.specs.declared.request.Request.{Request}
 use Rattle.bg_http.specs.declared.request.RequestHead.{RequestHead}
@@ -244,6 +245,17 @@ cut_off_lacks asked seen fails request rest reads =
   where
     no_fault : false ≡ true → ⊥
     no_fault e = cc
+
+-- no byte was fed if and only if none waits and the head comes next
+pub blank_at : (s : RequestStage) (waits seen : List ℕ) → IsFedStage s waits seen
+    → (is_empty waits && is_head s) ≡ is_empty seen
+blank_at (part.Head end) [] seen h = ap is_empty (sym h)
+blank_at (part.Head end) (byte ∷ waits) seen h = ap is_empty (sym h)
+blank_at (part.Body p) waits [] h =
+    absurd (no_request_yet [] refl h.found.reads.tree h.after h.found.reads.reads)
+blank_at (part.Body p) [] (first ∷ seen) h = refl
+blank_at (part.Body p) (byte ∷ waits) (first ∷ seen) h = refl
+blank_at (part.Done told) waits seen h = absurd h
 
 -- a parser that waits for an empty line needs more
 pub awaits_more : (s : RequestStage) (waits seen : List ℕ) → IsFedStage s waits seen

@@ -34,15 +34,14 @@ use Rattle.bg_http_read.proofs.InterimTaken.{final_behind, memory_refuses, skips
 use Rattle.bg_http_read.proofs.ResponseBodies.{end_of, framed_fails, framed_reads}
 
 -- the head was found, and no byte of the body was taken
-pub fed_head : (asked request : Request) (head : ResponseHead) (named : ResponseFraming)
-    (p : ResponseBody) (waits seen : List ℕ) → asked ≡ request
-    → AfterInterim asked seen (IsFinalHead asked head named waits) → p.head ≡ head
+pub fed_head : (request : Request) (head : ResponseHead) (named : ResponseFraming)
+    (p : ResponseBody) (waits seen : List ℕ)
+    → AfterInterim request seen (IsFinalHead request head named waits) → p.head ≡ head
     → p.framing ≡ named → StartsBody named p.body → IsFedBody request p waits seen
-fed_head asked request head named p waits seen same found of_head of_framing starts = record {
+fed_head request head named p waits seen found of_head of_framing starts = record {
   after = waits;
   found = subst (λ n. AfterInterim request seen (IsFinalHead request p.head n waits)) (sym of_framing)
-      (subst (λ h. AfterInterim request seen (IsFinalHead request h named waits)) (sym of_head)
-      (subst (λ r. AfterInterim r seen (IsFinalHead r head named waits)) same found));
+      (subst (λ h. AfterInterim request seen (IsFinalHead request h named waits)) (sym of_head) found);
   start = p.body;
   starts = subst (λ n. StartsBody n p.body) (sym of_framing) starts;
   follows = follows_itself p.body waits;

@@ -5,7 +5,7 @@ use Rattle.bg_http.specs.declared.request.Request.{Request}
 use Rattle.bg_http.specs.declared.request_fault.RequestFault.{RequestFault}
 use Rattle.bg_http.specs.declared.request_fault.RequestFault.TheVariants as fault
 use Rattle.bg_http_read.specs.RequestStates.{FailsAsked, IfWhole, IsReadAsked, IsReadThen, IsRefusedAsked, LacksRequest, OnMore, ReadsAsked, RequestState, goes_on, is_whole}
-use Rattle.bg_http_read.specs.RequestsFed.{AdvancesTo, EndsTo, FedTo, IsAt, IsFedStage, LacksHead, head_after, is_head, was_asked}
+use Rattle.bg_http_read.specs.RequestsFed.{AdvancesTo, EndsTo, FedTo, IsAt, IsFed, IsFedStage, IsShort, LacksHead, head_after, is_head, was_asked}
 use Rattle.bg_http_read.specs.Streams.{waiting}
 use Rattle.bg_http_read.specs.declared.request_feed.RequestFeed.{RequestFeed}
 use Rattle.bg_http_read.specs.declared.request_progress.RequestStage.{RequestStage}
@@ -104,6 +104,29 @@ pub ends_refused : (asked : Bool) (seen : List ℕ) (r : Result Request RequestF
     → EndsTo asked seen r → IfErr r (FailsAsked asked seen)
 ends_refused asked seen (Ok request) h = tt
 ends_refused asked seen (Err e) h = h
+
+-- whatever was asked for before, the result is one of the bytes
+pub ends_with : (asked : Bool) (seen : List ℕ) (r : Result Request RequestFault)
+    → EndsTo asked seen r → IfOk r (λ request. (x : Bool) × ReadsAsked x request seen)
+ends_with asked seen (Ok request) h = (asked, h)
+ends_with asked seen (Err e) h = tt
+
+pub ends_faulty : (asked : Bool) (seen : List ℕ) (r : Result Request RequestFault)
+    → EndsTo asked seen r → IfErr r (λ e. (x : Bool) × FailsAsked x seen e)
+ends_faulty asked seen (Ok request) h = tt
+ends_faulty asked seen (Err e) h = (asked, h)
+
+-- if the bytes have led to no request, they end as the feed says then
+pub ends_behind : (keeps asked : Bool) (seen : List ℕ) (at : RequestStep) (feed : RequestFeed)
+    (r : Result Request RequestFault) → (at ≡ step.More) ⊎ (at ≡ step.Continue)
+    → FedTo keeps asked seen (Ok at) feed
+    → ((all : List ℕ) → IsFed feed all → IsShort feed → EndsTo (was_asked feed.progress.stage) all r)
+    → EndsTo (was_asked feed.progress.stage) seen r
+ends_behind keeps asked seen step.More feed r is (lacks, fed, short, same) ends = ends seen fed short
+ends_behind keeps asked seen step.Continue feed r is (none, owed, fed, short, same) ends =
+    ends seen fed short
+ends_behind keeps asked seen (step.Whole request) feed r (inl more) h ends = cc
+ends_behind keeps asked seen (step.Whole request) feed r (inr more) h ends = cc
 
 -- a complete request was read
 pub fed_whole : (keeps asked : Bool) (seen : List ℕ) (r : Result RequestStep RequestFault)

@@ -3,6 +3,7 @@ use Rattle.std.proofs.Common.{◌≡◌, Bool, true, false, ℕ, zero, suc, ◌�
 use Rattle.std.proofs.lemmas.Bool.Decides.{nat_tests}
 use Rattle.std.proofs.lemmas.List.{append-nil}
 use Rattle.bg_http.specs.Codings.{is_empty}
+use Rattle.bg_http.specs.ResponseRules.{asks_for_head}
 use Rattle.bg_http.specs.declared.request.Request.{Request}
 use Rattle.bg_http.specs.declared.response.Response.{Response}
 use Rattle.bg_http.specs.declared.response_fault.ResponseFault.{ResponseFault}
@@ -47,14 +48,14 @@ drained (suc taken) (byte ∷ bytes) fits =
 
 -- what each part of an answer says
 pub advanced_none_at : (request : Request) (seen left : List ℕ) (parser : ResponseFeed)
-    (found : Option Response) → parser.progress.request.now ≡ request
+    (found : Option Response) → parser.progress.to_head ≡ asks_for_head request
     → AdvancesTo request seen left found parser.progress.stage
     → IfNone found (IsOpenStage parser.progress.stage) → waiting parser.intake ≡ left
     → IfNone found (IsFed parser request seen × NeedsMore request seen)
 advanced_none_at request seen left parser (Some response) asked h goes_on waits = tt
 advanced_none_at request seen left parser None asked h goes_on waits = (
   record {
-    request_is = asked;
+    to_head_is = asked;
     stage_is = subst (λ w. IsFedStage request parser.progress.stage w seen) (sym waits) h.0;
   },
   fed_needs_more request parser.progress.stage left seen h.0 goes_on h.1,
@@ -80,16 +81,16 @@ read_here request response seen left h =
     subst (ReadsResponse request response) (append-nil seen) (read_to_end request response seen left h [])
 
 -- if more bytes are needed, only the bytes that came have changed
-pub fed_more : (state : ResponseState) (seen came : List ℕ)
+pub fed_more : (state : ResponseState) (request : Request) (seen came : List ℕ)
     (r : Result (Option ReceivedResponse) ResponseFault) (feed : ResponseFeed) (is_open : Bool)
-    → came ≡ seen → is_open ≡ asks_more r → state.is_open ≡ true
+    → request ≡ state.request → came ≡ seen → is_open ≡ asks_more r → state.is_open ≡ true
     → IfOk r (λ found. IfNone found (IsFed feed state.request seen × NeedsMore state.request seen))
     → IfOk r (λ found. IfNone found
-    ((response_state feed.progress.request.now came is_open ≡ record state { seen = seen })
+    ((response_state request came is_open ≡ record state { seen = seen })
     × NeedsMore state.request seen))
-fed_more state seen came (Ok None) feed is_open same goes was h = (
-  same_response feed.progress.request.now state.request came seen is_open state.is_open h.0.request_is same (goes ∙ sym was),
+fed_more state request seen came (Ok None) feed is_open asked same goes was h = (
+  same_response request state.request came seen is_open state.is_open asked same (goes ∙ sym was),
   h.1,
 )
-fed_more state seen came (Ok (Some received)) feed is_open same goes was h = tt
-fed_more state seen came (Err e) feed is_open same goes was h = tt
+fed_more state request seen came (Ok (Some received)) feed is_open asked same goes was h = tt
+fed_more state request seen came (Err e) feed is_open asked same goes was h = tt

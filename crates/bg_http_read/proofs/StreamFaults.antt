@@ -4,8 +4,7 @@ use Rattle.std.specs.Result.{IsErrAnd}
 use Rattle.bg_http.specs.Codings.{codings}
 use Rattle.bg_http.specs.Elements.{has_field}
 use Rattle.bg_http.specs.Lengths.{Length, absent, is, wrong, content_length, number_within}
-use Rattle.bg_http.specs.ResponseRules.{response_framing, framing_by_codings, framing_by_length, or_too_large, is_bad_code, is_interim, has_no_body, is_chunked_only}
-use Rattle.bg_http.specs.declared.request.Request.{Request}
+use Rattle.bg_http.specs.ResponseRules.{framing_for, framing_by_codings, framing_by_length, or_too_large, is_bad_code, is_interim, lacks_body, is_chunked_only}
 use Rattle.bg_http.specs.declared.response.ResponseHead.{ResponseHead}
 use Rattle.bg_http.specs.declared.response_fault.ResponseFault.{ResponseFault}
 use Rattle.bg_http.specs.declared.response_fault.ResponseFault.TheVariants as fault
@@ -45,15 +44,15 @@ by_length absent = tt
 by_length (is digits) = by_size (number_within 4194304 digits)
 by_length wrong = refl
 
-judged : (request : Request) (head : ResponseHead) → IsOfBytes (response_framing request head)
-judged request head =
-    of_rules (is_bad_code head.code) (is_interim head.code) (has_no_body request head.code)
+judged : (to_head : Bool) (head : ResponseHead) → IsOfBytes (framing_for to_head head)
+judged to_head head =
+    of_rules (is_bad_code head.code) (is_interim head.code) (lacks_body to_head head.code)
     (has_field (codes "transfer-encoding") head.fields) (framing_by_codings head)
     (framing_by_length (content_length head.fields))
     (by_coding (not (head.minor == 0) && is_chunked_only (codings head.fields)))
     (by_length (content_length head.fields))
 
 -- the rules of heads give no fault of the stream
-pub judged_of_bytes : (request : Request) (head : ResponseHead) (e : ResponseFault)
-    → response_framing request head ≡ Err e → IsFalse (is_of_stream e)
-judged_of_bytes request head e h = subst IsOfBytes h (judged request head)
+pub judged_of_bytes : (to_head : Bool) (head : ResponseHead) (e : ResponseFault)
+    → framing_for to_head head ≡ Err e → IsFalse (is_of_stream e)
+judged_of_bytes to_head head e h = subst IsOfBytes h (judged to_head head)

@@ -1,5 +1,6 @@
 -- The bytes of a response that were fed, and those that are still to be read.
 use Rattle.std.specs.Prelude.{◌≡◌, false, IsFalse, ℕ, ◌≤◌, List, [], drop, Option, Some, None, Result, Ok, Err, ⊤}
+use Rattle.bg_http.specs.ResponseRules.{asks_for_head}
 use Rattle.bg_http.specs.declared.request.Request.{Request}
 use Rattle.bg_http.specs.declared.response.Response.{Response}
 use Rattle.bg_http.specs.declared.response_fault.ResponseFault.{ResponseFault}
@@ -93,7 +94,7 @@ AwaitsHead part.Done = ⊥
 
 -- these bytes of the response to the request were fed, one piece after the other
 pub record IsFed (feed : ResponseFeed) (request : Request) (seen : List ℕ) : Type 0 where
-  pub request_is : feed.progress.request.now ≡ request
+  pub to_head_is : feed.progress.to_head ≡ asks_for_head request
   pub stage_is : IsFedStage request feed.progress.stage (waiting feed.intake) seen
 
 abbrev pub IsOpenStage : ResponseStage → Type 0

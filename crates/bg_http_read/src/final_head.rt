@@ -1,6 +1,8 @@
 //! The search for the head of the final response as the bytes arrive.
 ghost use Rattle.std.specs.Prelude.{◌≡◌, ◌≤◌, ◌||◌, List, ℕ, IfErr, IfOk, IfNone, IfSome, IsFalse};
 ghost use Rattle.std.specs.Prelude.{drop, length, nat_le};
+ghost use Rattle.bg_http.specs.ResponseRules.{asks_for_head};
+ghost use Rattle.bg_http.specs.declared.request.Request.{Request as RequestValue};
 ghost use Rattle.bg_http_read.specs.HeadEnds.{after_bytes, is_over};
 ghost use Rattle.bg_http_read.specs.Heads.{HeadIsCut, response_heads};
 ghost use Rattle.bg_http_read.specs.Responses.{AfterInterim, IsFinalHead, SkipsInterim, names_another};
@@ -12,7 +14,7 @@ use crate::head_end::HeadEnd;
 use crate::head_limits::MOST_HEAD;
 use crate::intake::behind;
 use crate::parsed_head::find_head;
-use bg_http::{Request, ResponseFault, ResponseFraming, ResponseHead, judge_response};
+use bg_http::{ResponseFault, ResponseFraming, ResponseHead, judge_response};
 use std::alloc::Global;
 
 /// The maximum number of interim responses that are accepted.
@@ -81,30 +83,34 @@ impl HeadSearch {
     }
 
     /// Takes interim responses and the head after them from the front of the bytes, and judges it.
+    /// `to_head` says whether the method of the request is HEAD.
     pub(crate) fn take_from(
         &mut self,
         alloc: Global,
-        request: &Request,
+        to_head: bool,
         bytes: &[u8],
     ) -> Result<HeadFound, ResponseFault>
         requires { IsReady self.old }
         ensures fits { IfOk result (λ found. found.taken ≤ length bytes.now) }
-        ensures head { (seen : List ℕ)
-            → SkipsInterim request.now self.old.interim seen bytes.now
-            → IfOk result (λ found. IfSome found.head (λ at. AfterInterim request.now seen
-            (IsFinalHead request.now at.0 at.1 (drop found.taken bytes.now)))) }
-        ensures none_yet { (seen : List ℕ)
-            → SkipsInterim request.now self.old.interim seen bytes.now
+        ensures head { (request : RequestValue) (seen : List ℕ)
+            → to_head ≡ asks_for_head request
+            → SkipsInterim request self.old.interim seen bytes.now
+            → IfOk result (λ found. IfSome found.head (λ at. AfterInterim request seen
+            (IsFinalHead request at.0 at.1 (drop found.taken bytes.now)))) }
+        ensures none_yet { (request : RequestValue) (seen : List ℕ)
+            → to_head ≡ asks_for_head request
+            → SkipsInterim request self.old.interim seen bytes.now
             → IfOk result (λ found. IfNone found.head
-            (SkipsInterim request.now self.new.interim seen (drop found.taken bytes.now))) }
+            (SkipsInterim request self.new.interim seen (drop found.taken bytes.now))) }
         ensures cut_off { IfOk result (λ found. IfNone found.head
             (HeadIsCut response_heads (drop found.taken bytes.now))) }
         ensures ready { IfOk result (λ found. IfNone found.head (IsReady self.new)) }
         ensures end { IfOk result (λ found. IfNone found.head
             (self.new.end ≡ after_bytes head_end.Blank (drop found.taken bytes.now))) }
-        ensures refused { (seen : List ℕ)
-            → SkipsInterim request.now self.old.interim seen bytes.now
-            → IfErr result (λ fault. IsRefused request.now fault seen) }
+        ensures refused { (request : RequestValue) (seen : List ℕ)
+            → to_head ≡ asks_for_head request
+            → SkipsInterim request self.old.interim seen bytes.now
+            → IfErr result (λ fault. IsRefused request fault seen) }
         ensures fault { IfErr result (λ fault. IsFalse (is_of_stream fault)) }
     {
         let mut taken = 0;
@@ -116,7 +122,7 @@ impl HeadSearch {
                 return Ok(HeadFound { head: None, taken });
             };
             taken += count;
-            let framing = judge_response(request, &head)?;
+            let framing = judge_response(to_head, &head)?;
             if !names_another(framing) {
                 return Ok(HeadFound {
                     head: Some((head, framing)),

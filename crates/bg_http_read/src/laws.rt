@@ -9,7 +9,8 @@ ghost use Rattle.bg_http_read.specs.AnsweredRequests.{Answering, AreReadAsAnswer
 ghost use Rattle.bg_http_read.specs.ForwardedRequests.{AreReadAsForwarded, Forwarding};
 ghost use Rattle.bg_http_read.specs.Laws.{HasOneFault, HasOneResponseFault, StaysAtFault};
 ghost use Rattle.bg_http_read.specs.Laws.{RequestExcludesFaults, ResponseExcludesFaults};
-ghost use Rattle.bg_http_read.specs.Requests.{ReadsRequest};
+ghost use Rattle.bg_http_read.specs.RequestStates.{FailsAsked};
+ghost use Rattle.bg_http_read.specs.Requests.{ReadsRequest, RequestFails};
 ghost use Rattle.bg_http_read.specs.Responses.{ReadsResponseThen};
 ghost use Rattle.bg_http_read.specs.Sequences.{AddsRequest, AddsResponse, AreRequestsOf, AreResponsesOf};
 ghost use Rattle.bg_http_read.specs.Sequences.{HasOneEnd, HasOneSequence, HasOneSequenceOfAnswers};
@@ -82,6 +83,15 @@ pub fn a_stream_gives_the_sequence()
         → AreRequestsOf requests came since → AreRequestsOf requests (came ++ more) (since ++ more) }
     ensures request { (asked : Bool) (requests : List Request) (request : Request)
         (came since left : List ℕ) → AddsRequest asked requests request came since left }
+{}
+
+/// A fault that a parser or a stream gives at the end of its input, whether `100 Continue` was asked
+/// for or not, is one that `read_request` gives for the same bytes. So the end of a connection means
+/// one thing, in whatever pieces its bytes came: no fault of the input if they begin with a request
+/// (`a_request_has_no_fault`), and otherwise at most one (`a_request_has_one_fault`).
+pub fn the_end_gives_a_fault_of_the_input()
+    ensures { (asked : Bool) (input : List ℕ) (fault : RequestFault)
+        → FailsAsked asked input fault → RequestFails input fault }
 {}
 
 /// What waits behind a request is an end of the bytes that came after the parser or stream last said

@@ -6,6 +6,7 @@ mod arrival;
 mod body;
 mod chunk_lines;
 mod final_head;
+mod ghost_request;
 mod head_end;
 mod head_limits;
 mod in_memory;

@@ -1,6 +1,7 @@
 //! The progress of reading a request, with the bytes that wait.
 ghost use Rattle.std.specs.Prelude.{◌≡◌, ◌++◌, [], Bool, false, List, ℕ, IfErr, IfOk, IsFalse, None};
 ghost use Rattle.std.specs.Io.KnownBytes.{Keeps};
+ghost use Rattle.bg_http.specs.Codings.{is_empty};
 ghost use Rattle.bg_http.specs.declared.request_fault.RequestFault.TheVariants as request_fault;
 ghost use Rattle.bg_http_read.specs.RefusedHeads.{TellsHead};
 ghost use Rattle.bg_http_read.specs.RequestStates.{IfWhole, is_of_stream};
@@ -90,6 +91,13 @@ impl RequestFeed {
         ensures asked { was_asked self.new.progress.stage ≡ false }
     {
         self.progress.begin_with(self.intake.get());
+    }
+
+    /// Whether no byte of the request was fed.
+    pub(crate) fn is_blank(&self) -> bool
+        ensures { (seen : List ℕ) → IsFed self.now seen → result ≡ is_empty seen }
+    {
+        self.intake.is_empty() && self.progress.awaits_head()
     }
 
     /// The bytes that wait.

@@ -6,7 +6,7 @@ ghost use Rattle.bg_http_read.specs.Bodies.{KeepsLimit};
 ghost use Rattle.bg_http_read.specs.RefusedHeads.{TellsHead};
 ghost use Rattle.bg_http_read.specs.RequestStates.{IfWhole, is_of_stream};
 ghost use Rattle.bg_http_read.specs.RequestsFed.{Advances, AwaitsHead, IsAt, IsFedBody, IsFedStage};
-ghost use Rattle.bg_http_read.specs.RequestsFed.{IsOpenStage, LacksHead, known_head, stage_seen, was_asked};
+ghost use Rattle.bg_http_read.specs.RequestsFed.{IsOpenStage, LacksHead, is_head, known_head, stage_seen, was_asked};
 ghost use Rattle.bg_http_read.specs.Streams.{SeesStraight};
 ghost use Rattle.bg_http.specs.RequestRules.{owes_continue as owed};
 ghost use Rattle.bg_http_read.specs.declared.head_end.HeadEnd.TheVariants as end;
@@ -71,6 +71,16 @@ impl RequestProgress {
         ensures asked { was_asked self.new.stage ≡ false }
     {
         self.stage = RequestStage::Head(HeadEnd::of(waiting));
+    }
+
+    /// Whether the head comes next.
+    pub(crate) fn awaits_head(&self) -> bool
+        ensures { result ≡ is_head self.now.stage }
+    {
+        match &self.stage {
+            RequestStage::Head(_) => true,
+            RequestStage::Body(_) | RequestStage::Done(_) => false,
+        }
     }
 
     /// More bytes wait.

@@ -1,12 +1,15 @@
 //! The requests of a connection, one after the other.
-ghost use Rattle.std.specs.Prelude.{◌≡◌, ◌++◌, [], false, true, is_ok, IfErr, IfOk, IsFalse, IsTrue};
-ghost use Rattle.bg_http_read.specs.RequestStates.{IfWhole, IsReadThen, IsRefusedAsked, LacksRequest};
-ghost use Rattle.bg_http_read.specs.RequestStates.{OnContinue, OnMore, OwesContinue, is_of_stream};
+ghost use Rattle.std.specs.Prelude.{◌≡◌, ◌++◌, [], Bool, false, true, is_ok, IfErr, IfOk, IsFalse, IsTrue};
+ghost use Rattle.std.specs.Prelude.{IfNone, IfSome, None, Ok};
+ghost use Rattle.bg_http.specs.declared.request_fault.RequestFault.TheVariants as request_fault;
+ghost use Rattle.bg_http_read.specs.RequestStates.{FailsAsked, IfWhole, IsReadThen, IsRefusedAsked};
+ghost use Rattle.bg_http_read.specs.RequestStates.{LacksRequest, OnContinue, OnMore, OwesContinue};
+ghost use Rattle.bg_http_read.specs.RequestStates.{ReadsAsked, is_of_stream};
 
 use crate::request_feed::RequestFeed;
 use crate::request_step::RequestStep;
 use crate::seen::Seen;
-use bg_http::RequestFault;
+use bg_http::{Request, RequestFault};
 use std::alloc::Global;
 use std::marker::Model;
 
@@ -99,6 +102,50 @@ impl RequestStream {
                 self.is_open = false;
                 Err(fault)
             }
+        }
+    }
+
+    /// The end of the connection: `None` if no byte came since the end of the last request, so that
+    /// there is no further one. Otherwise the request that the bytes since then begin with, or the
+    /// fault of an input that consists of these bytes, as `RequestParser::end` gives it: Closed, a
+    /// fault that was not reported yet, or OutOfMemory.
+    ///
+    /// What waits behind the request is dropped. So a caller that wants all requests ends the stream
+    /// only after `More`.
+    pub fn end(mut self) -> Result<Option<Request>, RequestFault>
+        requires { IsTrue self.is_open }
+        ensures blank { self.since ≡ [] → result ≡ Ok None }
+        ensures none { IfOk result (λ found. IfNone found (self.since ≡ [])) }
+        ensures request { IfOk result (λ found. IfSome found (λ request.
+            (asked : Bool) × ReadsAsked asked request self.since)) }
+        ensures refused { IfErr result (λ fault. (asked : Bool) × FailsAsked asked self.since fault) }
+        ensures read { IfErr result (λ fault. ¬ (fault ≡ request_fault.ReadFailed)) }
+        ensures write { IfErr result (λ fault. ¬ (fault ≡ request_fault.WriteFailed)) }
+    {
+        if self.feed.is_blank() {
+            return Ok(None);
+        }
+        match self.finish() {
+            Ok(request) => Ok(Some(request)),
+            Err(fault) => Err(fault),
+        }
+    }
+
+    /// As `end`, if bytes came since the end of the last request.
+    fn finish(&mut self) -> Result<Request, RequestFault>
+        requires { IsTrue self.old.is_open }
+        ensures request { IfOk result (λ request.
+            (asked : Bool) × ReadsAsked asked request self.old.since) }
+        ensures refused { IfErr result (λ fault.
+            (asked : Bool) × FailsAsked asked self.old.since fault) }
+        ensures read { IfErr result (λ fault. ¬ (fault ≡ request_fault.ReadFailed)) }
+        ensures write { IfErr result (λ fault. ¬ (fault ≡ request_fault.WriteFailed)) }
+    {
+        self.is_open = false;
+        let step = self.feed.feed(&[], true)?;
+        match step {
+            RequestStep::Whole(request) => Ok(request),
+            RequestStep::More | RequestStep::Continue => self.feed.end(),
         }
     }
 }

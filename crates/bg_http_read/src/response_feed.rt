@@ -1,6 +1,7 @@
 //! The progress of reading a response, with the bytes that wait.
 ghost use Rattle.std.specs.Prelude.{◌≡◌, ◌++◌, [], List, ℕ, IfErr, IfOk, IfNone, IfSome, IsFalse};
 ghost use Rattle.std.specs.Io.KnownBytes.{Keeps};
+ghost use Rattle.bg_http.specs.ResponseRules.{asks_for_head};
 ghost use Rattle.bg_http.specs.declared.request.Request.{Request as RequestValue};
 ghost use Rattle.bg_http.specs.declared.response_fault.ResponseFault.TheVariants as response_fault;
 ghost use Rattle.bg_http_read.specs.Responses.{ReadsResponse, ResponseFails};
@@ -15,27 +16,29 @@ use crate::intake::{Intake, behind};
 use crate::received_response::ReceivedResponse;
 use crate::response_progress::{Advance, ResponseProgress};
 use crate::seen::Seen;
-use bg_http::{Duplex, Request, Response, ResponseFault};
+use bg_http::{Duplex, Response, ResponseFault};
 use std::alloc::Global;
 
 /// The progress of reading a response, with the bytes that wait. Its contracts speak of all bytes
 /// that were fed, which are not stored.
 #[derive(Drop)]
-pub(crate) struct ResponseFeed<'a> {
+pub(crate) struct ResponseFeed {
     /// The bytes that were fed and not yet taken.
     intake: Intake,
-    progress: ResponseProgress<'a>,
+    progress: ResponseProgress,
 }
 
-impl<'a> ResponseFeed<'a> {
-    /// The state before the first byte of the response to `request`.
-    pub(crate) fn new(alloc: Global, request: &'a Request) -> ResponseFeed<'a>
-        ensures fed { IsFed result request.now [] }
+impl ResponseFeed {
+    /// The state before the first byte of the response to a request. `to_head` says whether the
+    /// method of the request is HEAD.
+    pub(crate) fn new(alloc: Global, to_head: bool) -> ResponseFeed
+        ensures fed { (request : RequestValue) → to_head ≡ asks_for_head request
+            → IsFed result request [] }
         ensures goes_on { IsOpen result }
     {
         ResponseFeed {
             intake: Intake::new(alloc),
-            progress: ResponseProgress::new(alloc, request),
+            progress: ResponseProgress::new(alloc, to_head),
         }
     }
 
@@ -73,7 +76,6 @@ impl<'a> ResponseFeed<'a> {
         ensures fed { (request : RequestValue) → IsFed self.old request seen.old.bytes
             → IsFed self.new request seen.new.bytes }
         ensures goes_on { IsOpen self.new }
-        ensures request { self.new.progress.request.now ≡ self.old.progress.request.now }
     {
         if !self.intake.is_empty() {
             return Straight::Unread;

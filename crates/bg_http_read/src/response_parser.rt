@@ -9,27 +9,30 @@ ghost use Rattle.bg_http_read.specs.ResponseStates.{asks_more, is_of_stream};
 ghost use Rattle.bg_http_read.specs.Streams.{Arrives};
 
 use crate::arrival::{Arrival, Straight};
+use crate::ghost_request::GhostRequest;
 use crate::intake::read_line_piece;
 use crate::received_response::ReceivedResponse;
 use crate::response_feed::ResponseFeed;
 use crate::seen::Seen;
-use bg_http::{Duplex, Request, Response, ResponseFault};
+use bg_http::{Duplex, Request, Response, ResponseFault, asks_for_head};
 use std::alloc::Global;
 use std::marker::Model;
 
 /// A parser of a response. It is fed the bytes of the input as they arrive (RFC 9112). The result
 /// does not depend on how the input is cut into pieces.
-pub struct ResponseParser<'a> {
-    feed: ResponseFeed<'a>,
+pub struct ResponseParser {
+    feed: ResponseFeed,
+    request: GhostRequest,
     seen: Seen,
     is_open: bool,
 }
 
-impl Drop for ResponseParser<'_> {
+impl Drop for ResponseParser {
     /// Drops the fields by one call, so that the proofs of what owns a value are short (CONTRIBUTING.md, "What a check costs").
     fn drop(self) {
         let ResponseParser {
             feed: _,
+            request: _,
             seen: _,
             is_open: _,
         } = self;
@@ -46,7 +49,7 @@ fn asks_more(answer: &Result<Option<ReceivedResponse>, ResponseFault>) -> bool
     }
 }
 
-impl<'a> Model for ResponseParser<'a> {
+impl Model for ResponseParser {
     ghost use Rattle.std.specs.Prelude.{IsTrue};
     ghost use Rattle.bg_http_read.specs.ResponseStates.{ResponseState};
 
@@ -55,23 +58,25 @@ impl<'a> Model for ResponseParser<'a> {
     ghost use Rattle.bg_http_read.specs.ResponsesFed.{IsFed, IsOpen};
 
     ghost view = { λ parser. record {
-      request = parser.feed.progress.request.now;
+      request = parser.request.value;
       seen = parser.seen.bytes;
       is_open = parser.is_open;
     } };
 
     ghost invariant = { λ parser. IsTrue parser.is_open
-        → IsFed parser.feed parser.feed.progress.request.now parser.seen.bytes
+        → IsFed parser.feed parser.request.value parser.seen.bytes
         × IsOpen parser.feed };
 }
 
-impl<'a> ResponseParser<'a> {
-    /// The state before the first byte of the response to `request`.
-    pub fn new(alloc: Global, request: &'a Request) -> ResponseParser<'a>
+impl ResponseParser {
+    /// The state before the first byte of the response to `request`. Keeps of the request only whether
+    /// its method is HEAD.
+    pub fn new(alloc: Global, request: &Request) -> ResponseParser
         ensures { result ≡ record { request = request.now; seen = []; is_open = true } }
     {
         ResponseParser {
-            feed: ResponseFeed::new(alloc, request),
+            feed: ResponseFeed::new(alloc, asks_for_head(request)),
+            request: GhostRequest::of(request),
             seen: Seen::new(),
             is_open: true,
         }
@@ -154,9 +159,9 @@ impl<'a> ResponseParser<'a> {
     pub fn end(mut self) -> Result<Response, ResponseFault>
         requires { IsTrue self.is_open }
         ensures response { IfOk result (λ response.
-            ReadsResponse self.entry.request response self.entry.seen) }
+            ReadsResponse self.request response self.seen) }
         ensures refused { IfErr result (λ fault.
-            ResponseFails self.entry.request self.entry.seen fault) }
+            ResponseFails self.request self.seen fault) }
         ensures fault { IfErr result (λ fault. ¬ (fault ≡ response_fault.ReadFailed)) }
     {
         self.finish()

@@ -1,6 +1,7 @@
 //! The progress of reading a response.
 ghost use Rattle.std.specs.Prelude.{◌≡◌, ◌≤◌, [], List, ℕ, IfErr, IfOk, IfNone, IsFalse, drop, length};
 ghost use Rattle.std.specs.Io.KnownBytes.{Keeps};
+ghost use Rattle.bg_http.specs.ResponseRules.{asks_for_head};
 ghost use Rattle.bg_http.specs.declared.request.Request.{Request as RequestValue};
 ghost use Rattle.bg_http.specs.declared.response_fault.ResponseFault.TheVariants as response_fault;
 ghost use Rattle.bg_http_read.specs.Bodies.{KeepsLimit};
@@ -16,7 +17,7 @@ use crate::final_head::{HeadFound, HeadSearch};
 use crate::intake::behind;
 use crate::response_body::ResponseBody;
 use crate::seen::Seen;
-use bg_http::{Duplex, Request, Response, ResponseFault};
+use bg_http::{Duplex, Response, ResponseFault};
 use std::alloc::Global;
 use std::mem;
 
@@ -40,21 +41,22 @@ pub(crate) struct Advance {
 
 /// The progress of reading the response to a request.
 #[derive(Drop)]
-pub(crate) struct ResponseProgress<'a> {
+pub(crate) struct ResponseProgress {
     alloc: Global,
-    request: &'a Request,
+    /// Whether the method of the request is HEAD.
+    to_head: bool,
     stage: ResponseStage,
 }
 
-impl<'a> ResponseProgress<'a> {
+impl ResponseProgress {
     /// The state before the first byte.
-    pub(crate) fn new(alloc: Global, request: &'a Request) -> ResponseProgress<'a>
-        ensures request { result.request.now ≡ request.now }
+    pub(crate) fn new(alloc: Global, to_head: bool) -> ResponseProgress
+        ensures to_head { result.to_head ≡ to_head }
         ensures stage { Starts result.stage }
     {
         ResponseProgress {
             alloc,
-            request,
+            to_head,
             stage: ResponseStage::Heads(HeadSearch::new()),
         }
     }
@@ -62,7 +64,7 @@ impl<'a> ResponseProgress<'a> {
     /// More bytes wait.
     pub(crate) fn see(&mut self, bytes: &[u8])
         ensures stage { self.new.stage ≡ stage_seen self.old.stage bytes.now }
-        ensures request { self.new.request.now ≡ self.old.request.now }
+        ensures to_head { self.new.to_head ≡ self.old.to_head }
     {
         if let ResponseStage::Heads(search) = &mut self.stage {
             search.see(bytes);
@@ -99,7 +101,7 @@ impl<'a> ResponseProgress<'a> {
             → IsFedStage request self.new.stage [] seen.new.bytes }
         ensures goes_on { IsOpenStage self.new.stage }
         ensures sees { IsSeen self.old.stage [] → IsSeen self.new.stage [] }
-        ensures request { self.new.request.now ≡ self.old.request.now }
+        ensures to_head { self.new.to_head ≡ self.old.to_head }
     {
         match &mut self.stage {
             ResponseStage::Body(part) => part.body.read_from(stream, seen),
@@ -112,14 +114,14 @@ impl<'a> ResponseProgress<'a> {
         requires { IsOpenStage self.old.stage }
         ensures fits { IfOk result (λ advance. advance.taken ≤ length bytes.now) }
         ensures answer { (request : RequestValue) (seen : List ℕ)
-            → self.old.request.now ≡ request → IsFedStage request self.old.stage bytes.now seen
+            → self.old.to_head ≡ asks_for_head request → IsFedStage request self.old.stage bytes.now seen
             → Advances request seen bytes.now result self.new.stage }
         ensures fault { IfErr result (λ fault. IsFalse (is_of_stream fault)) }
         ensures goes_on { IfOk result (λ advance. IfNone advance.response
             (IsOpenStage self.new.stage)) }
         ensures sees { IfOk result (λ advance. IfNone advance.response
             (IsSeen self.new.stage (drop advance.taken bytes.now))) }
-        ensures request { self.new.request.now ≡ self.old.request.now }
+        ensures to_head { self.new.to_head ≡ self.old.to_head }
     {
         match mem::replace(&mut self.stage, ResponseStage::Done) {
             ResponseStage::Heads(search) => self.advance_head(search, bytes),
@@ -137,7 +139,7 @@ impl<'a> ResponseProgress<'a> {
         requires { IsReady search }
         ensures fits { IfOk result (λ advance. advance.taken ≤ length bytes.now) }
         ensures answer { (request : RequestValue) (seen : List ℕ)
-            → self.old.request.now ≡ request
+            → self.old.to_head ≡ asks_for_head request
             → SkipsInterim request search.interim seen bytes.now
             → Advances request seen bytes.now result self.new.stage }
         ensures fault { IfErr result (λ fault. IsFalse (is_of_stream fault)) }
@@ -145,9 +147,9 @@ impl<'a> ResponseProgress<'a> {
             (IsOpenStage self.new.stage)) }
         ensures sees { IfOk result (λ advance. IfNone advance.response
             (IsSeen self.new.stage (drop advance.taken bytes.now))) }
-        ensures request { self.new.request.now ≡ self.old.request.now }
+        ensures to_head { self.new.to_head ≡ self.old.to_head }
     {
-        let HeadFound { head, taken } = search.take_from(self.alloc, self.request, bytes)?;
+        let HeadFound { head, taken } = search.take_from(self.alloc, self.to_head, bytes)?;
         let Some((head, framing)) = head else {
             self.stage = ResponseStage::Heads(search);
             return Ok(Advance {
@@ -172,7 +174,7 @@ impl<'a> ResponseProgress<'a> {
         requires place { at ≤ length bytes.now }
         ensures fits { IfOk result (λ advance. advance.taken ≤ length bytes.now) }
         ensures answer { (request : RequestValue) (seen : List ℕ)
-            → self.old.request.now ≡ request
+            → self.old.to_head ≡ asks_for_head request
             → IsFedBody request part (drop at bytes.now) seen
             → Advances request seen bytes.now result self.new.stage }
         ensures fault { IfErr result (λ fault. IsFalse (is_of_stream fault)) }
@@ -180,7 +182,7 @@ impl<'a> ResponseProgress<'a> {
             (IsOpenStage self.new.stage)) }
         ensures sees { IfOk result (λ advance. IfNone advance.response
             (IsSeen self.new.stage (drop advance.taken bytes.now))) }
-        ensures request { self.new.request.now ≡ self.old.request.now }
+        ensures to_head { self.new.to_head ≡ self.old.to_head }
     {
         let taken = at + part.body.take_from(behind(bytes, at))?;
         if !part.body.is_whole() {

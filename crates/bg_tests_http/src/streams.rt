@@ -56,6 +56,12 @@ impl OpenStream {
             step,
         })
     }
+
+    /// [`RequestStream::end`].
+    fn end(self) -> Result<Option<Request>, RequestFault> {
+        let OpenStream { stream } = self;
+        stream.end()
+    }
 }
 
 /// What a connection has given: its requests as they are forwarded on one kept connection, one after the other, and how
@@ -95,7 +101,7 @@ fn feed_piece(
     Err(RequestFault::ReadFailed)
 }
 
-/// Feeds all bytes in pieces of a size, at least one byte each. The fault of the stream, if it gives one.
+/// Feeds all bytes in pieces of a size, at least one byte each, and ends the stream. Its fault, if it gives one.
 fn feed_all(
     alloc: Global,
     input: &[u8],
@@ -106,14 +112,17 @@ fn feed_all(
     for piece in input.chunks(size.max(1)) {
         stream = feed_piece(stream, piece, given)?;
     }
-    Ok(())
+    match stream.end()? {
+        Some(request) => given.add(&request),
+        None => Ok(()),
+    }
 }
 
 /// The name of a connection, its bytes, its requests as they are forwarded, how often `100 Continue` is owed, and its
 /// fault.
 type Row<'a> = (&'a str, &'a [u8], &'a [u8], u32, Option<RequestFault>);
 
-static CONNECTIONS: [Row<'static>; 8] = [
+static CONNECTIONS: [Row<'static>; 9] = [
     ("no byte", b"", b"", 0, None),
     (
         "two requests",
@@ -148,7 +157,14 @@ static CONNECTIONS: [Row<'static>; 8] = [
         b"GET /a HTTP/1.1\r\nHost: x\r\n\r\nPOST /b HTTP/1.1\r\nHost: x\r\nContent-Length: 3\r\n\r\nhi",
         b"GET /a HTTP/1.1\r\nHost: x\r\nVia: 1.1 bg-switch\r\n\r\n",
         0,
-        None,
+        Some(RequestFault::Closed),
+    ),
+    (
+        "a request that ends within its head",
+        b"GET /a HTTP/1.1\r\nHost: x\r\n\r\nGET /b HTTP/1.1\r\nHo",
+        b"GET /a HTTP/1.1\r\nHost: x\r\nVia: 1.1 bg-switch\r\n\r\n",
+        0,
+        Some(RequestFault::Closed),
     ),
     (
         "a fault behind a request",

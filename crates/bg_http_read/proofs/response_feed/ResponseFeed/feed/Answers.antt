@@ -12,18 +12,18 @@ returns-in-Ok-clause-response c request seen fed =
     let old = c.args.self.now in
     let bytes = c.args.bytes.now in
     let added = fed_added request old.progress.stage (waiting old.intake) (waiting c.add.new.self) seen bytes fed.stage_is c.in-Ok.ensures.added in
-    c.look.ensures.response request (seen ++ bytes) (record { request_is = fed.request_is; stage_is = added })
+    c.look.ensures.response request (seen ++ bytes) (record { to_head_is = fed.to_head_is; stage_is = added })
 
 pub returns-in-Ok-clause-none_yet : goal.returns-in-Ok-clause-none_yet
 returns-in-Ok-clause-none_yet c request seen fed =
     let old = c.args.self.now in
     let bytes = c.args.bytes.now in
     let added = fed_added request old.progress.stage (waiting old.intake) (waiting c.add.new.self) seen bytes fed.stage_is c.in-Ok.ensures.added in
-    c.look.ensures.none_yet request (seen ++ bytes) (record { request_is = fed.request_is; stage_is = added })
+    c.look.ensures.none_yet request (seen ++ bytes) (record { to_head_is = fed.to_head_is; stage_is = added })
 
 pub returns-in-Ok-clause-refused : goal.returns-in-Ok-clause-refused
 returns-in-Ok-clause-refused c request seen fed =
     let old = c.args.self.now in
     let bytes = c.args.bytes.now in
     let added = fed_added request old.progress.stage (waiting old.intake) (waiting c.add.new.self) seen bytes fed.stage_is c.in-Ok.ensures.added in
-    c.look.ensures.refused request (seen ++ bytes) (record { request_is = fed.request_is; stage_is = added })
+    c.look.ensures.refused request (seen ++ bytes) (record { to_head_is = fed.to_head_is; stage_is = added })

@@ -14,7 +14,7 @@ returns-in_err-response-clause-refused c request seen fed =
     let bytes = c.args.bytes.now in
     let e = c.in_err-response.field-0.0 in
     if_err_is (λ fault. IsRefused request fault (seen ++ bytes)) c.from_residual.result e c.from_residual.ensures.1
-    (c.in_err-response.ensures.answer request (seen ++ bytes) fed.request_is
+    (c.in_err-response.ensures.answer request (seen ++ bytes) fed.to_head_is
     (fed_first request old.progress.stage (waiting old.intake) seen bytes fed.stage_is c.requires.empty))
 
 pub returns-in-Some-clause-response : goal.returns-in-Some-clause-response
@@ -23,7 +23,7 @@ returns-in-Some-clause-response c request seen fed =
     let bytes = c.args.bytes.now in
     let taken = c.in_ok-response.field-0.taken in (
       drop taken bytes,
-      rw c.in-Some.is at c.in_ok-response.ensures.answer request (seen ++ bytes) fed.request_is
+      rw c.in-Some.is at c.in_ok-response.ensures.answer request (seen ++ bytes) fed.to_head_is
           (fed_first request old.progress.stage (waiting old.intake) seen bytes fed.stage_is c.requires.empty),
       drained taken bytes c.in_ok-response.ensures.fits,
     )
@@ -34,12 +34,12 @@ returns-in-Ok-clause-none_yet c request seen fed =
     let bytes = c.args.bytes.now in
     let stage = c.advance.new.self.stage in
     let left = drop c.in_ok-response.field-0.taken bytes in
-    let answer = rw c.in-None.is at c.in_ok-response.ensures.answer request (seen ++ bytes) fed.request_is
+    let answer = rw c.in-None.is at c.in_ok-response.ensures.answer request (seen ++ bytes) fed.to_head_is
     (fed_first request old.progress.stage (waiting old.intake) seen bytes fed.stage_is c.requires.empty) in
     let goes_on = rw c.in-None.is at c.in_ok-response.ensures.goes_on in
     let waits = c.in-Ok.ensures.added ∙ ap (λ l. l ++ c.behind.result.now) c.requires.empty ∙ c.behind.ensures in (
       record {
-        request_is = c.advance.ensures.request ∙ fed.request_is;
+        to_head_is = c.advance.ensures.to_head ∙ fed.to_head_is;
         stage_is = subst (λ w. IsFedStage request stage w (seen ++ bytes)) (sym waits) answer.0;
       },
       fed_needs_more request stage left (seen ++ bytes) answer.0 goes_on answer.1,

@@ -23,7 +23,7 @@ returns-then-not-is_due-clause-none_yet c request seen fed =
     let awaits = subst AwaitsHead c.see.ensures.stage (c.is_due.ensures c.if-not-is_due.true) in
     let sees = seen_behind old c.requires.seen.0 waits bytes c.requires.seen.1 c.requires.seen.2 in (
       record {
-        request_is = c.see.ensures.request ∙ fed.request_is;
+        to_head_is = c.see.ensures.to_head ∙ fed.to_head_is;
         stage_is = subst (λ t. IsFedStage request t waits seen) (sym c.see.ensures.stage) stage;
       },
       awaits_more request s waits seen stage sees awaits,
@@ -47,7 +47,7 @@ returns-in_err-response-clause-refused c request seen fed =
     (fed_seen request old waits seen c.args.bytes.now fed.stage_is) in
     let e = c.in_err-response.field-0.0 in
     if_err_is (λ fault. IsRefused request fault seen) c.from_residual.result e c.from_residual.ensures.1
-    (c.in_err-response.ensures.answer request seen (c.see.ensures.request ∙ fed.request_is)
+    (c.in_err-response.ensures.answer request seen (c.see.ensures.to_head ∙ fed.to_head_is)
     (subst (λ w. IsFedStage request c.see.new.self.stage w seen) (sym c.get-2.ensures) stage))
 
 pub returns-in-Some-clause-response : goal.returns-in-Some-clause-response
@@ -59,7 +59,7 @@ returns-in-Some-clause-response c request seen fed =
     let taken = c.in_ok-response.field-0.taken in
     let left = c.skip.ensures ∙ ap (drop taken) (sym c.get-2.ensures) in (
       drop taken c.get-2.result.now,
-      rw c.in-Some.is at c.in_ok-response.ensures.answer request seen (c.see.ensures.request ∙ fed.request_is)
+      rw c.in-Some.is at c.in_ok-response.ensures.answer request seen (c.see.ensures.to_head ∙ fed.to_head_is)
           (subst (λ w. IsFedStage request c.see.new.self.stage w seen) (sym c.get-2.ensures) stage),
       c.is_empty.ensures.told ∙ ap is_empty left,
     )
@@ -73,8 +73,8 @@ returns-in-None-clause-none_yet c request seen fed =
     let left = c.skip.ensures ∙ ap (drop c.in_ok-response.field-0.taken) (sym c.get-2.ensures) in
     let none_yet = advanced_none_at request seen (drop c.in_ok-response.field-0.taken c.get-2.result.now)
     (record { intake = c.skip.new.self; progress = c.advance.new.self }) c.in_ok-response.field-0.response
-    (c.advance.ensures.request ∙ c.see.ensures.request ∙ fed.request_is)
-    (c.in_ok-response.ensures.answer request seen (c.see.ensures.request ∙ fed.request_is)
+    (c.advance.ensures.to_head ∙ c.see.ensures.to_head ∙ fed.to_head_is)
+    (c.in_ok-response.ensures.answer request seen (c.see.ensures.to_head ∙ fed.to_head_is)
     (subst (λ w. IsFedStage request c.see.new.self.stage w seen) (sym c.get-2.ensures) stage))
     c.in_ok-response.ensures.goes_on left in
     rw c.in-None.is at none_yet
