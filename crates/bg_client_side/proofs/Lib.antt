@@ -1,0 +1,13 @@
+pub mod LeftLemmas
+pub mod ReadSequences
+pub mod ReadSteps
+pub mod ReadingLemmas
+pub mod RunLemmas
+pub mod SeatLemmas
+pub mod SeatRunLemmas
+pub mod SequenceLemmas
+pub mod SoundLemmas
+pub mod StepLemmas
+pub mod Steps
+mod WorkedCases
+pub mod WriteSteps

@@ -1,0 +1,153 @@
+//! A connection of a client that is kept over several requests.
+ghost use Rattle.std.specs.Prelude.{◌≡◌, ◌&&◌, not};
+ghost use Rattle.bg_http.specs.Persistences.{keeps};
+ghost use Rattle.bg_client_side.specs.Clients.{accepted, stays_after};
+ghost use Rattle.bg_client_side.specs.Stages.{has_left, is_idle, is_inside, owes_continue, takes_bytes, to_write, was_whole};
+
+use crate::facts::{ClientFacts, ClientSettings, later};
+use crate::stage::Stage;
+use bg_http::Persistence;
+use bg_http_read::RequestStream;
+use std::alloc::Global;
+use std::marker::Model;
+
+/// A connection of a client, which carries one request after the other (RFC 9112 section 9.3). It has no socket: its caller
+/// tells what happened on the connection, reads and writes as it says, and closes the socket once it has left. Moments are
+/// milliseconds from the start of the program.
+pub struct ClientConnection {
+    pub(crate) stream: RequestStream,
+    pub(crate) stage: Stage,
+    pub(crate) facts: ClientFacts,
+}
+
+impl Drop for ClientConnection {
+    /// Drops the fields by one call, so that the proofs of what owns a value are short (CONTRIBUTING.md, "What a check costs").
+    fn drop(self) {
+        let ClientConnection {
+            stream: _,
+            stage: _,
+            facts: _,
+        } = self;
+    }
+}
+
+impl Model for ClientConnection {
+    ghost use Rattle.bg_client_side.specs.Clients.{Client};
+    ghost use Rattle.bg_client_side.specs.Sound.{IsSound};
+
+    ghost Value = { Client };
+
+    ghost view = { λ c. record {
+      since = c.stream.since;
+      asked = c.stream.asked;
+      stage = c.stage;
+      facts = c.facts;
+    } };
+
+    ghost invariant = { λ c. IsSound c.stream.is_open c.stage c.facts };
+}
+
+impl ClientConnection {
+    /// A connection that was accepted now. Its first request is to come.
+    pub fn new(alloc: Global, settings: ClientSettings, now: u64) -> ClientConnection
+        ensures { result ≡ accepted settings now }
+    {
+        ClientConnection {
+            stream: RequestStream::new(alloc),
+            stage: Stage::Reading,
+            facts: ClientFacts {
+                settings,
+                answered: 0,
+                is_to_stay: false,
+                until: later(now, settings.request_millis),
+                has_ended: false,
+                has_failed: false,
+                is_closing: false,
+            },
+        }
+    }
+
+    /// Whether bytes are to be read from the socket: those of a request, or those that are discarded in a lingering close.
+    /// None are read while a request waits, is inside or is answered. So at most the rest of one piece waits behind a
+    /// request (`bg_http_read::laws::what_waits_came_since_more`).
+    pub fn wants_read(&self) -> bool
+        ensures { result ≡ (takes_bytes self.now.stage && not self.now.facts.has_ended) }
+    {
+        matches!(
+            self.stage,
+            Stage::Idle | Stage::Reading | Stage::Lingering(_)
+        ) && !self.facts.has_ended
+    }
+
+    /// What is to be written now: the rest of the answer.
+    pub fn rest(&self) -> &[u8]
+        ensures { result.now ≡ to_write self.now.stage }
+    {
+        match &self.stage {
+            Stage::Answering(answering) => answering.text.rest(),
+            _ => &[],
+        }
+    }
+
+    /// Whether `100 Continue` is to be written ([`Self::note_continued`]).
+    pub fn owes_continue(&self) -> bool
+        ensures { result ≡ owes_continue self.now.stage }
+    {
+        matches!(self.stage, Stage::Continuing)
+    }
+
+    /// Whether the connection is idle: no byte came since the last answer was written.
+    pub fn is_idle(&self) -> bool
+        ensures { result ≡ is_idle self.now.stage }
+    {
+        matches!(self.stage, Stage::Idle)
+    }
+
+    /// Whether a request was handed out, and no answer was given.
+    pub fn is_inside(&self) -> bool
+        ensures { result ≡ is_inside self.now.stage }
+    {
+        self.stage.is_inside()
+    }
+
+    /// Whether the connection failed while its request was inside, so that the request may be given up.
+    pub fn has_failed(&self) -> bool
+        ensures { result ≡ self.now.facts.has_failed }
+    {
+        self.facts.has_failed
+    }
+
+    /// Whether the connection has left. Its socket is to be closed, and nothing changes any more.
+    pub fn has_left(&self) -> bool
+        ensures { result ≡ has_left self.now.stage }
+    {
+        matches!(self.stage, Stage::Left)
+    }
+
+    /// Whether the request that waits, is inside or is answered was read whole, or the last one in a lingering close. If it
+    /// was, and the socket has no unread bytes, a lingering close may be cut short (`fail`).
+    pub fn was_whole(&self) -> bool
+        ensures { result ≡ was_whole self.now.stage }
+    {
+        match &self.stage {
+            Stage::Waiting(_) | Stage::Inside => true,
+            Stage::Answering(answering) => answering.was_whole,
+            Stage::Lingering(lingering) => lingering.was_whole,
+            _ => false,
+        }
+    }
+
+    /// Whether the connection is to go on after the answer to the request at hand, so that the text of the answer does not
+    /// say `Connection: close` (RFC 9112 section 9.3). It is if the request was read whole, its version is 1.1, no element of
+    /// its Connection fields is `close`, fewer than the most requests were answered with this one, no shutdown has begun,
+    /// and connections are kept.
+    pub fn persistence(&self) -> Persistence
+        ensures { keeps result ≡ stays_after self.now }
+    {
+        if self.was_whole() && self.facts.keeps_after() {
+            Persistence::Keep
+        } else {
+            Persistence::Close
+        }
+    }
+}
