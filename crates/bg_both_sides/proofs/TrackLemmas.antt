@@ -1,0 +1,286 @@
+-- What was written to the connection of a request, what came on it, and how often the request is sent again.
+use Rattle.std.proofs.Common.{◌≡◌, ◌∙◌, ℕ, Bool, true, false, cond, not, List, [], ◌∷◌, ◌++◌, length, take, refl, sym, ap, subst, nat_le, nat_lt, Option, Some, None}
+use Rattle.std.specs.Prelude.{⊤}
+use Rattle.std.proofs.Math.Seq.{take-append_seam}
+use Rattle.bg_http.specs.Codings.{is_empty}
+use Rattle.bg_http.specs.declared.request.Request.{Request}
+use Rattle.bg_client_side.specs.Clients.{Client}
+use Rattle.bg_client_side.specs.Stages.{waiting_request}
+use Rattle.bg_endpoint_side.specs.Dialing.{Forwarded}
+use Rattle.bg_endpoint_side.specs.Forwarding.{Ends, Receives, again, failed, late_health, looked, may_repeat, renew_if, unread, with_bytes, with_end, wrote}
+use Rattle.bg_endpoint_side.specs.Outcomes.{health_of, of_giving_up, refused}
+use Rattle.bg_endpoint_side.specs.OutgoingTexts.{with_written}
+use Rattle.bg_endpoint_side.specs.declared.forwarded_request.Step.{Step}
+use Rattle.bg_endpoint_side.specs.declared.forwarded_request.Step.TheVariants as step
+use Rattle.bg_endpoint_side.specs.declared.outcome.DialFault.TheVariants as dial
+use Rattle.bg_endpoint_side.specs.declared.outcome.ForwardFault.TheVariants as fault
+use Rattle.bg_endpoint_side.specs.declared.outcome.Health.TheVariants as health
+use Rattle.bg_endpoint_side.specs.declared.outcome.Outcome.{Outcome}
+use Rattle.bg_both_sides.specs.Answers.{Reply}
+use Rattle.bg_both_sides.specs.ClientEvents.{entered_as}
+use Rattle.bg_both_sides.specs.EndpointEvents.{Dials, Follows, LooksDialing, RefusesEntered, begins, dial_failed, dialing_for, on_forwarded, takes_connection}
+use Rattle.bg_both_sides.specs.Runs.{EndpointEvent, SidesCall, SidesCalls, SidesRun, Happens, breaks, came_by, came_in, comes, connects, dial_fails, dials, endpoint_gives, endpoint_is_ending, endpoint_reads_no_more, endpoint_writes, ends, enters, given_up, notes, passes, reads, refuses, sent_by, sent_in}
+use Rattle.bg_both_sides.specs.Sides.{Sides, to_endpoint}
+use Rattle.bg_both_sides.specs.declared.endpoint_side.EndpointSide.{EndpointSide}
+use Rattle.bg_both_sides.specs.declared.endpoint_side.EndpointSide.TheVariants as side
+use Rattle.bg_both_sides.specs.declared.endpoint_step.EndpointStep.{EndpointStep}
+use Rattle.bg_both_sides.specs.declared.route.Route.{Route}
+
+-- this was written to the connection of a request that is forwarded, and this came on it
+abbrev pub Tracks : EndpointSide → List ℕ → List ℕ → Type 0
+Tracks side.NoRequest sent came = ⊤
+Tracks (side.Entered request) sent came = ⊤
+Tracks (side.Dialing request dialing) sent came = ⊤
+Tracks (side.Forwarding request f) sent came = (f.text.sent ≡ sent) × (f.came ≡ came)
+
+moved : (old new : EndpointSide) (sent came : List ℕ) → new ≡ old → Tracks old sent came → Tracks new sent came
+moved old new sent came is tracks = subst (λ e. Tracks e sent came) (sym is) tracks
+
+entered_tracks : (request : Option Request) (sides : Sides) (sent came : List ℕ) → Tracks sides.endpoint sent came
+    → Tracks (entered_as request sides).endpoint sent came
+entered_tracks None sides sent came tracks = tracks
+entered_tracks (Some request) sides sent came tracks = tt
+
+refuses_tracks : (endpoint : EndpointSide) (now : ℕ) (client : Client) (told : Bool) (reply : Option Reply) (new : Sides)
+    (sent came : List ℕ) → Tracks endpoint sent came → RefusesEntered endpoint now client told reply new
+    → Tracks new.endpoint sent came
+refuses_tracks side.NoRequest now client told reply new sent came tracks is =
+    moved side.NoRequest new.endpoint sent came (ap (λ (n : Sides). n.endpoint) is.2) tracks
+refuses_tracks (side.Entered request) now client told None new sent came tracks is = absurd is
+refuses_tracks (side.Entered request) now client told (Some reply) new sent came tracks is =
+    moved side.NoRequest new.endpoint sent came (ap (λ (n : Sides). n.endpoint) is.3) tt
+refuses_tracks (side.Dialing request d) now client told reply new sent came tracks is =
+    moved (side.Dialing request d) new.endpoint sent came (ap (λ (n : Sides). n.endpoint) is.2) tracks
+refuses_tracks (side.Forwarding request f) now client told reply new sent came tracks is =
+    moved (side.Forwarding request f) new.endpoint sent came (ap (λ (n : Sides). n.endpoint) is.2) tracks
+
+dials_tracks : (endpoint : EndpointSide) (route : Route) (now : ℕ) (does : Bool) (new : EndpointSide) (sent came : List ℕ)
+    → Tracks endpoint sent came → Dials endpoint route now does new → Tracks new sent came
+dials_tracks side.NoRequest route now does new sent came tracks is = moved side.NoRequest new sent came is.1 tracks
+dials_tracks (side.Entered request) route now true new sent came tracks is = moved (side.Dialing request (dialing_for request route now)) new sent came is tt
+dials_tracks (side.Entered request) route now false new sent came tracks is = moved (side.Entered request) new sent came is tt
+dials_tracks (side.Dialing request d) route now does new sent came tracks is =
+    moved (side.Dialing request d) new sent came is.1 tracks
+dials_tracks (side.Forwarding request f) route now does new sent came tracks is =
+    moved (side.Forwarding request f) new sent came is.1 tracks
+
+begins_tracks : (endpoint : EndpointSide) (is_kept : Bool) (now : ℕ) (taken : Bool) (sent came : List ℕ)
+    → taken ≡ takes_connection is_kept endpoint → Tracks endpoint sent came
+    → Tracks (begins (takes_connection is_kept endpoint) is_kept now endpoint) (sent_by sent (connects is_kept now taken))
+    (came_by came (connects is_kept now taken))
+begins_tracks side.NoRequest is_kept now true sent came is tracks = tt
+begins_tracks side.NoRequest is_kept now false sent came is tracks = tt
+begins_tracks (side.Entered request) is_kept now true sent came is tracks = tt
+begins_tracks (side.Entered request) is_kept now false sent came is tracks = tt
+begins_tracks (side.Dialing request d) is_kept now taken sent came is tracks =
+    subst (λ b. Tracks (begins b is_kept now (side.Dialing request d)) (sent_by sent (connects is_kept now taken))
+    (came_by came (connects is_kept now taken))) is (go taken) where
+      go : (b : Bool) → Tracks (begins b is_kept now (side.Dialing request d)) (sent_by sent (connects is_kept now b))
+          (came_by came (connects is_kept now b))
+      go true = (refl, refl)
+      go false = tt
+begins_tracks (side.Forwarding request f) is_kept now true sent came is tracks = absurd (cc)
+begins_tracks (side.Forwarding request f) is_kept now false sent came is tracks = tracks
+
+-- the bytes that were written are the first ones that were to be written
+written_first : (unread : Bool) (left bytes rest : List ℕ) → cond unread [] left ≡ bytes ++ rest
+    → take (length bytes) left ≡ bytes
+written_first false left bytes rest is = ap (take (length bytes)) is ∙ take-append_seam bytes rest
+written_first true left [] rest is = refl
+written_first true left (byte ∷ bytes) rest is = absurd (cc)
+
+wrote_tracks : (endpoint : EndpointSide) (bytes rest : List ℕ) (now : ℕ) (sent came : List ℕ)
+    → to_endpoint endpoint ≡ bytes ++ rest → Tracks endpoint sent came
+    → Tracks (on_forwarded (λ f. wrote f (length bytes) now) endpoint) (sent ++ bytes) came
+wrote_tracks side.NoRequest bytes rest now sent came is tracks = tt
+wrote_tracks (side.Entered request) bytes rest now sent came is tracks = tt
+wrote_tracks (side.Dialing request d) bytes rest now sent came is tracks = tt
+wrote_tracks (side.Forwarding request f) bytes rest now sent came is tracks =
+    go (nat_lt 0 (length bytes)) where
+      first : f.text.sent ++ take (length bytes) f.text.rest ≡ sent ++ bytes
+      first =
+          ap (λ t. f.text.sent ++ t) (written_first f.state.is_unread f.text.rest bytes rest is)
+          ∙ ap (λ t. t ++ bytes) tracks.0
+
+      go : (b : Bool)
+          → ((renew_if b (record f { text = with_written f.text (length bytes) }) now).text.sent ≡ sent ++ bytes)
+          × ((renew_if b (record f { text = with_written f.text (length bytes) }) now).came ≡ came)
+      go true = (first, tracks.1)
+      go false = (first, tracks.1)
+
+came_tracks : (f : Forwarded) (bytes : List ℕ) (now : ℕ) (sent came : List ℕ) → (f.text.sent ≡ sent) × (f.came ≡ came)
+    → ((with_bytes f bytes now).text.sent ≡ sent) × ((with_bytes f bytes now).came ≡ came ++ bytes)
+came_tracks f bytes now sent came tracks = go (not (is_empty bytes)) where
+  go : (b : Bool) → ((renew_if b (record f { came = f.came ++ bytes }) now).text.sent ≡ sent)
+      × ((renew_if b (record f { came = f.came ++ bytes }) now).came ≡ came ++ bytes)
+  go true = (tracks.0, ap (λ t. t ++ bytes) tracks.1)
+  go false = (tracks.0, ap (λ t. t ++ bytes) tracks.1)
+
+-- a step, after which a request that goes on was told of so
+follows_tracks : (request : Request) (next : Step) (now : ℕ) (client : Client) (told : EndpointStep) (reply : Option Reply)
+    (new : Sides) (sent came : List ℕ)
+    → ((f : Forwarded) → next ≡ step.GoesOn f → (f.text.sent ≡ sent) × (f.came ≡ came))
+    → Follows request next now client told reply new → Tracks new.endpoint sent came
+follows_tracks request (step.GoesOn f) now client told reply new sent came stays is =
+    moved (side.Forwarding request f) new.endpoint sent came (ap (λ (n : Sides). n.endpoint) is.2) (stays f refl)
+follows_tracks request (step.Again d) now client told reply new sent came stays is =
+    moved (side.Dialing request d) new.endpoint sent came (ap (λ (n : Sides). n.endpoint) is.2) tt
+follows_tracks request (step.Over outcome) now client told reply new sent came stays is =
+    moved side.NoRequest new.endpoint sent came is.1 tt
+
+receives_tracks : (f : Forwarded) (bytes : List ℕ) (now : ℕ) (next : Step) (sent came : List ℕ)
+    → (f.text.sent ≡ sent) × (f.came ≡ came) → Receives f bytes now next → (g : Forwarded) → next ≡ step.GoesOn g
+    → (g.text.sent ≡ sent) × (g.came ≡ came ++ bytes)
+receives_tracks f bytes now (step.GoesOn next) sent came tracks is g same =
+    subst (λ (h : Forwarded). (h.text.sent ≡ sent) × (h.came ≡ came ++ bytes)) (sym is.0 ∙ of same)
+    (came_tracks f bytes now sent came tracks) where
+      of : step.GoesOn next ≡ step.GoesOn g → next ≡ g
+      of same = cc
+receives_tracks f bytes now (step.Again next) sent came tracks is g same = absurd is
+receives_tracks f bytes now (step.Over outcome) sent came tracks is g same = absurd (cc)
+
+ends_on : (f : Forwarded) (now : ℕ) (next : Step) → Ends f now next → (g : Forwarded) → next ≡ step.GoesOn g → ⊥
+ends_on f now (step.GoesOn next) is g same = is
+ends_on f now (step.Again next) is g same = cc
+ends_on f now (step.Over outcome) is g same = cc
+
+fails_on : (f : Forwarded) (now : ℕ) (g : Forwarded) → failed f now ≡ step.GoesOn g → ⊥
+fails_on f now g is = go (may_repeat f) is where
+  go : (b : Bool)
+      → cond b (step.Again (again f now)) (step.Over (refused fault.ConnectFailed (health_of f.came))) ≡ step.GoesOn g → ⊥
+  go true is = cc
+  go false is = cc
+
+looks_on : (f : Forwarded) (now : ℕ) (sent came : List ℕ) → (f.text.sent ≡ sent) × (f.came ≡ came) → (g : Forwarded)
+    → looked f now ≡ step.GoesOn g → (g.text.sent ≡ sent) × (g.came ≡ came)
+looks_on f now sent came tracks g is = go (nat_le f.state.deadlines.until now) is where
+  same : step.GoesOn f ≡ step.GoesOn g → f ≡ g
+  same is = cc
+
+  go : (b : Bool) → cond b (step.Over (refused fault.ResponseTimeout (late_health f now))) (step.GoesOn f) ≡ step.GoesOn g
+      → (g.text.sent ≡ sent) × (g.came ≡ came)
+  go true is = absurd (cc)
+  go false is = subst (λ (h : Forwarded). (h.text.sent ≡ sent) × (h.came ≡ came)) (same is) tracks
+
+never_on : (outcome : Outcome) (sent came : List ℕ) (g : Forwarded) → step.Over outcome ≡ step.GoesOn g
+    → (g.text.sent ≡ sent) × (g.came ≡ came)
+never_on outcome sent came g is = absurd (cc)
+
+still : (client : Client) (endpoint : EndpointSide) (new : Sides) (sent came : List ℕ) → Tracks endpoint sent came
+    → new ≡ record { client = client; endpoint = endpoint } → Tracks new.endpoint sent came
+still client endpoint new sent came tracks is =
+    moved endpoint new.endpoint sent came (ap (λ (n : Sides). n.endpoint) is) tracks
+
+-- an event at the endpoint
+happens_tracks : (event : EndpointEvent) (old : Sides) (e : EndpointSide) (now : ℕ) (told : EndpointStep)
+    (reply : Option Reply) (new : Sides) (sent came : List ℕ) → Tracks e sent came
+    → Happens event (record old { endpoint = e }) now told reply new
+    → Tracks new.endpoint sent (came_by came (endpoint_gives event now told reply))
+happens_tracks (comes bytes) old side.NoRequest now told reply new sent came tracks is =
+    still old.client side.NoRequest new sent (came ++ bytes) tt is.2
+happens_tracks (comes bytes) old (side.Entered request) now told reply new sent came tracks is =
+    still old.client (side.Entered request) new sent (came ++ bytes) tt is.2
+happens_tracks (comes bytes) old (side.Dialing request d) now told reply new sent came tracks is =
+    still old.client (side.Dialing request d) new sent (came ++ bytes) tt is.2
+happens_tracks (comes bytes) old (side.Forwarding request f) now told reply new sent came tracks is =
+    follows_tracks request is.0 now old.client told reply new sent (came ++ bytes)
+    (receives_tracks f bytes now is.0 sent came tracks is.1) is.2
+happens_tracks ends old side.NoRequest now told reply new sent came tracks is =
+    still old.client side.NoRequest new sent came tt is.2
+happens_tracks ends old (side.Entered request) now told reply new sent came tracks is =
+    still old.client (side.Entered request) new sent came tt is.2
+happens_tracks ends old (side.Dialing request d) now told reply new sent came tracks is =
+    still old.client (side.Dialing request d) new sent came tt is.2
+happens_tracks ends old (side.Forwarding request f) now told reply new sent came tracks is =
+    follows_tracks request is.0 now old.client told reply new sent came
+    (λ g same. absurd (ends_on f now is.0 is.1.0 g same)) is.2
+happens_tracks breaks old side.NoRequest now told reply new sent came tracks is =
+    still old.client side.NoRequest new sent came tt is.2
+happens_tracks breaks old (side.Entered request) now told reply new sent came tracks is =
+    still old.client (side.Entered request) new sent came tt is.2
+happens_tracks breaks old (side.Dialing request d) now told reply new sent came tracks is =
+    still old.client (side.Dialing request d) new sent came tt is.2
+happens_tracks breaks old (side.Forwarding request f) now told reply new sent came tracks is =
+    follows_tracks request is.0 now old.client told reply new sent came
+    (λ g same. absurd (fails_on f now g (sym is.1.0 ∙ same))) is.2
+happens_tracks (dial_fails why) old side.NoRequest now told reply new sent came tracks is =
+    still old.client side.NoRequest new sent came tt is.2
+happens_tracks (dial_fails why) old (side.Entered request) now told reply new sent came tracks is =
+    still old.client (side.Entered request) new sent came tt is.2
+happens_tracks (dial_fails why) old (side.Dialing request d) now told reply new sent came tracks is =
+    follows_tracks request (step.Over (dial_failed why)) now old.client told reply new sent came
+    (never_on (dial_failed why) sent came) is
+happens_tracks (dial_fails why) old (side.Forwarding request f) now told reply new sent came tracks is =
+    still old.client (side.Forwarding request f) new sent came tracks is.2
+happens_tracks passes old side.NoRequest now told reply new sent came tracks is =
+    still old.client side.NoRequest new sent came tt is.2
+happens_tracks passes old (side.Entered request) now told reply new sent came tracks is =
+    still old.client (side.Entered request) new sent came tt is.2
+happens_tracks passes old (side.Dialing request d) now told reply new sent came tracks is =
+    go (nat_le d.deadlines.until now) is where
+      go : (b : Bool) → LooksDialing b request d now old.client told reply new → Tracks new.endpoint sent came
+      go true is =
+          follows_tracks request (step.Over (dial_failed dial.TimedOut)) now old.client told reply new sent came
+          (never_on (dial_failed dial.TimedOut) sent came) is
+      go false is = still old.client (side.Dialing request d) new sent came tt is.2
+happens_tracks passes old (side.Forwarding request f) now told reply new sent came tracks is =
+    follows_tracks request (looked f now) now old.client told reply new sent came (looks_on f now sent came tracks) is
+happens_tracks (given_up why) old side.NoRequest now told reply new sent came tracks is =
+    still old.client side.NoRequest new sent came tt is.2
+happens_tracks (given_up why) old (side.Entered request) now told reply new sent came tracks is =
+    still old.client (side.Entered request) new sent came tt is.2
+happens_tracks (given_up why) old (side.Dialing request d) now told reply new sent came tracks is =
+    follows_tracks request (step.Over (refused (of_giving_up why) health.Unknown)) now old.client told reply new sent came
+    (never_on (refused (of_giving_up why) health.Unknown) sent came) is
+happens_tracks (given_up why) old (side.Forwarding request f) now told reply new sent came tracks is =
+    follows_tracks request (step.Over (refused (of_giving_up why) (health_of f.came))) now old.client told reply new sent came
+    (never_on (refused (of_giving_up why) (health_of f.came)) sent came) is
+
+unread_tracks : (endpoint : EndpointSide) (now : ℕ) (sent came : List ℕ) → Tracks endpoint sent came
+    → Tracks (on_forwarded (λ f. unread f now) endpoint) sent came
+unread_tracks side.NoRequest now sent came tracks = tt
+unread_tracks (side.Entered request) now sent came tracks = tt
+unread_tracks (side.Dialing request d) now sent came tracks = tt
+unread_tracks (side.Forwarding request f) now sent came tracks = (tracks.0, tracks.1)
+
+ending_tracks : (endpoint : EndpointSide) (sent came : List ℕ) → Tracks endpoint sent came
+    → Tracks (on_forwarded with_end endpoint) sent came
+ending_tracks side.NoRequest sent came tracks = tt
+ending_tracks (side.Entered request) sent came tracks = tt
+ending_tracks (side.Dialing request d) sent came tracks = tt
+ending_tracks (side.Forwarding request f) sent came tracks = (tracks.0, tracks.1)
+
+tracks_step : (old : Sides) (call : SidesCall) (new : Sides) (sent came : List ℕ) → Tracks old.endpoint sent came
+    → SidesCalls old call new → Tracks new.endpoint (sent_by sent call) (came_by came call)
+tracks_step old (reads call result now answer) new sent came tracks is =
+    moved old.endpoint new.endpoint sent came is.2 tracks
+tracks_step old (notes call) new sent came tracks is = moved old.endpoint new.endpoint sent came is.2 tracks
+tracks_step old (enters request) new sent came tracks is =
+    moved (entered_as (waiting_request old.client.stage) old).endpoint new.endpoint sent came
+    (ap (λ (n : Sides). n.endpoint) is.1) (entered_tracks (waiting_request old.client.stage) old sent came tracks)
+tracks_step old (refuses now told reply) new sent came tracks is =
+    refuses_tracks old.endpoint now old.client told reply new sent came tracks is
+tracks_step old (dials route now does) new sent came tracks is =
+    dials_tracks old.endpoint route now does new.endpoint sent came tracks is.1
+tracks_step old (connects is_kept now taken) new sent came tracks is =
+    moved (begins (takes_connection is_kept old.endpoint) is_kept now old.endpoint) new.endpoint
+    (sent_by sent (connects is_kept now taken)) (came_by came (connects is_kept now taken))
+    (ap (λ (n : Sides). n.endpoint) is.1) (begins_tracks old.endpoint is_kept now taken sent came is.0 tracks)
+tracks_step old (endpoint_writes bytes now) new sent came tracks is =
+    moved (on_forwarded (λ f. wrote f (length bytes) now) old.endpoint) new.endpoint (sent ++ bytes) came is.2
+    (wrote_tracks old.endpoint bytes is.0.0 now sent came is.0.1 tracks)
+tracks_step old (endpoint_reads_no_more now) new sent came tracks is =
+    moved (on_forwarded (λ f. unread f now) old.endpoint) new.endpoint sent came is.1
+    (unread_tracks old.endpoint now sent came tracks)
+tracks_step old endpoint_is_ending new sent came tracks is =
+    moved (on_forwarded with_end old.endpoint) new.endpoint sent came is.1 (ending_tracks old.endpoint sent came tracks)
+tracks_step old (endpoint_gives event now told reply) new sent came tracks is =
+    happens_tracks event old old.endpoint now told reply new sent came tracks is
+
+-- what was written and what came over calls
+pub tracks_run : (calls : List SidesCall) (old new : Sides) (sent came : List ℕ) → Tracks old.endpoint sent came
+    → SidesRun old calls new → Tracks new.endpoint (sent_in sent calls) (came_in came calls)
+tracks_run [] old new sent came tracks is =
+    moved old.endpoint new.endpoint sent came (sym (ap (λ (n : Sides). n.endpoint) is)) tracks
+tracks_run (call ∷ more) old new sent came tracks is =
+    tracks_run more is.0 new (sent_by sent call) (came_by came call) (tracks_step old call is.0 sent came tracks is.1) is.2

@@ -1,0 +1,59 @@
+-- What a client is answered.
+use Rattle.std.specs.Prelude.{◌≡◌, ◌⊎◌, ℕ, Bool, List, [], Option, Some, None, Result, Ok, Err, ⊤}
+use Rattle.bg_http.specs.Persistences.{keeps}
+use Rattle.bg_http.specs.Texts.{refusal_text, response_text}
+use Rattle.bg_http.specs.declared.persistence.Persistence.{Persistence}
+use Rattle.bg_http.specs.declared.persistence.Persistence.TheVariants.{Close}
+use Rattle.bg_http.specs.declared.request.Request.{Request}
+use Rattle.bg_http.specs.declared.response.Response.{Response}
+use Rattle.bg_port.specs.Outgoing.{Outgoing}
+use Rattle.bg_client_side.specs.Clients.{Client, answered, failed_at, stays_after}
+use Rattle.bg_endpoint_side.specs.Outcomes.{fault_status}
+use Rattle.bg_endpoint_side.specs.declared.outcome.ForwardFault.{ForwardFault}
+
+-- a text, the memory that it takes, and whether it keeps the connection; or no answer, since there was no memory for one
+pub data Answer : Type 0 where
+  says : List ℕ → ℕ → Persistence → Answer
+  lacks : ℕ → Answer
+
+-- a text of which nothing was written
+abbrev pub unwritten : List ℕ → ℕ → Outgoing
+unwritten text weight = record { sent = []; rest = text; weight = weight }
+
+-- the client's connection with this answer; without one it leaves
+abbrev pub with_answer : Answer → ℕ → Client → Client
+with_answer (says text weight persistence) now client = answered (unwritten text weight) persistence now client
+with_answer (lacks weight) now client = answered (unwritten [] weight) Close now (failed_at client.stage client)
+
+-- a refusal with this status, unless there was no memory for it
+abbrev pub IsRefusal : ℕ → Answer → Type 0
+IsRefusal status (says text weight persistence) = (text ≡ refusal_text status) × (persistence ≡ Close)
+IsRefusal status (lacks weight) = ⊤
+
+-- the text of a response to this request
+abbrev pub IsTextOf : Request → Response → Bool → Answer → Type 0
+IsTextOf request response stays (says text weight persistence) =
+    (text ≡ response_text stays request response) × (keeps persistence ≡ stays)
+IsTextOf request response stays (lacks weight) = ⊥
+
+-- the answer to a request for which its endpoint gave this; 503 if there was no memory for the text of its response
+abbrev pub IsAnswerTo : Request → Result Response ForwardFault → Bool → Answer → Type 0
+IsAnswerTo request (Ok response) stays answer = IsTextOf request response stays answer ⊎ IsRefusal 503 answer
+IsAnswerTo request (Err named) stays answer = IsRefusal (fault_status named) answer
+
+-- the client is refused with this status
+abbrev pub Refuses : ℕ → ℕ → Client → Option Answer → Client → Type 0
+Refuses status now old None new = ⊥
+Refuses status now old (Some answer) new = IsRefusal status answer × (new ≡ with_answer answer now old)
+
+-- the answer to a request
+pub record Reply : Type 0 where
+  pub request : Request
+  pub answer : Answer
+
+-- the client gets the answer to this request, for which its endpoint gave this
+abbrev pub Replies : Request → Result Response ForwardFault → ℕ → Client → Option Reply → Client → Type 0
+Replies request given now old None new = ⊥
+Replies request given now old (Some reply) new =
+    (reply.request ≡ request) × IsAnswerTo request given (stays_after old) reply.answer
+    × (new ≡ with_answer reply.answer now old)

@@ -1,0 +1,110 @@
+-- The laws of both sides of a client's connection.
+use Rattle.std.specs.Prelude.{◌≡◌, ℕ, ◌≤◌, Bool, true, false, ◌&&◌, List, [], ◌∷◌, ◌++◌, Option, Some}
+use Rattle.bg_http.specs.Persistences.{keeps}
+use Rattle.bg_http.specs.Texts.{request_text}
+use Rattle.bg_http.specs.declared.request.Request.{Request}
+use Rattle.bg_client_side.specs.Clients.{accepted, stays_after}
+use Rattle.bg_client_side.specs.Runs.{Runs, written_in}
+use Rattle.bg_client_side.specs.Stages.{has_left, is_inside, to_write}
+use Rattle.bg_client_side.specs.declared.facts.ClientSettings.{ClientSettings}
+use Rattle.bg_endpoint_side.specs.Dialing.{Forwarded}
+use Rattle.bg_endpoint_side.specs.Forwarding.{IsDecided, again, may_repeat}
+use Rattle.bg_endpoint_side.specs.declared.outcome.Outcome.{Outcome}
+use Rattle.bg_both_sides.specs.Answers.{IsAnswerTo, Reply}
+use Rattle.bg_both_sides.specs.Runs.{EndpointEvent, SidesCall, SidesCalls, SidesRun, again_in, came_in, client_calls_in, comes, endpoint_gives, enters_none, sent_in, texts_in}
+use Rattle.bg_both_sides.specs.Sides.{IsForwarded, IsSound, Sides}
+use Rattle.bg_both_sides.specs.declared.endpoint_step.Ending.{Ending}
+use Rattle.bg_both_sides.specs.declared.endpoint_step.EndpointStep.{EndpointStep}
+use Rattle.bg_both_sides.specs.declared.endpoint_step.EndpointStep.TheVariants as steps
+use Rattle.bg_both_sides.specs.declared.endpoint_side.EndpointSide.TheVariants as side
+
+-- a client's connection that was accepted, and no request
+abbrev pub begun : ClientSettings → ℕ → Sides
+begun settings now = record { client = accepted settings now; endpoint = side.NoRequest }
+
+-- the calls make calls of the client's connection, so each law of it holds; and the two sides stay together
+abbrev pub RunsItsClient : Sides → List SidesCall → Sides → Type 0
+RunsItsClient old calls new =
+    IsSound old.client old.endpoint → SidesRun old calls new
+    → Runs old.client (client_calls_in calls) new.client × IsSound new.client new.endpoint
+
+-- what was written to the client, and what is left of the answer at hand, are in their sequence the texts of the answers
+-- that were given; a part is cut off only if the connection has left
+abbrev pub WritesItsAnswers : Sides → List SidesCall → Sides → Type 0
+WritesItsAnswers old calls new =
+    IsSound old.client old.endpoint → SidesRun old calls new
+    → (cut : List ℕ) × (to_write old.client.stage ++ texts_in calls
+    ≡ written_in (client_calls_in calls) ++ to_write new.client.stage ++ cut)
+    × (has_left new.client.stage ≡ false → cut ≡ [])
+
+-- the bytes that came on the connection of a request decide its answer
+pub record IsDecidedBy (old : Sides) (bytes : List ℕ) (reply : Reply) : Type 0 where
+  pub forwarded : Forwarded
+  pub outcome : Outcome
+  pub is_there : old.endpoint ≡ side.Forwarding reply.request forwarded
+  pub is_sent : IsForwarded reply.request forwarded
+  pub decided : IsDecided forwarded (forwarded.came ++ bytes) outcome
+  pub answer_is : IsAnswerTo reply.request outcome.answer (stays_after old.client) reply.answer
+
+abbrev pub AnswersByItsResponse : Sides → List ℕ → ℕ → EndpointStep → Reply → Sides → Type 0
+AnswersByItsResponse old bytes now step reply new =
+    IsSound old.client old.endpoint → SidesCalls old (endpoint_gives (comes bytes) now step (Some reply)) new
+    → IsDecidedBy old bytes reply
+
+-- what was written to the connection of a request, and what is left, is the text of that request as it is forwarded; and
+-- what came on it is all that came since it became the request's
+pub record IsOfItsRequest (sent came : List ℕ) (request : Request) (forwarded : Forwarded) : Type 0 where
+  pub sent_is : forwarded.text.sent ≡ sent
+  pub came_is : forwarded.came ≡ came
+  pub text_is : sent ++ forwarded.text.rest
+      ≡ request_text (keeps forwarded.state.terms.persistence) request forwarded.state.terms.port
+
+abbrev pub SendsItsRequest : ClientSettings → ℕ → List SidesCall → Sides → Request → Forwarded → Type 0
+SendsItsRequest settings now calls new request forwarded =
+    SidesRun (begun settings now) calls new → new.endpoint ≡ side.Forwarding request forwarded
+    → IsOfItsRequest (sent_in [] calls) (came_in [] calls) request forwarded
+
+-- a connection goes back only after the whole text of its request was written to it
+pub record WasWhole (old : Sides) : Type 0 where
+  pub request : Request
+  pub forwarded : Forwarded
+  pub is_there : old.endpoint ≡ side.Forwarding request forwarded
+  pub text_is : forwarded.text.sent
+      ≡ request_text (keeps forwarded.state.terms.persistence) request forwarded.state.terms.port
+
+abbrev pub GoesBackWhole : Sides → EndpointEvent → ℕ → Ending → Option Reply → Sides → Type 0
+GoesBackWhole old event now ending reply new =
+    IsSound old.client old.endpoint → SidesCalls old (endpoint_gives event now (steps.Answered ending) reply) new
+    → ending.goes_back ≡ true → WasWhole old
+
+-- no connection to an endpoint is there unless the client has a request inside: not if the client's connection is idle, and
+-- not if it has left
+abbrev pub HasNoneWithoutRequest : ClientSettings → ℕ → List SidesCall → Sides → Type 0
+HasNoneWithoutRequest settings now calls new =
+    SidesRun (begun settings now) calls new → is_inside new.client.stage ≡ false → new.endpoint ≡ side.NoRequest
+
+-- a request that is answered has no connection to an endpoint, and is at hand no longer
+abbrev pub LosesItsConnection : Sides → EndpointEvent → ℕ → Ending → Option Reply → Sides → Type 0
+LosesItsConnection old event now ending reply new =
+    SidesCalls old (endpoint_gives event now (steps.Answered ending) reply) new → new.endpoint ≡ side.NoRequest
+
+-- none of these calls has a request enter
+abbrev pub none_enters : List SidesCall → Bool
+none_enters [] = true
+none_enters (call ∷ more) = enters_none call && none_enters more
+
+-- a request is sent again at most once
+abbrev pub RepeatsOnce : Sides → List SidesCall → Sides → Type 0
+RepeatsOnce old calls new = SidesRun old calls new → none_enters calls ≡ true → again_in calls ≤ 1
+
+-- it is sent again by the rule of the endpoint's side, and on another connection
+pub record RepeatsByRule (old : Sides) (now : ℕ) (new : Sides) : Type 0 where
+  pub request : Request
+  pub forwarded : Forwarded
+  pub is_there : old.endpoint ≡ side.Forwarding request forwarded
+  pub rule : may_repeat forwarded ≡ true
+  pub dials : new.endpoint ≡ side.Dialing request (again forwarded now)
+
+abbrev pub RepeatsOnlyByRule : Sides → EndpointEvent → ℕ → Option Reply → Sides → Type 0
+RepeatsOnlyByRule old event now reply new =
+    SidesCalls old (endpoint_gives event now steps.DialsAgain reply) new → RepeatsByRule old now new

@@ -1,0 +1,6 @@
+pub mod Answers
+pub mod ClientEvents
+pub mod EndpointEvents
+pub mod Laws
+pub mod Runs
+pub mod Sides

@@ -1,0 +1,67 @@
+-- A client's connection together with the request that it has at an endpoint.
+use Rattle.std.specs.Prelude.{◌≡◌, ℕ, Bool, true, false, List, [], Option, Some, None}
+use Rattle.bg_http.specs.Persistences.{keeps}
+use Rattle.bg_http.specs.Texts.{request_text}
+use Rattle.bg_http.specs.declared.request.Request.{Request}
+use Rattle.bg_client_side.specs.Clients.{Client}
+use Rattle.bg_client_side.specs.Stages.{is_inside}
+use Rattle.bg_endpoint_side.specs.Dialing.{Dialing, Forwarded}
+use Rattle.bg_endpoint_side.specs.Forwarding.{to_write}
+use Rattle.bg_endpoint_side.specs.Methods.{is_idempotent}
+use Rattle.bg_endpoint_side.specs.OutgoingTexts.{whole}
+use Rattle.bg_endpoint_side.specs.declared.terms.Terms.{Terms}
+use Rattle.bg_both_sides.specs.declared.endpoint_side.EndpointSide.{EndpointSide}
+use Rattle.bg_both_sides.specs.declared.endpoint_side.EndpointSide.TheVariants as side
+
+-- the client's connection, and its request at an endpoint
+pub record Sides : Type 0 where
+  pub client : Client
+  pub endpoint : EndpointSide
+
+-- the request that is inside
+abbrev pub request_of : EndpointSide → Option Request
+request_of side.NoRequest = None
+request_of (side.Entered request) = Some request
+request_of (side.Dialing request dialing) = Some request
+request_of (side.Forwarding request forwarded) = Some request
+
+-- the request that entered and is not on its way to an endpoint
+abbrev pub as_entered : EndpointSide → Option Request
+as_entered (side.Entered request) = Some request
+as_entered other = None
+
+-- what is dialled for
+abbrev pub as_dialing : EndpointSide → Option Dialing
+as_dialing (side.Dialing request dialing) = Some dialing
+as_dialing other = None
+
+-- a connection to an endpoint belongs to the request
+abbrev pub has_connection : EndpointSide → Bool
+has_connection (side.Forwarding request forwarded) = true
+has_connection other = false
+
+-- what is to be written to the endpoint now
+abbrev pub to_endpoint : EndpointSide → List ℕ
+to_endpoint (side.Forwarding request forwarded) = to_write forwarded
+to_endpoint other = []
+
+-- the text is that of the request as it is forwarded under these terms, and its response is read as the one to it
+pub record IsSentAs (request read : Request) (terms : Terms) (text : List ℕ) : Type 0 where
+  pub read_is : read ≡ request
+  pub text_is : text ≡ request_text (keeps terms.persistence) request terms.port
+  pub idempotent_is : terms.is_idempotent ≡ is_idempotent request.method
+
+-- what is dialled for, and what is forwarded, is the request
+abbrev pub IsDialed : Request → Dialing → Type 0
+IsDialed request dialing = IsSentAs request dialing.request dialing.terms dialing.text
+
+abbrev pub IsForwarded : Request → Forwarded → Type 0
+IsForwarded request forwarded =
+    IsSentAs request forwarded.request forwarded.state.terms (whole forwarded.text)
+
+-- exactly if the client's connection has a request inside, it is there; and it is sent as it is
+abbrev pub IsSound : Client → EndpointSide → Type 0
+IsSound client side.NoRequest = is_inside client.stage ≡ false
+IsSound client (side.Entered request) = is_inside client.stage ≡ true
+IsSound client (side.Dialing request dialing) = (is_inside client.stage ≡ true) × IsDialed request dialing
+IsSound client (side.Forwarding request forwarded) = (is_inside client.stage ≡ true) × IsForwarded request forwarded

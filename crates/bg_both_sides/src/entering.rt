@@ -1,0 +1,121 @@
+//! How a request enters, is refused, and is sent to an endpoint.
+ghost use Rattle.std.specs.Prelude.{◌≡◌, Option, is_some};
+ghost use Rattle.bg_client_side.specs.Stages.{waiting_request};
+ghost use Rattle.bg_both_sides.specs.Answers.{Reply};
+ghost use Rattle.bg_both_sides.specs.ClientEvents.{entered};
+ghost use Rattle.bg_both_sides.specs.EndpointEvents.{Dials, DialsFor, RefusesEntered, begins, connected, takes_connection};
+ghost use Rattle.bg_both_sides.specs.declared.endpoint_side.EndpointSide.TheVariants as side;
+
+use crate::answering::refuse;
+use crate::both_sides::BothSides;
+use crate::endpoint_side::EndpointSide;
+use crate::route::Route;
+use crate::texts::request_text;
+use bg_endpoint_side::{DialingRequest, Terms, is_idempotent};
+use bg_http::Request;
+use std::alloc::Global;
+use std::mem;
+
+impl BothSides {
+    /// Has the request that waits enter, since it has a seat. Gives whether one waited; otherwise nothing changes.
+    pub fn enter(&mut self) -> bool
+        ensures waited { result ≡ is_some (waiting_request self.old.client.stage) }
+        ensures new { self.new ≡ entered self.old }
+    {
+        match self.client.take() {
+            Some(request) => {
+                self.endpoint = EndpointSide::Entered(request);
+                true
+            }
+            None => false,
+        }
+    }
+
+    /// Refuses the request with 503 that entered, and is not on its way to an endpoint. Gives whether there was one;
+    /// otherwise nothing changes.
+    pub fn refuse(&mut self, now: u64) -> bool
+        ensures { (reply : Option Reply)
+            × RefusesEntered self.old.endpoint now self.old.client result reply self.new }
+    {
+        match mem::replace(&mut self.endpoint, EndpointSide::NoRequest).into_entered() {
+            Ok(_) => {
+                refuse(&mut self.client, self.alloc, 503, now);
+                true
+            }
+            Err(other) => {
+                self.endpoint = other;
+                false
+            }
+        }
+    }
+
+    /// Dials for the request that entered, from now on. Gives whether it does; otherwise nothing changes: none had entered,
+    /// or there was no memory for the text of the request, which is then to be refused ([`Self::refuse`]).
+    pub fn dial(&mut self, route: Route, now: u64) -> bool
+        ensures client { self.new.client ≡ self.old.client }
+        ensures endpoint { Dials self.old.endpoint route now result self.new.endpoint }
+    {
+        let (endpoint, dials) = match mem::replace(
+            &mut self.endpoint,
+            EndpointSide::NoRequest,
+        ).into_entered()
+        {
+            Ok(request) => dial_for(self.alloc, request, route, now),
+            Err(other) => (other, false),
+        };
+        self.endpoint = endpoint;
+        dials
+    }
+
+    /// A connection is there for the request that is dialled for: one that was kept, or a new one. Gives whether it belongs
+    /// to the request from now on; otherwise nothing changes: no connection is awaited, or the request is sent again, and
+    /// then it takes a new connection.
+    pub fn connect(&mut self, is_kept: bool, now: u64) -> bool
+        ensures taken { result ≡ takes_connection is_kept self.old.endpoint }
+        ensures new { self.new ≡ connected is_kept now self.old }
+    {
+        let (endpoint, is_taken) = match mem::replace(
+            &mut self.endpoint,
+            EndpointSide::NoRequest,
+        ).into_dialing()
+        {
+            Ok((request, dialing)) => begin(request, dialing, is_kept, now),
+            Err(other) => (other, false),
+        };
+        self.endpoint = endpoint;
+        is_taken
+    }
+}
+
+/// A request that entered, as it is dialled for, and whether there was memory for its text.
+fn dial_for(alloc: Global, request: Request, route: Route, now: u64) -> (EndpointSide, bool)
+    ensures { DialsFor result.1 request route now result.0 }
+{
+    let Ok(text) = request_text(alloc, &request, route.port, route.persistence) else {
+        return (EndpointSide::Entered(request), false);
+    };
+    let terms = Terms {
+        port: route.port,
+        persistence: route.persistence,
+        is_idempotent: is_idempotent(&request),
+    };
+    let dialing = DialingRequest::new(alloc, &request, (text, terms), route.timeouts, now);
+    (EndpointSide::Dialing(request, dialing), true)
+}
+
+/// A request that is dialled for, on a connection if it takes it, and whether it does.
+fn begin(request: Request, dialing: DialingRequest, is_kept: bool, now: u64) -> (EndpointSide, bool)
+    ensures taken { result.1 ≡ takes_connection is_kept (side.Dialing request dialing) }
+    ensures side { result.0 ≡ begins result.1 is_kept now (side.Dialing request dialing) }
+{
+    if !is_kept {
+        return (EndpointSide::Forwarding(request, dialing.on_new(now)), true);
+    }
+    if dialing.may_be_on_kept() {
+        return (
+            EndpointSide::Forwarding(request, dialing.on_kept(now)),
+            true,
+        );
+    }
+    (EndpointSide::Dialing(request, dialing), false)
+}

@@ -1,0 +1,66 @@
+//! The laws of both sides of a client's connection, over all calls.
+ghost use Rattle.std.specs.Prelude.{List, Option, ℕ};
+ghost use Rattle.bg_http.specs.declared.request.Request.{Request};
+ghost use Rattle.bg_client_side.specs.declared.facts.ClientSettings.{ClientSettings};
+ghost use Rattle.bg_endpoint_side.specs.Dialing.{Forwarded};
+ghost use Rattle.bg_both_sides.specs.Answers.{Reply};
+ghost use Rattle.bg_both_sides.specs.Laws.{AnswersByItsResponse, GoesBackWhole, HasNoneWithoutRequest, LosesItsConnection};
+ghost use Rattle.bg_both_sides.specs.Laws.{RepeatsOnce, RepeatsOnlyByRule, RunsItsClient, SendsItsRequest, WritesItsAnswers};
+ghost use Rattle.bg_both_sides.specs.Runs.{EndpointEvent, SidesCall};
+ghost use Rattle.bg_both_sides.specs.Sides.{Sides};
+ghost use Rattle.bg_both_sides.specs.declared.endpoint_step.Ending.{Ending};
+ghost use Rattle.bg_both_sides.specs.declared.endpoint_step.EndpointStep.{EndpointStep};
+
+/// All calls make calls of the client's connection alone, so each law of bg_client_side holds of it; and the two
+/// sides stay together: a request is at an endpoint only while it is inside, with the text in which it is forwarded.
+pub fn the_clients_side_runs()
+    ensures { (calls : List SidesCall) (old new : Sides) → RunsItsClient old calls new }
+{
+    bg_endpoint_side::laws::a_text_is_written_in_its_order();
+}
+
+/// What was written to the client, and what is left of the answer at hand, are in their sequence the texts of the answers
+/// that were given. A part of an answer is cut off only if the connection has left.
+pub fn answers_are_written_in_sequence()
+    ensures { (calls : List SidesCall) (old new : Sides) → WritesItsAnswers old calls new }
+{
+    bg_client_side::laws::answers_are_written_in_sequence();
+    bg_endpoint_side::laws::a_text_is_written_in_its_order();
+}
+
+/// The answer to a request whose response was read is the text of what the bytes that came on its own connection to an
+/// endpoint are read as, or a refusal.
+pub fn each_answer_is_that_of_its_request()
+    ensures { (old new : Sides) (bytes : List ℕ) (now : ℕ) (step : EndpointStep) (reply : Reply)
+        → AnswersByItsResponse old bytes now step reply new }
+{}
+
+/// What was written to the connection of a request is the beginning of the text of that request as it is forwarded, and the
+/// whole of it if the connection goes back. What came on it is what came since it became the request's.
+pub fn an_endpoint_gets_its_request()
+    ensures text { (settings : ClientSettings) (now : ℕ) (calls : List SidesCall) (new : Sides) (request : Request)
+        (forwarded : Forwarded) → SendsItsRequest settings now calls new request forwarded }
+    ensures whole { (old new : Sides) (event : EndpointEvent) (now : ℕ) (ending : Ending) (reply : Option Reply)
+        → GoesBackWhole old event now ending reply new }
+{
+    bg_endpoint_side::laws::a_text_is_written_in_its_order();
+    bg_endpoint_side::laws::a_connection_goes_back_drained();
+}
+
+/// A connection to an endpoint belongs to a request that is inside. A request that is answered has none, and so has a
+/// client's connection that is idle or has left.
+pub fn a_connection_belongs_to_a_request()
+    ensures inside { (settings : ClientSettings) (now : ℕ) (calls : List SidesCall) (new : Sides)
+        → HasNoneWithoutRequest settings now calls new }
+    ensures answered { (old new : Sides) (event : EndpointEvent) (now : ℕ) (ending : Ending) (reply : Option Reply)
+        → LosesItsConnection old event now ending reply new }
+{
+    bg_endpoint_side::laws::a_text_is_written_in_its_order();
+}
+
+/// A request is sent again at most once, and only by the rule of bg_endpoint_side.
+pub fn a_request_is_sent_again_at_most_once()
+    ensures once { (calls : List SidesCall) (old new : Sides) → RepeatsOnce old calls new }
+    ensures rule { (old new : Sides) (event : EndpointEvent) (now : ℕ) (reply : Option Reply)
+        → RepeatsOnlyByRule old event now reply new }
+{}

@@ -1,0 +1,14 @@
+//! How a request is forwarded.
+
+use bg_endpoint_side::Timeouts;
+use bg_http::Persistence;
+
+/// How a request is forwarded.
+#[derive(Clone, Copy, Drop)]
+pub struct Route {
+    /// The port of its endpoint.
+    pub port: u16,
+    /// Whether its text keeps the connection to the endpoint.
+    pub persistence: Persistence,
+    pub timeouts: Timeouts,
+}
