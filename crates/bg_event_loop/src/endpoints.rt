@@ -1,0 +1,165 @@
+//! The connections to endpoints of a loop.
+ghost use Rattle.std.specs.Prelude.{◌≡◌, ◌&&◌, not};
+
+use crate::endpoint::Endpoint;
+use crate::events::{Source, Told, watch};
+use crate::readiness::Readiness;
+use crate::settings::EndpointSettings;
+use crate::slots::Slots;
+use crate::sockets::{DialledStream, connect};
+use bg_endpoint_side::{DialFault, KeptConnections};
+use bg_http::Persistence;
+use bg_sockets::EpollSet;
+use std::alloc::{AllocError, Global};
+
+/// The connections to endpoints of a loop. Each has a request on it, or is kept for a further one.
+#[derive(Drop)]
+pub(crate) struct Endpoints<'a> {
+    set: &'a EpollSet,
+    settings: EndpointSettings,
+    connections: Slots<Endpoint>,
+    kept: KeptConnections,
+}
+
+impl<'a> Endpoints<'a> {
+    pub(crate) fn new(
+        alloc: Global,
+        set: &'a EpollSet,
+        settings: EndpointSettings,
+    ) -> Result<Endpoints<'a>, AllocError> {
+        Ok(Endpoints {
+            set,
+            settings,
+            connections: Slots::new(alloc),
+            kept: KeptConnections::new(alloc, settings.most_kept)?,
+        })
+    }
+
+    pub(crate) fn settings(&self) -> EndpointSettings
+        ensures { result ≡ self.now.settings }
+    {
+        self.settings
+    }
+
+    pub(crate) fn get(&self, key: usize) -> Option<&Endpoint> {
+        self.connections.get(key)
+    }
+
+    pub(crate) fn get_mut(&mut self, key: usize) -> Option<&mut Endpoint> {
+        self.connections.get_mut(key)
+    }
+
+    /// Takes a connection to a port that was kept, for the request of a client.
+    pub(crate) fn take_kept(&mut self, port: u16, client: usize) -> Option<usize> {
+        let kept = self.kept.take(port)?;
+        let endpoint = self.connections.get_mut(kept.key)?;
+        endpoint.client = Some(client);
+        Some(kept.key)
+    }
+
+    /// Dials a port for the request of a client.
+    pub(crate) fn dial(&mut self, port: u16, client: usize) -> Result<usize, DialFault> {
+        let DialledStream {
+            stream,
+            is_complete,
+        } = connect(port)?;
+        let endpoint = Endpoint {
+            stream,
+            port,
+            ready: Readiness {
+                input: false,
+                output: is_complete,
+                end: false,
+                reset: false,
+            },
+            client: Some(client),
+        };
+        let Ok(key) = self.connections.put(endpoint) else {
+            return Err(DialFault::NoSocket);
+        };
+        if self.is_watched(key) {
+            return Ok(key);
+        }
+        self.close(key);
+        Err(DialFault::NoSocket)
+    }
+
+    /// Watches a connection. Gives whether that succeeded.
+    fn is_watched(&self, key: usize) -> bool {
+        match self.connections.get(key) {
+            Some(endpoint) => watch(self.set, &endpoint.stream, Source::Endpoint(key)).is_ok(),
+            None => false,
+        }
+    }
+
+    /// Notes an event of a connection. Gives the client whose request is on it. A connection without a request is closed: its
+    /// endpoint has ended it, or sent bytes that no request asked for.
+    pub(crate) fn note(&mut self, key: usize, told: Told) -> Option<usize> {
+        let endpoint = self.connections.get_mut(key)?;
+        endpoint.ready.note(told);
+        let is_unasked = endpoint.ready.input;
+        match endpoint.client {
+            Some(client) => Some(client),
+            None => {
+                if is_unasked {
+                    self.kept.remove(key);
+                    self.close(key);
+                }
+                None
+            }
+        }
+    }
+
+    /// The request on a connection is over: keeps the connection for another one, or closes it. It is not kept if bytes of
+    /// it may be unread.
+    pub(crate) fn end_use(&mut self, key: usize, goes_back: bool, now: u64) {
+        match self.connections.get_mut(key) {
+            Some(endpoint) if may_stay(goes_back, endpoint.ready) => {
+                endpoint.client = None;
+                let port = endpoint.port;
+                if let Some(oldest) = self.kept.put(key, port, now) {
+                    self.close(oldest.key);
+                }
+            }
+            _ => self.close(key),
+        }
+    }
+
+    pub(crate) fn close(&mut self, key: usize) {
+        self.connections.remove(key);
+    }
+
+    /// Closes the connections that no request was on for too long.
+    pub(crate) fn close_idle(&mut self, now: u64) {
+        for _ in 0..self.kept.get().len() {
+            match self.kept.take_idle(self.settings.kept_millis, now) {
+                Some(idle) => self.close(idle.key),
+                None => return,
+            }
+        }
+    }
+
+    /// Keeps no connection from now on.
+    pub(crate) fn keep_none(&mut self) {
+        self.settings.persistence = Persistence::Close;
+        for _ in 0..self.kept.get().len() {
+            match self.kept.take_oldest() {
+                Some(oldest) => self.close(oldest.key),
+                None => return,
+            }
+        }
+    }
+
+    /// Lets the keys of closed connections be given again.
+    pub(crate) fn reuse_keys(&mut self) {
+        self.connections.reuse_keys();
+    }
+}
+
+/// Whether a connection is kept whose request is over: it may be, and no byte of it can be unread. The next request would
+/// get such a byte as its response, since no event comes again for it.
+fn may_stay(goes_back: bool, ready: Readiness) -> bool
+    ensures { result ≡ (goes_back && not ready.input) }
+{
+    goes_back && !ready.input
+}

@@ -1,0 +1,86 @@
+//! The settings of an event loop.
+ghost use Rattle.std.specs.Prelude.{◌≡◌, false, true};
+ghost use Rattle.bg_http.specs.Persistences.{keeps};
+
+use bg_client_side::ClientSettings;
+use bg_endpoint_side::Timeouts;
+use bg_http::Persistence;
+use bg_revisions::Service;
+
+/// The settings of the connections to endpoints. Times are milliseconds.
+#[derive(Clone, Copy, Drop)]
+pub struct EndpointSettings {
+    /// Whether a connection is kept for further requests.
+    pub persistence: Persistence,
+    /// The timeouts of a request.
+    pub timeouts: Timeouts,
+    /// The most connections that no request is on.
+    pub most_kept: usize,
+    /// The time for which no request may be on a connection.
+    pub kept_millis: u64,
+}
+
+/// The settings of an event loop.
+#[derive(Clone, Copy, Drop)]
+pub struct LoopSettings {
+    /// The service that its clients ask for.
+    pub service: Service,
+    pub clients: ClientSettings,
+    pub endpoints: EndpointSettings,
+    /// The most requests that may wait for a seat. Each further one is refused with 503.
+    pub most_waiting: usize,
+    /// The time, in milliseconds, after which a shutdown closes the connections that are left.
+    pub closing_millis: u64,
+}
+
+impl LoopSettings {
+    /// The usual settings: each connection, of either side, carries one request.
+    pub fn usual(service: Service) -> LoopSettings
+        ensures service { result.service ≡ service }
+        ensures clients { keeps result.clients.persistence ≡ false }
+        ensures endpoints { keeps result.endpoints.persistence ≡ false }
+    {
+        LoopSettings {
+            service,
+            clients: ClientSettings {
+                persistence: Persistence::Close,
+                most_requests: 1_000,
+                request_millis: 60_000,
+                idle_millis: 75_000,
+            },
+            endpoints: EndpointSettings {
+                persistence: Persistence::Close,
+                timeouts: Timeouts {
+                    response: 60_000,
+                    idle: 30_000,
+                },
+                most_kept: 1_024,
+                kept_millis: 60_000,
+            },
+            most_waiting: 1_024,
+            closing_millis: 60_000,
+        }
+    }
+
+    /// The same with connections of both sides that are kept.
+    pub fn with_kept_connections(self) -> LoopSettings
+        ensures clients { keeps result.clients.persistence ≡ true }
+        ensures endpoints { keeps result.endpoints.persistence ≡ true }
+        ensures others { result ≡ record self {
+          clients = record self.clients { persistence = result.clients.persistence };
+          endpoints = record self.endpoints { persistence = result.endpoints.persistence };
+        } }
+    {
+        LoopSettings {
+            clients: ClientSettings {
+                persistence: Persistence::Keep,
+                ..self.clients
+            },
+            endpoints: EndpointSettings {
+                persistence: Persistence::Keep,
+                ..self.endpoints
+            },
+            ..self
+        }
+    }
+}

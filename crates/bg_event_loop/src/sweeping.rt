@@ -1,0 +1,76 @@
+//! Timeouts, and the end of a loop.
+
+use crate::event_loop::EventLoop;
+use std::net::TcpListener;
+use std::os::fd::AsRawFd;
+
+/// The longest wait for events, in milliseconds.
+const LONGEST_WAIT_MILLIS: i32 = 500;
+
+impl<'a> EventLoop<'a> {
+    /// The longest wait for events: none if a client is to be served, or may enter.
+    pub(crate) fn longest_wait(&self) -> i32 {
+        let may_enter = self.queue.waiting() > 0 && self.queue.free() > 0;
+        if self.due.is_empty() && !may_enter {
+            LONGEST_WAIT_MILLIS
+        } else {
+            0
+        }
+    }
+
+    /// Ends what has timed out. Each client is served, so that its request ends if it is given up, and watched from now on,
+    /// so that it is found if it has gone.
+    pub(crate) fn sweep(&mut self) {
+        for key in 0..self.clients.bound() {
+            self.look(key);
+        }
+        self.endpoints.close_idle(self.now);
+    }
+
+    fn look(&mut self, key: usize) {
+        let is_over = self.is_past_closing();
+        let Some(client) = self.clients.get_mut(key) else {
+            return;
+        };
+        client.connection.look(self.now);
+        if is_over {
+            client.connection.fail();
+        }
+        self.watch(key);
+        self.make_due(key);
+    }
+
+    fn is_past_closing(&self) -> bool {
+        match self.closes_at {
+            Some(moment) => moment <= self.now,
+            None => false,
+        }
+    }
+
+    /// Begins a shutdown: no client is accepted any more, no connection is kept, and idle ones are closed.
+    pub(crate) fn begin_closing(&mut self, listener: &TcpListener) {
+        if self.closes_at.is_some() {
+            return;
+        }
+        self.set.remove(listener.as_raw_fd());
+        self.endpoints.keep_none();
+        self.closes_at = Some(self.now.saturating_add(self.settings.closing_millis));
+        for key in 0..self.clients.bound() {
+            if let Some(client) = self.clients.get_mut(key) {
+                client.connection.begin_closing();
+                self.make_due(key);
+            }
+        }
+    }
+
+    /// Whether a shutdown has begun, and no client is left.
+    pub(crate) fn is_over(&self) -> bool {
+        self.closes_at.is_some() && self.clients.is_empty()
+    }
+
+    /// Lets the keys of closed connections be given again.
+    pub(crate) fn reuse_keys(&mut self) {
+        self.clients.reuse_keys();
+        self.endpoints.reuse_keys();
+    }
+}

@@ -1,0 +1,537 @@
+"""The event loop of bg_event_loop on loopback: `bg_tests_event_loop` has a book of four seats and one
+endpoint. Connections of both sides are kept for further requests, or carry one request each.
+"""
+import contextlib
+import os
+import socket
+import subprocess
+import threading
+from collections.abc import Iterator, Sequence
+from functools import partial
+
+from support import TOP, checks, processes
+from support.checks import check, comes
+from support.clients import asked, at_once, connect, received, reset, timed
+from support.endpoints import (
+    END_OF_HEAD,
+    LONGEST,
+    Endpoint,
+    Held,
+    Request,
+    read_request,
+    reset_at_once,
+)
+from support.messages import BAD_GATEWAY, BAD_REQUEST, CONTINUE, answer, request, response
+from support.ports import connections_at, free_port, unread_at
+from support.switch import LISTENING
+
+# Another program can be tried by hand in its place.
+PROGRAM = os.environ.get(
+    "BG_TESTS_EVENT_LOOP",
+    str(TOP / "crates" / "bg_tests_event_loop" / "out" / "bg_tests_event_loop"),
+)
+SEATS = 4  # of the program's book
+CLOSE, KEEP = "close", "keep"
+MODES = CLOSE, KEEP
+CLOSES = b"Connection: close\r\n"
+HOST_FIELD = b"Host: x\r\n"
+LARGE = 300_000
+READ = 16_384  # bytes that the loop reads at once
+# What an endpoint does at these targets. It answers all others with the target and the body.
+RESETS, TO_THE_END, SENDS_MUCH = b"/resets", b"/to-the-end", b"/sends-much"
+CLOSES_AFTERWARDS, DIES, HOLDS = b"/closes-afterwards", b"/dies", b"/holds"
+SENDS_MORE, SENDS_MORE_UNREAD, SENDS_LATER = b"/sends-more", b"/sends-more-unread", b"/sends-later"
+UNASKED = response(b"nobody asked for this")
+# A response that one read of the loop takes whole, without the bytes behind it. Its length has five
+# digits.
+HEAD = len(response(bytes(10_000))) - 10_000
+ONE_READ = response(b"x" * (READ - HEAD))
+
+
+class KeptEndpoint(Endpoint):
+    """An endpoint that keeps each connection until a request says that it is the last one."""
+
+    def __init__(self) -> None:
+        self.connections = 0
+        self.requests: list[Request] = []
+        self.held = Held(b"held")
+        self.may_send_later = threading.Event()
+        super().__init__(self.answer_by_target)
+
+    def serve(self, connection: socket.socket) -> None:
+        with self.lock:
+            self.connections += 1
+        with connection, contextlib.suppress(OSError):
+            connection.settimeout(LONGEST)
+            while (asked_for := read_request(connection)) is not None:
+                self.note(asked_for)
+                self.answer(asked_for, connection)
+                if is_last(asked_for):
+                    return
+
+    def note(self, asked_for: Request) -> None:
+        with self.lock:
+            self.requests.append(asked_for)
+
+    def answer_by_target(self, asked_for: Request, connection: socket.socket) -> None:
+        target = asked_for.target
+        if target == RESETS:
+            reset_at_once(asked_for, connection)
+        elif target == TO_THE_END:
+            connection.sendall(b"HTTP/1.1 200 OK\r\n\r\nall")
+            connection.close()
+        elif target == SENDS_MUCH:
+            connection.sendall(response(b"x" * LARGE))
+        elif target == CLOSES_AFTERWARDS:
+            connection.sendall(response(target))
+            connection.close()
+        elif target == DIES:
+            connection.sendall(response(target))
+            self.swallow(connection)
+        elif target == SENDS_MORE:
+            connection.sendall(response(target) + UNASKED)
+        elif target == SENDS_MORE_UNREAD:
+            connection.sendall(ONE_READ + UNASKED)
+        elif target == SENDS_LATER:
+            connection.sendall(response(target))
+            self.may_send_later.wait(LONGEST)
+            connection.sendall(UNASKED)
+        elif target == HOLDS:
+            self.held(asked_for, connection)
+        else:
+            connection.sendall(response(echo(target, asked_for.body)))
+
+    def swallow(self, connection: socket.socket) -> None:
+        """Reads one more request, and closes the connection without an answer."""
+        if (swallowed := read_request(connection)) is not None:
+            self.note(swallowed)
+        connection.close()
+
+    def targets(self) -> list[bytes]:
+        """The targets of all requests, in the order in which they came."""
+        with self.lock:
+            return [one.target for one in self.requests]
+
+
+def is_last(asked_for: Request) -> bool:
+    return asked_for.value(b"Connection") == b"close"
+
+
+def echo(target: bytes, body: bytes = b"") -> bytes:
+    return target + b" " + body
+
+
+class EventLoop:
+    """A running `bg_tests_event_loop`, and its endpoint."""
+
+    def __init__(self, mode: str) -> None:
+        self.endpoint = KeptEndpoint()
+        self.port = free_port()
+        self.process = subprocess.Popen(
+            [PROGRAM, str(self.port), str(self.endpoint.port), mode],
+            stdin=subprocess.PIPE,
+            stdout=subprocess.PIPE,
+            text=True,
+        )
+        processes.limit(self.process)
+        assert self.process.stdout is not None
+        check("listening", self.process.stdout.readline(), LISTENING)
+
+    def begin_shutdown(self) -> None:
+        assert self.process.stdin is not None
+        self.process.stdin.close()
+
+    def check_end(self, name: str) -> None:
+        """Checks that the program ends by itself with status 0, having printed nothing more."""
+        assert self.process.stdout is not None
+        with self.process.stdout:
+            printed = self.process.stdout.read()
+        check(name, (printed, self.process.wait(processes.LONGEST)), ("", 0))
+
+    def count_descriptors(self) -> int:
+        return len(processes.descriptors(self.process.pid))
+
+    def has_read(self, clients: int) -> bool:
+        """Whether it has accepted so many clients that are still there, and read all that they have
+        sent, at a time that comes soon."""
+        return comes(lambda: connections_at(self.port) == clients and unread_at(self.port) == 0)
+
+    def once(self, text: bytes) -> bytes:
+        """What a client is answered that says that this is its last request."""
+        return timed(self.port, [last(text)]).answer
+
+
+@contextlib.contextmanager
+def running(mode: str) -> Iterator[EventLoop]:
+    """An event loop, whose shutdown begins at the end."""
+    event_loop = EventLoop(mode)
+    try:
+        yield event_loop
+    finally:
+        event_loop.begin_shutdown()
+        event_loop.endpoint.held.is_free.set()
+    event_loop.check_end(f"{mode}: a shutdown ends the program")
+
+
+def last(text: bytes) -> bytes:
+    """A request that says that it is the last one of its connection."""
+    return text.replace(HOST_FIELD, HOST_FIELD + CLOSES, 1)
+
+
+class KeptClient:
+    """A client that sends several requests on one connection."""
+
+    def __init__(self, port: int) -> None:
+        self.connection = connect(port)
+        self.input = self.connection.makefile("rb")
+
+    def __enter__(self) -> "KeptClient":
+        return self
+
+    def __exit__(self, *_: object) -> None:
+        self.input.close()
+        self.connection.close()
+
+    def send(self, text: bytes) -> None:
+        self.connection.sendall(text)
+
+    def answer(self) -> bytes:
+        """The next answer, whose body comes by length; what came of it if the connection ends
+        before."""
+        head = b""
+        while not head.endswith(END_OF_HEAD):
+            line = self.input.readline()
+            if not line:
+                return head
+            head += line
+        lengths = [line for line in head.split(b"\r\n") if line.startswith(b"Content-Length:")]
+        return head + self.input.read(int(lengths[0].partition(b":")[2]) if lengths else 0)
+
+    def answer_to(self, text: bytes) -> bytes:
+        self.send(text)
+        return self.answer()
+
+    def rest(self) -> bytes:
+        """All that comes until the connection ends."""
+        with contextlib.suppress(ConnectionError):
+            return self.input.read()
+        return b""
+
+
+def single_requests() -> None:
+    """Clients that send one request each, in both modes."""
+    for mode in MODES:
+        with running(mode) as event_loop:
+            check(f"{mode}: a request", event_loop.once(request(b"/one")), answer(echo(b"/one")))
+            check(
+                f"{mode}: a body",
+                event_loop.once(request(b"/body", b"POST", b"abc")),
+                answer(echo(b"/body", b"abc")),
+            )
+            check(
+                f"{mode}: a body in chunks",
+                event_loop.once(request(b"/body", b"POST", b"abc", chunked=True)),
+                answer(echo(b"/body", b"abc")),
+            )
+            check(
+                f"{mode}: a refusal", timed(event_loop.port, [b"BAD\r\n\r\n"]).answer, BAD_REQUEST
+            )
+            check(
+                f"{mode}: a response up to the end of the connection",
+                event_loop.once(request(TO_THE_END)),
+                answer(b"all"),
+            )
+            check(
+                f"{mode}: a large response",
+                event_loop.once(request(SENDS_MUCH)),
+                answer(b"x" * LARGE),
+            )
+            check(f"{mode}: an endpoint that resets", event_loop.once(request(RESETS)), BAD_GATEWAY)
+            check(
+                f"{mode}: a client that has ended its side",
+                asked(event_loop.port, request(b"/half")),
+                (answer if mode == CLOSE else response)(echo(b"/half")),
+            )
+
+
+def continues() -> None:
+    """A client waits for 100 Continue before it sends its body."""
+    for mode in MODES:
+        with running(mode) as event_loop, connect(event_loop.port) as client:
+            text = last(request(b"/asks", b"POST", b"body"))
+            head = text.removesuffix(b"body").replace(
+                HOST_FIELD, HOST_FIELD + b"Expect: 100-continue\r\n", 1
+            )
+            client.sendall(head)
+            check(f"{mode}: 100 Continue", client.recv(len(CONTINUE), socket.MSG_WAITALL), CONTINUE)
+            client.sendall(b"body")
+            check(
+                f"{mode}: the answer after 100 Continue",
+                received(client),
+                answer(echo(b"/asks", b"body")),
+            )
+
+
+def one_request_each() -> None:
+    """Without kept connections, each client gets one answer, and each request has a connection of
+    its own to the endpoint."""
+    with running(CLOSE) as event_loop:
+        for number in range(3):
+            target = b"/%d" % number
+            check(
+                f"the only answer, {number}",
+                timed(event_loop.port, [request(target)]).answer,
+                answer(echo(target)),
+            )
+        check("connections to the endpoint", event_loop.endpoint.connections, 3)
+        check(
+            "each request says that it is the last one",
+            [is_last(one) for one in event_loop.endpoint.requests],
+            [True] * 3,
+        )
+
+
+def several_requests() -> None:
+    """Requests of a kept connection are answered in their order, over one connection to the
+    endpoint."""
+    with running(KEEP) as event_loop, KeptClient(event_loop.port) as client:
+        for number in range(3):
+            target = b"/%d" % number
+            check(
+                f"a kept connection, {number}",
+                client.answer_to(request(target)),
+                response(echo(target)),
+            )
+        check("one connection to the endpoint", event_loop.endpoint.connections, 1)
+        targets = [b"/pipelined/%d" % number for number in range(20)]
+        client.send(b"".join(map(request, targets)))
+        check(
+            "pipelined requests",
+            [client.answer() for _ in targets],
+            [response(echo(target)) for target in targets],
+        )
+        check("still one connection to the endpoint", event_loop.endpoint.connections, 1)
+        check("the last request", client.answer_to(last(request(b"/last"))), answer(echo(b"/last")))
+        check("the connection ends after the last request", client.rest(), b"")
+
+
+def bodies_like_requests() -> None:
+    """A body that looks like a request is a body."""
+    with running(KEEP) as event_loop, KeptClient(event_loop.port) as client:
+        body = request(b"/hidden")
+        client.send(request(b"/body", b"POST", body) + request(b"/after"))
+        check("a body that looks like a request", client.answer(), response(echo(b"/body", body)))
+        check("the request behind it", client.answer(), response(echo(b"/after")))
+        check(
+            "no hidden request reaches the endpoint",
+            event_loop.endpoint.targets(),
+            [b"/body", b"/after"],
+        )
+
+
+def closed_while_kept() -> None:
+    """A connection that the endpoint has closed while it was kept carries no request."""
+    with running(KEEP) as event_loop, KeptClient(event_loop.port) as client:
+        check("the first response", client.answer_to(request(b"/one")), response(echo(b"/one")))
+        descriptors = event_loop.count_descriptors()
+        check(
+            "a response before the close",
+            client.answer_to(request(CLOSES_AFTERWARDS)),
+            response(CLOSES_AFTERWARDS),
+        )
+        check(
+            "the loop closes the connection, too",
+            comes(lambda: event_loop.count_descriptors() < descriptors),
+            True,
+        )
+        # a POST is not sent again, so it is answered only if it has a connection of its own
+        check(
+            "a request after the close",
+            client.answer_to(request(b"/next", b"POST", b"")),
+            response(echo(b"/next")),
+        )
+        check("connections to the endpoint", event_loop.endpoint.connections, 2)
+
+
+def sent_again() -> None:
+    """A request that a kept connection loses is sent again if it is a GET, and not if it is a
+    POST."""
+    with running(KEEP) as event_loop, KeptClient(event_loop.port) as client:
+        endpoint = event_loop.endpoint
+        check("a response before a lost GET", client.answer_to(request(DIES)), response(DIES))
+        check("a GET is sent again", client.answer_to(request(b"/get")), response(echo(b"/get")))
+        check("it came twice", endpoint.targets().count(b"/get"), 2)
+        check("a response before a lost POST", client.answer_to(request(DIES)), response(DIES))
+        check(
+            "a POST is not sent again",
+            client.answer_to(request(b"/post", b"POST", b"")),
+            BAD_GATEWAY,
+        )
+        check("it came once", endpoint.targets().count(b"/post"), 1)
+
+
+def unasked_bytes() -> None:
+    """Bytes behind a response, which nobody asked for, reach nobody."""
+    for target, whole in (
+        (SENDS_MORE, response(SENDS_MORE)),
+        (SENDS_MORE_UNREAD, ONE_READ),
+    ):
+        with running(KEEP) as event_loop, KeptClient(event_loop.port) as client:
+            name = target.decode()
+            check(f"{name}: the response", client.answer_to(request(target)), whole)
+            check_clean(f"{name}: the answers after it", client)
+
+
+def check_clean(name: str, client: KeptClient) -> None:
+    """Checks that each of several requests gets its own answer."""
+    targets = [b"/clean/%d" % number for number in range(3)]
+    check(
+        name,
+        [client.answer_to(request(target)) for target in targets],
+        [response(echo(target)) for target in targets],
+    )
+
+
+def unasked_bytes_later() -> None:
+    """A kept connection on which bytes come that nobody asked for is closed."""
+    with running(KEEP) as event_loop, KeptClient(event_loop.port) as client:
+        check(
+            "the response before unasked bytes",
+            client.answer_to(request(SENDS_LATER)),
+            response(SENDS_LATER),
+        )
+        descriptors = event_loop.count_descriptors()
+        event_loop.endpoint.may_send_later.set()
+        check(
+            "unasked bytes close a kept connection",
+            comes(lambda: event_loop.count_descriptors() < descriptors),
+            True,
+        )
+        check_clean("the answers after unasked bytes", client)
+
+
+def fault_behind_a_request() -> None:
+    """A fault behind a good request is refused after the answer, and ends the connection."""
+    with running(KEEP) as event_loop, KeptClient(event_loop.port) as client:
+        client.send(request(b"/good") + b"BAD\r\n\r\n")
+        check("the good request is answered", client.answer(), response(echo(b"/good")))
+        check("the fault is refused", client.rest(), BAD_REQUEST)
+
+
+def resets_inside() -> None:
+    """Clients reset their connections while their requests are inside, or wait for a seat. Their
+    seats are free again afterwards."""
+    for mode in MODES:
+        with running(mode) as event_loop:
+            held = event_loop.endpoint.held
+            clients = [connect(event_loop.port) for _ in range(3 * SEATS)]
+            for client in clients:
+                client.sendall(request(HOLDS))
+            check(f"{mode}: all seats are taken", held.holds(SEATS), True)
+            check(f"{mode}: all requests are read", event_loop.has_read(3 * SEATS), True)
+            for client in clients:
+                reset(client)
+            check(
+                f"{mode}: the requests end with their clients",
+                comes(lambda: held.pending == held.closed),
+                True,
+            )
+            targets = [b"/after/%d" % number for number in range(SEATS)]
+            check(
+                f"{mode}: the seats are free again",
+                all_at_once(event_loop, targets),
+                [answer(echo(target)) for target in targets],
+            )
+
+
+def all_at_once(event_loop: EventLoop, targets: Sequence[bytes]) -> list[bytes]:
+    """What clients are answered that come at once."""
+    return at_once([partial(event_loop.once, request(target)) for target in targets])
+
+
+def many_clients() -> None:
+    """Forty clients at once wait until seats are free, and are answered then."""
+    for mode in MODES:
+        with running(mode) as event_loop:
+            endpoint = event_loop.endpoint
+            first = [connect(event_loop.port) for _ in range(SEATS)]
+            for client in first:
+                client.sendall(last(request(HOLDS)))
+            check(f"{mode}: all seats are taken", endpoint.held.holds(SEATS), True)
+            targets = [b"/many/%d" % number for number in range(40)]
+            later = [connect(event_loop.port) for _ in targets]
+            for client, target in zip(later, targets):
+                client.sendall(last(request(target)))
+            check(f"{mode}: all requests are read", event_loop.has_read(SEATS + len(targets)), True)
+            check(f"{mode}: the others wait", endpoint.targets(), [HOLDS] * SEATS)
+            endpoint.held.is_free.set()
+            check(
+                f"{mode}: held requests are answered",
+                [received(client) for client in first],
+                [answer(b"held")] * SEATS,
+            )
+            check(
+                f"{mode}: the others are answered",
+                [received(client) for client in later],
+                [answer(echo(target)) for target in targets],
+            )
+
+
+def graceful_shutdown() -> None:
+    """A shutdown closes idle connections, and answers the request at hand and one whose head has
+    begun to come. Then the program ends."""
+    event_loop = EventLoop(KEEP)
+    held = event_loop.endpoint.held
+    with contextlib.ExitStack() as stack:
+        idle, at_hand, partial_head = (
+            stack.enter_context(KeptClient(event_loop.port)) for _ in range(3)
+        )
+        check("before a shutdown", idle.answer_to(request(b"/idle")), response(echo(b"/idle")))
+        at_hand.send(request(HOLDS))
+        check("a request is at hand", held.holds(1), True)
+        text = request(b"/partial")
+        partial_head.send(text[:-6])
+        check("half a head is read", event_loop.has_read(3), True)
+        event_loop.begin_shutdown()
+        check("a shutdown closes idle connections", idle.rest(), b"")
+        late = stack.enter_context(connect(event_loop.port))
+        late.sendall(request(b"/late"))
+        partial_head.send(text[-6:])
+        check("half a request is answered", partial_head.rest(), answer(echo(b"/partial")))
+        check("the program goes on for the request at hand", event_loop.process.poll(), None)
+        held.is_free.set()
+        check("the request at hand is answered", at_hand.rest(), answer(b"held"))
+        check("a shutdown accepts nobody", received(late), b"")
+    event_loop.check_end("a graceful shutdown")
+
+
+def wrong_words() -> None:
+    """Words that are wrong end the program with status 1."""
+    few: list[str] = []
+    many = ["0", "9", KEEP, ""]
+    for words in (few, many, ["0", "9", "sometimes"], ["0", "65536", KEEP]):
+        run = processes.run_to_end([PROGRAM, *words])
+        check(f"the words {words}", (run.printed, run.status), ("", 1))
+
+
+if __name__ == "__main__":
+    checks.run(
+        "live_event_loop",
+        (
+            single_requests,
+            continues,
+            one_request_each,
+            several_requests,
+            bodies_like_requests,
+            closed_while_kept,
+            sent_again,
+            unasked_bytes,
+            unasked_bytes_later,
+            fault_behind_a_request,
+            resets_inside,
+            many_clients,
+            graceful_shutdown,
+            wrong_words,
+        ),
+        4,
+    )
