@@ -1,0 +1,11 @@
+pub mod Outcomes
+pub mod Kept
+pub mod Opened
+pub mod Inserting
+pub mod Failing
+pub mod Creating
+pub mod Selecting
+pub mod Queried
+pub mod Unread
+pub mod Opening
+pub mod Reopened

@@ -1,0 +1,4 @@
+pub mod Schema
+pub mod Journal
+pub mod Faults
+pub mod Failures
