@@ -6,6 +6,7 @@ use Rattle.json.specs.Print.{print}
 use Rattle.json.specs.Token.{Token, begin_object, end_object, key, null, number, string}
 use Rattle.json.specs.Written.{Written}
 use Rattle.bg_access_log.specs.declared.log_entry.LogEntry.{LogEntry}
+use Rattle.bg_access_log.specs.declared.lost_lines.LostLines.{LostLines}
 
 -- a text as a value, or null
 abbrev pub text_value : Option (List ℕ) → Token
@@ -67,6 +68,15 @@ object e =
 -- the object's text, as compact JSON, and a line feed
 abbrev pub line_text : LogEntry → List ℕ
 line_text e = print (object e) ++ 10 ∷ []
+
+-- the object that says how many lines were lost, and its line
+abbrev pub lost_object : LostLines → List Token
+lost_object l =
+    begin_object ∷ [] ++ text_member (codes "time") (option_map (λ t. t.bytes) l.time)
+    ++ number_member (codes "lost") (Some l.lost) ++ end_object ∷ []
+
+abbrev pub lost_line_text : LostLines → List ℕ
+lost_line_text l = print (lost_object l) ++ 10 ∷ []
 
 -- these tokens were written behind those before
 pub record Added (old new : Written) (more : List Token) : Type 0 where

@@ -3,11 +3,11 @@ ghost use Rattle.std.specs.Prelude.{◌≡◌, ◌++◌, if◌then◌else◌};
 
 use crate::log_entry::LogEntry;
 use crate::log_file::LogFile;
+use crate::lost_lines::LostLines;
 use crate::notices::Notices;
 use crate::time_text::{TimeText, TimeTexts};
 use crate::trouble::{LogTrouble, Trouble};
 use std::alloc::Global;
-use std::io::Write;
 use std::sync::atomic::{AtomicBool, AtomicU64, Ordering};
 use std::sync::{Mutex, Wait};
 use std::time::{Clock, Duration};
@@ -180,8 +180,12 @@ impl AccessLog {
             self.lose(rt, lost);
             return;
         }
-        if !file.write(self.line_of_lost(rt, lost)) {
-            self.lose(rt, lost);
+        match self.line_of_lost(rt, lost) {
+            // the file keeps what it does not take of the line, and so the number is not told twice
+            Some(line) => {
+                file.write(line);
+            }
+            None => self.lose(rt, lost),
         }
     }
 
@@ -199,21 +203,14 @@ impl AccessLog {
         queue.lost = queue.lost.saturating_add(lost);
     }
 
-    /// The line with the number of lost lines; empty if an allocation fails.
-    fn line_of_lost<R: Clock + Wait>(&self, rt: &R, lost: u64) -> Vec<u8> {
-        let mut line = Vec::new(self.alloc);
-        let time = self.time(rt);
-        let written = match &time {
-            Some(time) => {
-                let time = time.as_str();
-                writeln!(line, "{{\"time\":\"{time}\",\"lost\":{lost}}}")
-            }
-            None => writeln!(line, "{{\"time\":null,\"lost\":{lost}}}"),
-        };
-        if written.is_err() {
-            line.clear();
+    /// The line with the number of lost lines; `None` if an allocation fails.
+    fn line_of_lost<R: Clock + Wait>(&self, rt: &R, lost: u64) -> Option<Vec<u8>> {
+        LostLines {
+            time: self.time(rt),
+            lost,
         }
-        line
+        .to_line(self.alloc)
+        .ok()
     }
 }
 

@@ -9,6 +9,7 @@ mod access_log;
 mod line;
 mod log_entry;
 mod log_file;
+mod lost_lines;
 mod notices;
 mod time_text;
 mod trouble;

@@ -5,7 +5,7 @@ ghost use Rattle.std.specs.Option.{option_map};
 ghost use Rattle.bg_access_log.specs.Lines.{Adds, count_members, end_members, line_text, object, request_members};
 
 use crate::line::{add_number, add_optional, add_text};
-use crate::time_text::TimeText;
+use crate::time_text::{TimeText, text_of};
 use json::Writer;
 use std::alloc::{AllocError, Global};
 use std::borrow::CowStr;
@@ -80,7 +80,7 @@ impl LogEntry<'_> {
     fn add_request(&self, line: &mut Writer) -> Result<(), AllocError>
         ensures { Adds result line.old line.new (request_members self.now) }
     {
-        add_text(line, "time", self.time_text())?;
+        add_text(line, "time", text_of(&self.time))?;
         add_text(line, "service", Some(self.service))?;
         add_number(line, "revision", self.revision)?;
         add_number(line, "request", self.request)?;
@@ -109,15 +109,6 @@ impl LogEntry<'_> {
         add_optional(line, "slot_port", as_number(self.slot_port))?;
         add_optional(line, "tries", as_wide(self.tries))?;
         add_optional(line, "idle_connections", self.idle_connections)
-    }
-
-    fn time_text(&self) -> Option<&str>
-        ensures { option_map (λ t. t.now) result ≡ option_map (λ t. t.bytes) self.now.time }
-    {
-        match &self.time {
-            Some(time) => Some(time.as_str()),
-            None => None,
-        }
     }
 }
 

@@ -1,5 +1,5 @@
 //! The file of the log.
-ghost use Rattle.std.specs.Prelude.{◌≡◌, ◌≤◌, ◌-◌, ◌⊎◌, Some, slice_get};
+ghost use Rattle.std.specs.Prelude.{◌≡◌, ◌≤◌, ◌-◌, ◌⊎◌, [], Some, drop, slice_get, true};
 
 use libc::net::{POLLOUT, poll};
 use libc::types::pollfd;
@@ -106,20 +106,28 @@ impl LogFile {
     }
 
     /// The bytes that the file has not taken yet.
-    pub(crate) fn rest(&self) -> &[u8] {
+    pub(crate) fn rest(&self) -> &[u8]
+        ensures { result.now ≡ drop self.now.written self.now.rest.items }
+    {
         self.rest.as_slice().get(self.written..).unwrap_or(&[])
     }
 
-    /// Writes bytes, and keeps the rest of them. Returns whether the file took all. All earlier bytes have
-    /// to be written before.
-    pub(crate) fn write(&mut self, bytes: Vec<u8>) -> bool {
+    /// Writes bytes, and keeps the rest of them for [`LogFile::write_rest`]. Returns whether the file took all. All earlier
+    /// bytes have to be written before.
+    pub(crate) fn write(&mut self, bytes: Vec<u8>) -> bool
+        ensures kept { self.new.rest ≡ bytes }
+        ensures all { result ≡ true → drop self.new.written self.new.rest.items ≡ [] }
+    {
         self.rest = bytes;
         self.written = 0;
         self.write_rest()
     }
 
     /// Writes the bytes that the file has not taken yet. Returns whether it took all.
-    pub(crate) fn write_rest(&mut self) -> bool {
+    pub(crate) fn write_rest(&mut self) -> bool
+        ensures kept { self.new.rest ≡ self.old.rest }
+        ensures all { result ≡ true → drop self.new.written self.new.rest.items ≡ [] }
+    {
         self.error = None;
         self.begin_again_if_truncated();
         for pieces in 0..self.rest.len() {
@@ -138,7 +146,9 @@ impl LogFile {
 
     /// Goes back to the start of the line that was written in part, if the file has become empty (`copytruncate` of
     /// logrotate).
-    fn begin_again_if_truncated(&mut self) {
+    fn begin_again_if_truncated(&mut self)
+        ensures { self.new.rest ≡ self.old.rest }
+    {
         let start = line_start(&self.rest, self.written);
         if start < self.written
             && let Some(file) = &self.file
@@ -149,7 +159,9 @@ impl LogFile {
     }
 
     /// Makes one write, of a line end if the file may end in a part of a line. Returns whether the file took a byte.
-    fn write_piece(&mut self) -> bool {
+    fn write_piece(&mut self) -> bool
+        ensures { self.new.rest ≡ self.old.rest }
+    {
         let count = match &self.file {
             Some(file) if self.is_torn => libc::write(file.as_raw_fd(), b"\n"),
             Some(file) => libc::write(file.as_raw_fd(), self.rest()),

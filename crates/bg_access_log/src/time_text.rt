@@ -1,5 +1,6 @@
 //! The time of day, as the log writes it.
 ghost use Rattle.std.specs.Prelude.{◌≡◌, ◌+◌, ◌/◌, ◌%◌, IfSome, IsAscii, slice_set};
+ghost use Rattle.std.specs.Option.{option_map};
 
 use jiff::Timestamp;
 use std::alloc::Global;
@@ -63,6 +64,16 @@ impl TimeText {
             Ok(text) => text,
             Err(_) => "",
         }
+    }
+}
+
+/// The text of a time, if there is one.
+pub(crate) fn text_of(time: &Option<TimeText>) -> Option<&str>
+    ensures { option_map (λ t. t.now) result ≡ option_map (λ t. t.bytes) time.now }
+{
+    match time {
+        Some(time) => Some(time.as_str()),
+        None => None,
     }
 }
 

@@ -1,15 +1,6 @@
-use Rattle.std.proofs.Common.{Result, Ok, Err, [], ◌∷◌}
-use Rattle.std.specs.declared.alloc.AllocError.{AllocError}
-use Rattle.json.specs.Token.{Token, begin_object, end_object}
-use Rattle.json.specs.Written.{Writes, Written}
-use Rattle.bg_access_log.proofs.Adding.{added_then, adds_then}
-use Rattle.bg_access_log.specs.Lines.{Adds}
+use Rattle.json.specs.Token.{begin_object, end_object}
+use Rattle.bg_access_log.proofs.Adding.{added_then, adds, adds_then}
 use Rattle.bg_access_log.proofs.log_entry.LogEntry.add_object.Goals as goal
-
--- a token that was written was added
-adds : (r : Result (Unit {0}) AllocError) (old new : Written) (t : Token) → Writes r old new t → Adds r old new (t ∷ [])
-adds (Ok u) old new t w = record { before = w.room.0; tokens = w.ok }
-adds (Err e) old new t w = tt
 
 pub returns : goal.returns
 returns c =

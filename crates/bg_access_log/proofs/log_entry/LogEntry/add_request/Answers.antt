@@ -3,7 +3,7 @@ use Rattle.bg_access_log.proofs.log_entry.LogEntry.add_request.Goals as goal
 
 pub returns : goal.returns
 returns c =
-    let one = rw c.time_text.ensures at c.in_ok-add_text.ensures in
+    let one = rw c.text_of.ensures at c.in_ok-add_text.ensures in
     let two = added_then _ _ _ _ _ one c.in_ok-add_text-2.ensures in
     let three = added_then _ _ _ _ _ two c.in_ok-add_number.ensures in
     let four = added_then _ _ _ _ _ three c.in_ok-add_number-2.ensures in
