@@ -1,191 +1,114 @@
 """A switch with a book of its own, as far as the tools need one: one connection after the other, no
-traffic."""
-import dataclasses
+traffic. What the book replies is what the rule says."""
 import pathlib
-from collections.abc import Callable, Sequence
+import threading
+from collections.abc import Sequence
 
 from bg_switch_tools.switch.before import WORD, boot_clock
+from support.rule import attempts, selections
+from support.rule.book import RevisionState, RuleBook, revision_states
+from support.rule.entries import Entry
+from support.rule.history import History
+from support.rule.strategy import Strategy
 from tests.before_line import Clock, answer_before
 from tests.fake_port import ENDS, FakePort
 
-
-@dataclasses.dataclass
-class Held:
-    """A revision of the book."""
-
-    number: int
-    name: str
-    ports: tuple[str, ...]
-    desired: int
-    available: int = 0
-    open: int = 0
-    deadline: int | None = None
+REPLICAS = 2
 
 
-class Refused(Exception):
-    """A line that the rule refuses."""
+def overtakes(event: Entry, last: Entry) -> bool:
+    """Whether an event leaves no trace of the entry before it: a later moment, or another size of
+    the same revision."""
+    if event.word == "available" and last.word == "available":
+        return event.revision == last.revision
+    return event.word == "tick" and last.word == "tick"
 
 
-class FakeBook:
-    """A strategy with two replicas, and with those steps that are given: an analysis before, a
-    pause, an analysis after."""
+class FakeBook(RuleBook):
+    """A strategy with two replicas, and with those steps that are given: an analysis before (`pre`),
+    a pause (`pause`), an analysis after (`post`). Old and aborted revisions have the same delay."""
 
     def __init__(self, *steps: str, delay: int = 30) -> None:
-        self.steps = steps
-        self.delay = delay
-        self.moment = 0
-        self.phase = ""
-        self.revisions: dict[int, Held] = {}
-        self.down: list[
-            str
-        ] | None = (
-            None  # what the line `down` has named; None for a switch that does not know the line
+        super().__init__(
+            Strategy(
+                replicas=REPLICAS,
+                preview_replicas=REPLICAS,
+                has_preview=True,
+                auto="pause" not in steps,
+                pre="pre" in steps,
+                post="post" in steps,
+                delay=delay,
+                abort_delay=delay,
+            )
         )
+        # what the line `down` has named; None for a switch that does not know the line
+        self.down: list[str] | None = None
         self.clock: Clock = boot_clock  # by which a line `before` is judged
         self.knows_before = True
         # by the first word: what a test wants each line of it to be refused with
         self.refusals: dict[str, str] = {}
-        self.active = self.stable = self.newest = 1
+        # held while a line is answered, since tests send lines beside the control port
+        self._turn = threading.RLock()
 
     def answer(self, line: str) -> Sequence[str] | None:
         """The reply to a line; `ENDS` for `quit`."""
-        words = line.split()
-        if line == "quit":
-            return ENDS
+        with self._turn:
+            return ENDS if line == "quit" else self._answer(line.split(), line)
+
+    def _answer(self, words: list[str], line: str) -> Sequence[str] | None:
         if words[:1] == [WORD] and self.knows_before:
-            return answer_before(line, bool(self.revisions), self.clock, self.answer)
-        known: dict[str, Callable[[list[str]], Sequence[str]]] = {
-            "open": self._open,
-            "report": self._report,
-            "tick": self._tick,
-            "available": self._available,
-            "deploy": self._deploy,
-            "promote": self._promote,
-            "abort": self._abort,
-            "retry": self._retry,
-            "verdict": self._verdict,
-        }
-        if self.down is not None:
-            known["down"] = self._down
-        if not words or words[0] not in known:
-            return ["fault UnknownWord" if words else "fault Empty"]
-        if not self.revisions and words[0] != "open":
-            return ["refused NotOpen"]
-        if words[0] in self.refusals:
-            return [f"refused {self.refusals[words[0]]}"]
-        try:
-            return known[words[0]](words[1:])
-        except Refused as refused:
-            return [f"refused {refused}"]
+            return answer_before(line, self.history is not None, self.clock, self.answer)
+        word = words[0] if words else ""
+        if word in self.refusals and (word == "open" or self.history is not None):
+            return [f"refused {self.refusals[word]}"]
+        if word == "down" and self.down is not None:
+            return [self._down(words[1:])]
+        return self.reply(line)
 
-    def _require(self, holds: bool, name: str) -> None:
-        if not holds:
-            raise Refused(name)
+    def _down(self, ports: list[str]) -> str:
+        if not all(port.isdecimal() and int(port) < 65536 for port in ports):
+            return "fault BadNumber"
+        if self.history is None:
+            return "refused NotOpen"
+        numbers = {int(port) for port in ports}
+        if 0 in numbers or len(numbers) < len(ports):
+            return "refused BadPorts"
+        self.down = ports
+        return f"ok {len(ports)}"
 
-    def _open(self, words: list[str]) -> Sequence[str]:
-        self._require(not self.revisions, "AlreadyOpen")
-        self._require(len(words) == 3, "BadPorts")
-        self.revisions, self.phase = {1: Held(1, words[0], tuple(words[1:]), 2)}, "steady"
-        return ["ok 0"]
+    def _take(self, history: History, event: Entry) -> int:
+        """Forgets an entry that the next one overtakes, since the rule looks through all entries."""
+        entries = history.entries
+        if entries and overtakes(event, entries[-1]):
+            history = history.until(len(entries) - 1)
+        return super()._take(history, event)
 
-    def _report(self, _: list[str]) -> Sequence[str]:
-        preview = self.newest if self.phase not in ("steady", "aborted") else self.stable
-        return [
-            f"moment {self.moment}",
-            f"phase {self.phase}",
-            f"active {self.active}",
-            f"preview {preview}",
-            f"stable {self.stable}",
-            f"newest {self.newest}",
-            *(
-                f"revision {each.number} {each.name} desired {each.desired} available {each.available} open {each.open} "
-                f"deadline {'none' if each.deadline is None else each.deadline}"
-                for each in self.revisions.values()
-            ),
-            "end",
-        ]
+    @property
+    def moment(self) -> int:
+        return 0 if self.history is None else attempts.moment(self.history)
 
-    def _tick(self, words: list[str]) -> Sequence[str]:
-        self._require(int(words[0]) >= self.moment, "MomentBack")
-        self.moment = int(words[0])
-        for each in self.revisions.values():
-            if each.deadline is not None and each.deadline <= self.moment and each.open == 0:
-                each.desired, each.available, each.deadline = 0, 0, None
-        return ["ok 0"]
+    @property
+    def phase(self) -> str:
+        """The phase; empty before a book is open."""
+        return "" if self.history is None else str(attempts.phase(self.history))
 
-    def _available(self, words: list[str]) -> Sequence[str]:
-        revision = self.revisions[int(words[0])]
-        self._require(int(words[1]) <= revision.desired, "MoreThanDesired")
-        revision.available = int(words[1])
-        return self._go_on()
+    @property
+    def active(self) -> int:
+        return 1 if self.history is None else selections.active(self.history)
 
-    def _deploy(self, words: list[str]) -> Sequence[str]:
-        name, ports, newest = words[0], tuple(words[1:]), self.revisions[self.newest]
-        self._require(len(ports) == 2, "BadPorts")
-        found = next((each for each in self.revisions.values() if each.name == name), None)
-        self._require((newest.name, newest.ports) != (name, ports), "SameTemplate")
-        self._require(found is None or found.ports == ports, "PortsDiffer")
-        if found is None:
-            found = Held(max(self.revisions) + 1, name, ports, 2)
-            self.revisions[found.number] = found
-        self.newest, found.desired, found.deadline = found.number, 2, None
-        self.phase = "steady" if self.newest == self.stable else "scaling"
-        self.active = self.stable if self.newest == self.stable else self.active
-        return self._go_on()
+    @property
+    def stable(self) -> int:
+        return 1 if self.history is None else attempts.stable(self.history)
 
-    def _go_on(self) -> Sequence[str]:
-        """The steps that the attempt takes by itself."""
-        enough, steps = self.revisions[self.newest].available >= 2, 0
-        if self.phase == "scaling" and enough:
-            self.phase, steps = (
-                "preAnalysis"
-                if "pre" in self.steps
-                else "paused"
-                if "pause" in self.steps
-                else "sizing"
-            ), 1
-        if self.phase == "sizing" and enough:
-            self.revisions[self.active].deadline = self.moment + self.delay
-            self.active, self.phase, steps = self.newest, "postAnalysis", steps + 1
-            if "post" not in self.steps:
-                self.stable, self.phase = self.newest, "steady"
-        return [f"ok {steps}"]
+    @property
+    def newest(self) -> int:
+        return 1 if self.history is None else attempts.newest(self.history)
 
-    def _promote(self, words: list[str]) -> Sequence[str]:
-        self._require(
-            self.phase == "paused" or (words == ["full"] and self.phase != "steady"), "NotPaused"
-        )
-        self.phase = "sizing"
-        return self._go_on()
-
-    def _abort(self, _: list[str]) -> Sequence[str]:
-        self._require(self.phase not in ("steady", "aborted"), "NothingToAbort")
-        self.active, self.phase = self.stable, "aborted"
-        self.revisions[self.stable].deadline = None
-        return ["ok 0"]
-
-    def _retry(self, _: list[str]) -> Sequence[str]:
-        self._require(self.phase == "aborted", "NotAborted")
-        self.phase = "scaling"
-        return self._go_on()
-
-    def _verdict(self, words: list[str]) -> Sequence[str]:
-        self._require(self.phase == f"{words[0]}Analysis", "NoAnalysis")
-        if words[1] != "successful":
-            return self._abort([])
-        if words[0] == "post":
-            self.stable, self.phase = self.newest, "steady"
-        else:
-            self.phase = "paused" if "pause" in self.steps else "sizing"
-        return self._go_on()
-
-    def _down(self, words: list[str]) -> Sequence[str]:
-        if not all(word.isdecimal() and int(word) < 65536 for word in words):
-            return ["fault BadNumber"]
-        ports = [int(word) for word in words]
-        self._require(0 not in ports and len(set(ports)) == len(ports), "BadPorts")
-        self.down = words
-        return [f"ok {len(words)}"]
+    @property
+    def revisions(self) -> dict[int, RevisionState]:
+        """The revisions of the book by their numbers; none before it is open."""
+        states = () if self.history is None else revision_states(self.history)
+        return {state.number: state for state in states}
 
 
 class FakeSwitch:

@@ -4,5 +4,7 @@ mod Listed
 mod Marking
 mod Dropping
 mod Prefixes
+mod LookingBack
+mod States
 mod Answering
 mod Allowing

@@ -21,6 +21,26 @@ empty_attempt = record {
   passed_at = None;
 }
 
+-- what the running attempt has after a past
+abbrev pub attempt_of : Strategy → List Entry → AuditedAttempt
+attempt_of s past = record {
+  ready = has_ready past;
+  resumed = has_resumed past;
+  switched = has_switched past;
+  promote_given = has_promote past;
+  promote_full_given = has_promote_full past;
+  post_passed = has_post_success past;
+  passed_at = pass_moment s past;
+}
+
+-- the moment and the revisions of the state are what the past says
+pub record HasSelectors (past : List Entry) (c : AuditedState) : Type 0 where
+  pub moment_is : c.moment ≡ moment past
+  pub stable_is : c.stable ≡ stable_of past
+  pub newest_is : c.newest ≡ newest_of past
+  pub active_is : c.active ≡ active_of past
+  pub last_is : c.last ≡ last_number past
+
 -- each field of the state is what the past says
 pub record IsAuditedState (s : Strategy) (past : List Entry) (c : AuditedState) : Type 0 where
   pub moment_is : c.moment ≡ moment past

@@ -1,3 +1,4 @@
+pub mod Steps
 pub mod AuditedState
 pub mod Sizes
 pub mod Marked

@@ -1,30 +1,28 @@
-//! What has happened in the running attempt.
-ghost use Rattle.std.specs.Prelude.{◌≡◌};
-ghost use Rattle.bg_history.specs.Attempts.{first_at};
+//! What the running attempt has.
+ghost use Rattle.std.specs.Prelude.{◌≡◌, ◌≤◌, length};
+ghost use Rattle.bg_history.specs.AttemptBounds.{is_running};
+ghost use Rattle.bg_audit.specs.AuditedState.{attempt_of, empty_attempt};
+ghost use Rattle.bg_audit.specs.Openings.{oldest};
 
-/// What has happened in the running attempt.
+use crate::looking_back::{Step, has_step, passed_at};
+use bg_history::History;
+use bg_strategy::Strategy;
+
+/// The steps that the running attempt has, each under the name of its `Step`, and the moment at which it passed its
+/// first part.
 #[derive(Clone, Copy, Drop)]
 pub struct AuditedAttempt {
-    /// The new revision has the endpoints that its preview needs.
     pub ready: bool,
-    /// The pause is over.
     pub resumed: bool,
-    /// The active service has switched to the new revision.
     pub switched: bool,
-    /// An operator ended the pause.
     pub promote_given: bool,
-    /// An operator skipped the analyses and pauses.
     pub promote_full_given: bool,
-    /// The analysis after the switch has passed.
     pub post_passed: bool,
-    /// The moment at which the new revision was ready and the analysis before the switch had passed.
     pub passed_at: Option<u64>,
 }
 
 impl AuditedAttempt {
-    ghost use Rattle.bg_audit.specs.AuditedState.{empty_attempt};
-
-    /// An attempt in which nothing has happened.
+    /// What an attempt has at its begin.
     pub fn new() -> AuditedAttempt
         ensures { result ≡ empty_attempt }
     {
@@ -39,13 +37,25 @@ impl AuditedAttempt {
         }
     }
 
-    /// Sets `passed_at` to this moment, if the test holds and it is not set yet.
-    pub fn set_passed(&mut self, test: bool, moment: u64)
-        ensures { self.new ≡ record self.old
-            { passed_at = first_at test moment self.old.passed_at } }
+    /// What the running attempt has after the oldest `count` entries; `running` says whether one runs.
+    pub fn after(
+        history: &History,
+        strategy: &Strategy,
+        count: u64,
+        running: bool,
+    ) -> AuditedAttempt
+        requires count { count ≤ length history.now.past }
+        requires running { running ≡ is_running (oldest count history.now.past) }
+        ensures { result ≡ attempt_of strategy.now (oldest count history.now.past) }
     {
-        if test && self.passed_at.is_none() {
-            self.passed_at = Some(moment);
+        AuditedAttempt {
+            ready: has_step(history, count, running, Step::Ready),
+            resumed: has_step(history, count, running, Step::Resumed),
+            switched: has_step(history, count, running, Step::Switched),
+            promote_given: has_step(history, count, running, Step::Promote),
+            promote_full_given: has_step(history, count, running, Step::PromoteFull),
+            post_passed: has_step(history, count, running, Step::PostSuccess),
+            passed_at: passed_at(history, strategy, count, running),
         }
     }
 }

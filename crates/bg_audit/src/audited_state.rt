@@ -1,17 +1,20 @@
 //! The moment, the selectors and the attempt of a past.
-ghost use Rattle.std.specs.Prelude.{◌≡◌, ℕ, true, false, List, [], ◌∷◌};
+ghost use Rattle.std.specs.Prelude.{◌≡◌, ◌≤◌, ◌<◌, ℕ, List, [], ◌∷◌, length, reverse, slice_get, Some};
 ghost use Rattle.bg_strategy.specs.declared.strategy.Strategy.{Strategy};
 ghost use Rattle.bg_history.specs.declared.entry.Entry.{Entry};
-ghost use Rattle.bg_audit.specs.AuditedState.{IsAuditedState, empty_attempt};
+ghost use Rattle.bg_history.specs.AttemptBounds.{stable_of, is_running, is_halted};
+ghost use Rattle.bg_audit.specs.AuditedState.{IsAuditedState, HasSelectors, attempt_of};
+ghost use Rattle.bg_audit.specs.Openings.{oldest};
 
 mod questions;
 
 use crate::audited_attempt::AuditedAttempt;
-use bg_history::{Analysis, AnalysisResult, Entry, Outcome};
+use crate::looking_back::{is_halted, is_running};
+use bg_history::{AnalysisResult, Entry, History, Outcome};
 use bg_strategy::Strategy;
 
-/// The moment, the selectors and the attempt of a past. Each follows from the past before and the newest entry,
-/// regardless of the entries.
+/// The moment, the selectors and the attempt of a past. The moment and the selectors follow from the past before and
+/// the newest entry. What is said of the attempt is found by looking back.
 #[derive(Clone, Copy, Drop)]
 pub struct AuditedState {
     pub moment: u64,
@@ -42,103 +45,73 @@ impl AuditedState {
         }
     }
 
-    /// Updates the state with an entry.
-    pub fn take(&mut self, strategy: &Strategy, entry: &Entry)
-        ensures { (past : List Entry) → IsAuditedState strategy.now past self.old
-            → IsAuditedState strategy.now (entry.now ∷ past) self.new }
+    /// Updates the state with an entry of the history, which stands at this place.
+    pub fn take(&mut self, strategy: &Strategy, entry: &Entry, history: &History, place: u64)
+        requires place { place < length history.now.past }
+        requires entry { slice_get (reverse history.now.past) place ≡ Some entry.now }
+        requires state { IsAuditedState strategy.now (oldest place history.now.past) self.old }
+        ensures { IsAuditedState strategy.now (entry.now ∷ oldest place history.now.past) self.new }
+    {
+        self.select(entry);
+        match entry {
+            Entry::Tick(_) | Entry::Available { .. } => {}
+            Entry::Enter { .. } | Entry::Leave { .. } => {}
+            Entry::Outcome(Outcome::ScaledDown(_) | Outcome::Removed(_)) => {}
+            _ => {
+                prove!(place < history.len());
+                self.look_back(strategy, history, place + 1);
+            }
+        }
+    }
+
+    /// Updates the moment and the revisions with an entry.
+    fn select(&mut self, entry: &Entry)
+        ensures selectors { (past : List Entry) → HasSelectors past self.old
+            → HasSelectors (entry.now ∷ past) self.new }
+        ensures running { self.new.running ≡ self.old.running }
+        ensures halted { self.new.halted ≡ self.old.halted }
+        ensures attempt { self.new.attempt ≡ self.old.attempt }
     {
         match entry {
             Entry::Tick(moment) => self.moment = *moment,
             Entry::Deploy { revision, .. } => self.deploy(*revision),
-            Entry::Verdict { analysis, result } => self.verdict(strategy, *analysis, *result),
-            Entry::Promote => {
-                self.attempt.promote_given = self.running || self.attempt.promote_given;
-            }
-            Entry::PromoteFull => {
-                self.attempt.promote_full_given = self.running || self.attempt.promote_full_given;
-            }
-            Entry::Abort => self.halt(),
-            Entry::Retry => self.retry(),
-            Entry::Outcome(outcome) => self.outcome(strategy, *outcome),
-            Entry::Available { .. } | Entry::Enter { .. } | Entry::Leave { .. } => {}
+            Entry::Verdict { result, .. } => match result {
+                AnalysisResult::Successful => {}
+                AnalysisResult::Failed | AnalysisResult::Error => self.active = self.stable,
+            },
+            Entry::Abort => self.active = self.stable,
+            Entry::Outcome(Outcome::Switched(revision)) => self.active = *revision,
+            Entry::Outcome(Outcome::Promoted(revision)) => self.stable = *revision,
+            _ => {}
         }
     }
 
     fn deploy(&mut self, revision: u64)
-        ensures { (s : Strategy) (past : List Entry) (name ports : List ℕ)
-            → IsAuditedState s past self.old
-            → IsAuditedState s (Entry.Deploy revision name ports ∷ past) self.new }
+        ensures selectors { (past : List Entry) (name ports : List ℕ) → HasSelectors past self.old
+            → HasSelectors (Entry.Deploy revision name ports ∷ past) self.new }
+        ensures running { self.new.running ≡ self.old.running }
+        ensures halted { self.new.halted ≡ self.old.halted }
+        ensures attempt { self.new.attempt ≡ self.old.attempt }
     {
-        self.running = revision != self.stable;
         if revision == self.stable {
             self.active = revision;
         }
-        self.halted = false;
         self.newest = revision;
         self.last = revision.max(self.last);
-        self.attempt = AuditedAttempt::new();
     }
 
-    fn verdict(&mut self, strategy: &Strategy, analysis: Analysis, found: AnalysisResult)
-        ensures { (past : List Entry) → IsAuditedState strategy.now past self.old
-            → IsAuditedState strategy.now (Entry.Verdict analysis found ∷ past) self.new }
-    {
-        match (found, analysis) {
-            (AnalysisResult::Successful, Analysis::Pre) => {
-                let passes = strategy.pre && self.attempt.ready;
-                self.attempt.set_passed(passes, self.moment);
-            }
-            (AnalysisResult::Successful, Analysis::Post) => {
-                self.attempt.post_passed = self.running || self.attempt.post_passed;
-            }
-            _ => self.halt(),
-        }
-    }
-
-    fn retry(&mut self)
-        ensures { self.new ≡ record self.old { running = true; halted = false; attempt = empty_attempt } }
-    {
-        self.running = true;
-        self.halted = false;
-        self.attempt = AuditedAttempt::new();
-    }
-
-    fn halt(&mut self)
+    /// Finds out about the attempt after the oldest `count` entries.
+    fn look_back(&mut self, strategy: &Strategy, history: &History, count: u64)
+        requires count { count ≤ length history.now.past }
+        requires stable { self.old.stable ≡ stable_of (oldest count history.now.past) }
         ensures { self.new ≡ record self.old {
-          active = self.old.stable;
-          running = false;
-          halted = true;
-          attempt = empty_attempt;
+          running = is_running (oldest count history.now.past);
+          halted = is_halted (oldest count history.now.past);
+          attempt = attempt_of strategy.now (oldest count history.now.past);
         } }
     {
-        self.active = self.stable;
-        self.running = false;
-        self.halted = true;
-        self.attempt = AuditedAttempt::new();
-    }
-
-    fn outcome(&mut self, strategy: &Strategy, outcome: Outcome)
-        ensures { (past : List Entry) → IsAuditedState strategy.now past self.old
-            → IsAuditedState strategy.now (Entry.Outcome outcome ∷ past) self.new }
-    {
-        match outcome {
-            Outcome::Ready(_) => {
-                let passes = !strategy.pre && self.running;
-                self.attempt.set_passed(passes, self.moment);
-                self.attempt.ready = self.running || self.attempt.ready;
-            }
-            Outcome::Resumed(_) => self.attempt.resumed = self.running || self.attempt.resumed,
-            Outcome::Switched(revision) => {
-                self.active = revision;
-                self.attempt.switched = self.running || self.attempt.switched;
-            }
-            Outcome::Promoted(revision) => {
-                self.stable = revision;
-                self.running = false;
-                self.halted = false;
-                self.attempt = AuditedAttempt::new();
-            }
-            Outcome::ScaledDown(_) | Outcome::Removed(_) => {}
-        }
+        self.running = is_running(history, count, self.stable);
+        self.halted = is_halted(history, count);
+        self.attempt = AuditedAttempt::after(history, strategy, count, self.running);
     }
 }

@@ -98,7 +98,7 @@ fn facts_of(
         if !facts.allows(strategy, opening.seats as u64, entry) {
             return Ok(None);
         }
-        facts.take(strategy, entry, place)?;
+        facts.take(strategy, entry, history, place)?;
     }
     Ok(Some(facts))
 }

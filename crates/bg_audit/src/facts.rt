@@ -1,5 +1,5 @@
 //! The facts of a past. Each follows from the past before and the newest entry.
-ghost use Rattle.std.specs.Prelude.{◌≡◌, ◌∷◌, ℕ, [], true, List, length, IfOk, OnOk};
+ghost use Rattle.std.specs.Prelude.{◌≡◌, ◌<◌, ◌∷◌, ℕ, [], true, List, length, reverse, slice_get, Some, IfOk, OnOk};
 ghost use Rattle.bg_history.specs.declared.entry.Entry.{Entry};
 ghost use Rattle.bg_strategy.specs.declared.strategy.Strategy.{Strategy};
 ghost use Rattle.bg_history.specs.Kept.{Opening};
@@ -7,13 +7,15 @@ ghost use Rattle.bg_history.specs.AttemptBounds.{newest_of};
 ghost use Rattle.bg_history.specs.Sizes.{is_scaled};
 ghost use Rattle.bg_history.specs.Allowed.{is_allowed};
 ghost use Rattle.bg_history_laws.specs.Reachable.{Reachable};
+ghost use Rattle.bg_audit.specs.AuditedState.{IsAuditedState};
+ghost use Rattle.bg_audit.specs.Openings.{oldest};
 
 use crate::audited_state::AuditedState;
 use crate::marks::{Around, NewestMark};
 use crate::requests::AuditedRequest;
 use crate::revisions::NumberedTemplate;
 use crate::{marks, requests, revisions};
-use bg_history::Entry;
+use bg_history::{Entry, History};
 use bg_revisions::Revision;
 use bg_strategy::Strategy;
 use std::alloc::{AllocError, Global};
@@ -80,15 +82,26 @@ impl Facts {
         })
     }
 
-    /// Updates the facts with an allowed entry that follows `place` others. The only error is an allocation failure.
-    pub fn take(&mut self, strategy: &Strategy, entry: &Entry, place: u64) -> Result<(), AllocError>
-        ensures { (o : Opening) (past : List Entry) → Knows strategy.now o past self.old
-            → Reachable strategy.now o past → is_allowed strategy.now o entry.now past ≡ true
-            → place ≡ length past → OnOk result (Knows strategy.now o (entry.now ∷ past) self.new) }
+    /// Updates the facts with an allowed entry of the history, which stands at this place. The only error is an
+    /// allocation failure.
+    pub fn take(
+        &mut self,
+        strategy: &Strategy,
+        entry: &Entry,
+        history: &History,
+        place: u64,
+    ) -> Result<(), AllocError>
+        requires place { place < length history.now.past }
+        requires entry { slice_get (reverse history.now.past) place ≡ Some entry.now }
+        requires state { IsAuditedState strategy.now (oldest place history.now.past) self.old.state }
+        ensures { (o : Opening) → Knows strategy.now o (oldest place history.now.past) self.old
+            → Reachable strategy.now o (oldest place history.now.past)
+            → is_allowed strategy.now o entry.now (oldest place history.now.past) ≡ true
+            → OnOk result (Knows strategy.now o (entry.now ∷ oldest place history.now.past) self.new) }
     {
         let before = self.state;
         let newest_is_scaled = self.newest_is_scaled();
-        self.state.take(strategy, entry);
+        self.state.take(strategy, entry, history, place);
         let around = Around {
             before,
             after: self.state,

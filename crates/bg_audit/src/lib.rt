@@ -11,6 +11,7 @@ mod auditing;
 mod due;
 mod facts;
 mod fault;
+mod looking_back;
 mod marks;
 mod numbers;
 mod requests;

@@ -1,4 +1,4 @@
-//! Changed histories of worked rows, and whether each is legal and settled. Written by scripts/changed_histories.py.
+//! Changed histories of worked rows, and whether each is legal and settled. Written by tools/changed_histories.py.
 
 /// The histories, with an empty line between two. The first word of a line says what it is: `row`, the name of its row;
 /// `strategy`, the document of its strategy; `play`, a line after `open v1 9001 9002`; `entry`, an entry of its history;

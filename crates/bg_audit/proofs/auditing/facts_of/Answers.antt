@@ -4,7 +4,7 @@ use Rattle.bg_history.specs.Kept.{Opening}
 use Rattle.bg_history.specs.Allowed.{is_allowed}
 use Rattle.bg_audit.specs.Openings.{opening_of, oldest}
 use Rattle.bg_audit.specs.Known.{FactsRepresent}
-use Rattle.bg_audit.proofs.Prefixes.{oldest-next, oldest-all, oldest-length, not-allowed}
+use Rattle.bg_audit.proofs.Prefixes.{oldest-next, oldest-all, not-allowed}
 use Rattle.bg_audit.proofs.auditing.facts_of.Goals as goal
 
 pub loop-place-init : goal.loop-place-init
@@ -24,12 +24,11 @@ loop-place-preserved c =
     let reach = c.reachable.ensures c.args.strategy.now o p c.loop-place.invariant.allowed in
     let allowed : is_allowed c.args.strategy.now o c.entry_at-entry.result.now p ≡ true =
     sym (c.allows.ensures o p c.loop-place.invariant.known reach refl) ∙ c.if-not-allows.false in
-    let near : c.loop-place.place ≤ length c.args.history.now.past = omega arith in
     let P : List Entry → Type 0 = λ q. FactsRepresent c.args.strategy.now o q c.take.new.self in
     subst P (sym (oldest-next c.loop-place.place c.args.history.now.past c.entry_at-entry.result.now c.entry_at-entry.ensures))
     (record {
       allowed = rw allowed c.loop-place.invariant.allowed;
-      known = c.in_ok-take.ensures o p c.loop-place.invariant.known reach allowed (sym (oldest-length c.loop-place.place c.args.history.now.past near));
+      known = c.in_ok-take.ensures o c.loop-place.invariant.known reach allowed;
     })
 
 pub returns : goal.returns
