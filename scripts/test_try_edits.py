@@ -10,10 +10,11 @@ import unittest
 sys.path.insert(0, os.path.dirname(os.path.abspath(__file__)))
 
 import try_edits  # noqa: E402  (the path stands above)
-from edits.edit import BadEdit, Edit  # noqa: E402
-from edits.functions import function_at, functions_in  # noqa: E402
+from edits.edit import EditError, Edit  # noqa: E402
+from edits.functions import Function, function_at, functions_in  # noqa: E402
 from edits.rounds import rounds_of  # noqa: E402
-from edits.verdicts import own_reason  # noqa: E402
+from edits.kept import sum_of  # noqa: E402
+from edits.verdicts import own_reason, of_whole_crate  # noqa: E402
 
 SOURCE = """//! Numbers, and the numbers after them.
 #![tactic(auto)]
@@ -64,6 +65,18 @@ impl<T> Drop for Table<T> {
 }
 
 fn alone() {}
+
+impl<T: Clock> Question<bool> for IsBelow<'_, T> {
+    fn ask(&self) -> bool {
+        true
+    }
+}
+
+impl Question<Vec<u8>> for Bytes {
+    fn ask(&self) -> Vec<u8> {
+        Vec::new()
+    }
+}
 """
 
 
@@ -163,7 +176,7 @@ class TryEdits(unittest.TestCase):
     def test_an_edit_outside_of_src_is_bad(self) -> None:
         path = pathlib.Path(self.room, "weaker.edit")
         path.write_text("file: specs/Lib.antt\nold: a\nnew: b\n", encoding="utf-8")
-        with self.assertRaises(BadEdit):
+        with self.assertRaises(EditError):
             Edit.read(path)
 
     def test_a_second_edit_of_a_function_takes_a_second_round(self) -> None:
@@ -186,6 +199,23 @@ class TryEdits(unittest.TestCase):
         self.assertIn("crates.txt has no number", said.getvalue())
 
 
+class KeptRefusals(unittest.TestCase):
+    def test_rest_on_the_lines_of_the_crates_below_and_on_no_other(self) -> None:
+        with tempfile.TemporaryDirectory() as room:
+            made = Repository(room)
+
+            def sum_with(text: str) -> bytes:
+                (made.top / "crates.txt").write_text(text, encoding="utf-8")
+                return sum_of(try_edits.repository_at(made.top), "numbers")
+
+            alone = sum_with("numbers:\n")
+            self.assertEqual(sum_with("# Numbers.\nnumbers:\nabove: numbers\n"), alone)
+            self.assertNotEqual(sum_with("numbers: regex\n"), alone)
+            below = sum_with("low:\nnumbers: low\n")
+            self.assertNotEqual(below, alone)
+            self.assertNotEqual(sum_with("low: regex\nnumbers: low\n"), below)
+
+
 class Functions(unittest.TestCase):
     def test_names_functions_as_the_prover_does(self) -> None:
         found = [
@@ -193,7 +223,14 @@ class Functions(unittest.TestCase):
             for it in functions_in("src/tables/first.rt", METHODS)
         ]
         self.assertEqual(
-            found, [("Table::first", 6, 8), ("TableDrop::drop", 12, 16), ("first::alone", 19, 19)]
+            found,
+            [
+                ("Table::first", 6, 8),
+                ("TableDrop::drop", 12, 16),
+                ("first::alone", 19, 19),
+                ("IsBelowQuestionBool::ask", 22, 24),
+                ("BytesQuestion::ask", 28, 30),
+            ],
         )
 
     def test_finds_the_function_of_a_place(self) -> None:
@@ -237,6 +274,23 @@ class Reasons(unittest.TestCase):
             "proofs/third/Answers.antt:3:1: error: the goal is false",
         ):
             self.assertEqual(self.reason(line, not_proved), "", line)
+
+    def test_a_note_of_the_whole_crate_is_no_refusal(self) -> None:
+        second = list(functions_in("src/lib.rt", SOURCE))[1]
+        refusal = "note: src/lib.rt:15:1: it is not proved that what the function ensures holds"
+        cases: list[tuple[list[str], list[Function], bool]] = [
+            (["proofs/third/Answers.antt:3:1: note: large solution: 1,200 nodes"], [], False),
+            (["proofs/second/Answers.antt:3:1: note: large solution"], [second], False),
+            (["src/lib.rt:15:1: a warning"], [second], False),
+            ([refusal.replace(":15:", ":25:")], [second], False),
+            (["proofs/third/Answers.antt:3:1: error: the goal is false"], [second], False),
+            (["proofs/third/Answers.antt:3:1: error: the goal is false"], [], True),
+            ([refusal], [second], True),
+            ([refusal], [], True),
+        ]
+        for lines, functions, is_refused in cases:
+            verdict = of_whole_crate(1, [*lines, "logic=not-proved"], functions)
+            self.assertEqual(verdict.is_refused, is_refused, lines)
 
     def test_a_function_that_is_proved_has_none(self) -> None:
         line = "note: src/lib.rt:15:1: it is not proved that what the function ensures holds when it returns"

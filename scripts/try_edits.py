@@ -33,7 +33,7 @@ from dataclasses import dataclass
 
 from crate_list import all_below, crates_in
 from edits.crate import PARTS, EditedCrate, Repository
-from edits.edit import BadEdit, Edit
+from edits.edit import Edit, EditError
 from edits.kept import Kept, sum_of
 from edits.verdicts import Verdict
 
@@ -103,7 +103,7 @@ def try_crate(repository: Repository, name: str, kept: Kept, is_alone: bool) -> 
             edit = Edit.read(path)
             edit.apply(repository.folder(name), {})
             left[edit] = path
-        except BadEdit as fault:
+        except EditError as fault:
             yield Tried(path, Verdict(False, f"bad edit: {fault}"))
     with tempfile.TemporaryDirectory(prefix="try-edits-kept-") as room:
         crate = EditedCrate(repository, name, pathlib.Path(room))

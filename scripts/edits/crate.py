@@ -8,6 +8,7 @@ from dataclasses import dataclass
 
 from crate_list import Crate, all_below
 from edits.edit import Edit, Texts
+from edits.functions import function_at
 from edits.rounds import Round, rounds_of
 from edits.verdicts import PROVED, Verdict, of_whole_crate
 
@@ -97,9 +98,11 @@ class EditedCrate:
         return Verdict(True, reason) if reason else self._try_whole(edit)
 
     def _try_whole(self, edit: Edit) -> Verdict:
-        """The verdict by the whole crate, as `rt must-fail` judges it."""
-        texts, _ = edit.apply(self.folder, {})
-        return of_whole_crate(*self._check(texts))
+        """The verdict by a check of the whole crate."""
+        texts, places = edit.apply(self.folder, {})
+        functions = [function_at(file, texts[file], place) for file, place in places]
+        changed = [] if None in functions else [it for it in functions if it]
+        return of_whole_crate(*self._check(texts), changed)
 
     def _check(self, texts: Texts, only: Sequence[str] = ()) -> tuple[int, list[str]]:
         """Checks a copy of the crate with these texts, of it these functions alone if there are

@@ -6,7 +6,7 @@ from dataclasses import dataclass
 Texts = Mapping[str, str]
 
 
-class BadEdit(Exception):
+class EditError(Exception):
     """An edit that can't be read or applied."""
 
 
@@ -29,7 +29,7 @@ class Edit:
 
     @staticmethod
     def read(path: pathlib.Path) -> "Edit":
-        """Reads an edit; raises BadEdit if it changes nothing, or a file outside of src/."""
+        """Reads an edit; raises EditError if it changes nothing, or a file outside of src/."""
         changes, file, old = [], "", ""
         for line in path.read_text(encoding="utf-8").split("\n"):
             word, _, text = line.partition(": ")
@@ -40,12 +40,12 @@ class Edit:
             elif line.startswith("new:"):
                 changes.append(Change(file, old, line.removeprefix("new:").removeprefix(" ")))
         if not changes:
-            raise BadEdit("it has no pair of an old text and a new one")
+            raise EditError("it has no pair of an old text and a new one")
         for change in changes:
             if not change.file.startswith("src/") or ".." in change.file or not change.old:
-                raise BadEdit("a new text has no old text of a file of src/")
+                raise EditError("a new text has no old text of a file of src/")
             if change.old == change.new:
-                raise BadEdit("an old text and its new one are the same")
+                raise EditError("an old text and its new one are the same")
         return Edit(path.stem, tuple(changes))
 
     def apply(
@@ -54,7 +54,7 @@ class Edit:
         """The texts of a crate with this edit, and the place of each change. `texts` has the files
         that other edits changed.
 
-        Raises BadEdit where an old text doesn't stand in its file exactly once.
+        Raises EditError where an old text doesn't stand in its file exactly once.
         """
         edited, places = dict(texts), []
         for change in self.changes:
@@ -63,10 +63,10 @@ class Edit:
                 try:
                     text = (folder / change.file).read_text(encoding="utf-8")
                 except OSError as fault:
-                    raise BadEdit(f"{change.file} can't be read: {fault.strerror}") from fault
+                    raise EditError(f"{change.file} can't be read: {fault.strerror}") from fault
             count = text.count(change.old)
             if count != 1:
-                raise BadEdit(f"an old text stands in {change.file} {count} times, and not once")
+                raise EditError(f"an old text stands in {change.file} {count} times, and not once")
             places.append((change.file, text.index(change.old)))
             edited[change.file] = text.replace(change.old, change.new)
         return edited, places

@@ -76,7 +76,14 @@ def _block(text: str, place: int) -> str:
     heads = [it[1] for it in BLOCK.finditer(text, 0, place)]
     head = heads[-1] if heads else ""
     trait, is_trait, of = re.sub(r"^\s*<(?:[^<>]|<[^<>]*>)*>", "", head).partition(" for ")
-    return _bare(of) + _bare(trait) if is_trait else _bare(trait)
+    return _bare(of) + _bare(trait) + _arguments(trait) if is_trait else _bare(trait)
+
+
+def _arguments(trait: str) -> str:
+    """The arguments of a trait as the prover adds them to its name, if each is one word. The name of
+    a function in another block fits none of the prover's, and what is known of it is its place."""
+    given = re.fullmatch(r"\s*[\w:]+<((?:\w+, )*\w+)>\s*", trait)
+    return "".join(it[0].upper() + it[1:] for it in given[1].split(", ")) if given else ""
 
 
 def _bare(text: str) -> str:

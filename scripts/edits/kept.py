@@ -2,7 +2,7 @@
 on."""
 import hashlib
 import pathlib
-from collections.abc import Iterator
+from collections.abc import Iterable, Iterator
 
 from crate_list import all_below
 from edits.crate import PARTS, Repository
@@ -10,19 +10,21 @@ from edits.crate import PARTS, Repository
 
 def sum_of(repository: Repository, name: str) -> bytes:
     """The sum of what a verdict on an edit of a crate rests on, but the edit: the kit, these
-    scripts, the crate and all below it."""
+    scripts, the crate and all below it, with their lines of crates.txt."""
     total = hashlib.sha256()
-    for path in _files(repository, name):
+    crates = (*all_below(repository.crates, name), name)
+    for crate in crates:
+        total.update(f"{crate} {repository.crates[crate]}\n".encode())
+    for path in _files(repository, crates):
         text = path.read_bytes()
         total.update(f"{path} {len(text)}\n".encode() + text)
     return total.digest()
 
 
-def _files(repository: Repository, name: str) -> Iterator[pathlib.Path]:
+def _files(repository: Repository, crates: Iterable[str]) -> Iterator[pathlib.Path]:
     yield repository.kit / "KIT-ID"
-    yield repository.top / "crates.txt"
     yield from sorted(pathlib.Path(__file__).parent.glob("*.py"))
-    for crate in (*all_below(repository.crates, name), name):
+    for crate in crates:
         for part in PARTS:
             yield from sorted(
                 it for it in (repository.folder(crate) / part).rglob("*") if it.is_file()

@@ -3,7 +3,7 @@ import pathlib
 from collections.abc import Iterable, Sequence
 from dataclasses import dataclass, field
 
-from edits.edit import BadEdit, Edit
+from edits.edit import Edit, EditError
 from edits.functions import Function, function_at, functions_in
 from edits.verdicts import own_reason
 
@@ -23,7 +23,7 @@ class Round:
         beside them."""
         try:
             texts, places = edit.apply(self.folder, self.texts)
-        except BadEdit:
+        except EditError:
             return False
         found = [function_at(file, texts[file], place) for file, place in places]
         names = {it.name for it in found if it}

@@ -24,31 +24,38 @@ class Verdict:
 
 def own_reason(lines: Sequence[str], function: Function) -> str:
     """Why the prover refuses this function; nothing where it is proved, or is not proved only since
-    a callee is not.
-
-    The reason is a line of the function's text at which something is not proved, or an error in a
-    proof file of its own.
-    """
+    a callee is not."""
     states = [it for it in lines if re.match(rf"fn \S*\b{re.escape(function.name)}: ", it)]
     if len(states) != 1 or states[0].endswith(": proved"):
         return ""
+    return _first_refusal(lines, [function])
+
+
+def _first_refusal(lines: Sequence[str], functions: Sequence[Function]) -> str:
+    """The first line that shows a refusal: a line of a text at which something is not proved, or an
+    error in a proof file. It is one of these functions; if there are none, any. Nothing if no line
+    does: a note on a proof that is admitted, or on a large term, is no refusal."""
     for line in lines:
         at = PLACED.match(line)
         if not at or LOST_NAME.search(line):
             continue
         file, place, said = at[1], int(at[2]), at[3]
-        if (
-            function.has_line(file, place)
-            and "it is not proved that" in said
-            or function.has_proof(file)
-            and said.startswith("error")
-        ):
+        if "it is not proved that" in said:
+            is_here = any(it.has_line(file, place) for it in functions)
+        elif said.startswith("error"):
+            is_here = any(it.has_proof(file) for it in functions)
+        else:
+            continue
+        if is_here or not functions:
             return line[:200]
     return ""
 
 
-def of_whole_crate(status: int, lines: Sequence[str]) -> Verdict:
-    """The verdict on an edit that was tried alone, by a check of the whole crate."""
+def of_whole_crate(
+    status: int, lines: Sequence[str], functions: Sequence[Function] = ()
+) -> Verdict:
+    """The verdict on an edit that was tried alone, by a check of the whole crate. The functions are
+    those that it changes; none if it also changes what is outside of functions."""
     if status == 0:
         return Verdict(False, PROVED)
     rejected = next((it for it in lines if REJECTED.search(it)), "")
@@ -56,10 +63,8 @@ def of_whole_crate(status: int, lines: Sequence[str]) -> Verdict:
         return Verdict(
             False, f"nothing is known of it: status {status}: {rejected or ' / '.join(lines[:3])}"
         )
-    told = [it for it in lines if PLACED.match(it) and not LOST_NAME.search(it)]
+    reason = _first_refusal(lines, functions)
     return Verdict(
-        bool(told),
-        told[0][:200]
-        if told
-        else "only a proof file that names what the edit took away is refused",
+        bool(reason),
+        reason or "no place of what the edit changes is refused for its value",
     )
