@@ -8,7 +8,7 @@ from typing import NoReturn
 from bg_switch_tools.analysis.judged_revision import subject_of
 from bg_switch_tools.analysis.log_analysis import LogAnalysis
 from bg_switch_tools.analysis.measurements import Limits
-from bg_switch_tools.analysis.verdicts import NOT_JUDGED, NotJudged, tell
+from bg_switch_tools.analysis.verdicts import NOT_JUDGED, NotJudgedError, tell
 from bg_switch_tools.switch.access_log import Follower
 from bg_switch_tools.switch.arguments import control_of, count_of, share_of
 from bg_switch_tools.switch.durations import (
@@ -57,7 +57,7 @@ OF_PROMETHEUS = (
 )
 
 
-class WrongWords(Exception):
+class AnalysisWordsError(Exception):
     """Words that are no analysis. The text says why."""
 
 
@@ -65,7 +65,7 @@ class Judging(argparse.ArgumentParser):
     """A parser that ends no run where the words are wrong."""
 
     def error(self, message: str) -> NoReturn:
-        raise WrongWords(message)
+        raise AnalysisWordsError(message)
 
 
 def parser(
@@ -202,7 +202,7 @@ def judge_by_log(given: argparse.Namespace) -> int:
     )
     with contextlib.closing(Follower(given.log)) as follower:
         if follower.fault:
-            raise NotJudged(f"the log {given.log}: {follower.fault}")
+            raise NotJudgedError(f"the log {given.log}: {follower.fault}")
         return LogAnalysis(follower, subject, limits).judge(given.seconds, given.every)
 
 
@@ -231,7 +231,7 @@ def fault_of_words(words: Sequence[str]) -> str:
     """Why these words are no analysis; empty where they are one."""
     try:
         return fault_of(parser(Judging).parse_args(words))
-    except WrongWords as wrong:
+    except AnalysisWordsError as wrong:
         return str(wrong)
 
 
@@ -243,7 +243,7 @@ def judge(given: argparse.Namespace) -> int:
         from bg_switch_tools.analysis import prometheus_options
 
         return prometheus_options.judge(given)
-    except NotJudged as reason:
+    except NotJudgedError as reason:
         tell(f"analysis: it can't be judged: {reason}")
         return NOT_JUDGED
 

@@ -3,11 +3,11 @@ import argparse
 import os
 from collections.abc import Mapping
 
-from bg_switch_tools.analysis.verdicts import NotJudged
+from bg_switch_tools.analysis.verdicts import NotJudgedError
 from bg_switch_tools.switch import arguments
-from bg_switch_tools.switch.connection import Unreachable, ask
+from bg_switch_tools.switch.connection import UnreachableError, ask_report
 from bg_switch_tools.switch.control import Control
-from bg_switch_tools.switch.reports import NoReport, Report, read_report
+from bg_switch_tools.switch.reports import Report, ReportError
 
 FIRST_WAIT = 10.0  # seconds for the switch to answer at the begin
 WAIT = 1.0  # seconds for it to answer later
@@ -30,23 +30,23 @@ class JudgedRevision:
 
     def asked(self) -> Report | None:
         """A report that has the revision; None where the switch gives no answer, or no book is
-        open. `NotJudged` where the book that is open has it no more."""
+        open. `NotJudgedError` where the book that is open has it no more."""
         if self.control is None:
             return None
         try:
-            report = read_report(ask(self.control, b"report", WAIT))
-        except (Unreachable, NoReport):
+            report = ask_report(self.control, WAIT)
+        except (UnreachableError, ReportError):
             return None
         if report is not None:
             self.take(report)
         return report
 
     def take(self, report: Report) -> None:
-        """Takes the number that the revision has in a report. `NotJudged` where the report has it
-        not."""
+        """Takes the number that the revision has in a report. `NotJudgedError` where the report has
+        it not."""
         found = report.named(self.name) if self.name else report.revisions.get(self.number)
         if found is None:
-            raise NotJudged(f"the switch has no revision {self.name or self.number}")
+            raise NotJudgedError(f"the switch has no revision {self.name or self.number}")
         self.name, self.number = found.name, found.number
 
 
@@ -54,17 +54,19 @@ def subject_of(
     told: str, control: Control | None, variables: Mapping[str, str] = os.environ
 ) -> JudgedRevision:
     """The revision that was told by its name or number, or else the one that the controller tells
-    by variables. `NotJudged` where its number can't be known."""
+    by variables. `NotJudgedError` where its number can't be known."""
     name, number = variables.get(NAME, ""), variables.get(NUMBER, "")
     if told in ("", name) and number.isdigit():
         return JudgedRevision(name, int(number), control or control_of(variables))
     if not told:
-        raise NotJudged("no revision is given: --revision names it, if no controller runs this")
+        raise NotJudgedError(
+            "no revision is given: --revision names it, if no controller runs this"
+        )
     is_number = told.isascii() and told.isdigit()
     if control is None:
         if is_number:
             return JudgedRevision("", int(told))
-        raise NotJudged(
+        raise NotJudgedError(
             f"the number of {told} is not known: --control tells the port to ask, or --revision the number"
         )
     return asked_subject(
@@ -73,24 +75,24 @@ def subject_of(
 
 
 def control_of(variables: Mapping[str, str]) -> Control | None:
-    """The control port that the controller tells; None where it tells none. `NotJudged` where it
-    tells no port."""
+    """The control port that the controller tells; None where it tells none. `NotJudgedError` where
+    it tells no port."""
     told = variables.get(CONTROL, "")
     try:
         return arguments.control_of(told) if told else None
     except argparse.ArgumentTypeError as reason:
-        raise NotJudged(f"{CONTROL}: {reason}") from None
+        raise NotJudgedError(f"{CONTROL}: {reason}") from None
 
 
 def asked_subject(subject: JudgedRevision, control: Control) -> JudgedRevision:
-    """A revision with the number and name that the switch tells. `NotJudged` where it tells
+    """A revision with the number and name that the switch tells. `NotJudgedError` where it tells
     none."""
     told = subject.name or subject.number
     try:
-        report = read_report(ask(control, b"report", FIRST_WAIT))
-    except (Unreachable, NoReport) as reason:
-        raise NotJudged(f"the number of {told} is not known: {reason}") from None
+        report = ask_report(control, FIRST_WAIT)
+    except (UnreachableError, ReportError) as reason:
+        raise NotJudgedError(f"the number of {told} is not known: {reason}") from None
     if report is None:
-        raise NotJudged(f"the switch has no revision {told}")
+        raise NotJudgedError(f"the switch has no revision {told}")
     subject.take(report)
     return subject

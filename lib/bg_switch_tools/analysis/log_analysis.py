@@ -10,7 +10,14 @@ from bg_switch_tools.analysis.revision_requests import (
     Services,
     services_of,
 )
-from bg_switch_tools.analysis.verdicts import FAILED, HELD, SUCCESSFUL, NotJudged, failed_text, tell
+from bg_switch_tools.analysis.verdicts import (
+    FAILED,
+    HELD,
+    SUCCESSFUL,
+    NotJudgedError,
+    failed_text,
+    tell,
+)
 from bg_switch_tools.switch.access_log import Follower, LogEntry
 from bg_switch_tools.switch.reports import Report
 
@@ -49,7 +56,7 @@ class Requests:
     def ask(self) -> Sequence[LogEntry]:
         """Asks the switch which services select the revision. Gives requests without an endpoint
         that are the revision's by its answer; where it gives none, by the answer before.
-        `NotJudged` where the revision is gone.
+        `NotJudgedError` where the revision is gone.
         """
         if not isinstance(self.selections, ByReports):
             return ()
@@ -87,8 +94,8 @@ class LogAnalysis:
                 return
 
     def look_at_the_rest(self) -> None:
-        """Takes in what stands in the log at the end. `NotJudged` where it can't be read, or grows
-        faster than it is read."""
+        """Takes in what stands in the log at the end. `NotJudgedError` where it can't be read, or
+        grows faster than it is read."""
         deadline = time.monotonic() + CATCH_UP
         while True:
             self.look(deadline)
@@ -98,7 +105,7 @@ class LogAnalysis:
             if not fault:
                 return
             if time.monotonic() >= deadline:
-                raise NotJudged(f"the log {self.follower.path}: {fault}")
+                raise NotJudgedError(f"the log {self.follower.path}: {fault}")
             time.sleep(LOOK)
 
     def tell(self, text: str) -> None:
@@ -150,7 +157,7 @@ class LogAnalysis:
         if self.analyser.has_failed:
             return self.tell_failed()
         if not self.analyser.has_judged:
-            raise NotJudged(
+            raise NotJudgedError(
                 f"{len(self.analyser.unjudged)} requests came in {seconds:g} seconds, and "
                 f"{self.analyser.limits.requests} are needed{gone_text(self.analyser.gone)}{self.unknown()}"
             )

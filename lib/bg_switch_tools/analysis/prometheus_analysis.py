@@ -7,8 +7,15 @@ from collections.abc import Sequence
 from typing import NamedTuple
 
 from bg_switch_tools.analysis.judged_revision import JudgedRevision
-from bg_switch_tools.analysis.prometheus_query import NoAnswer, Server, query_values
-from bg_switch_tools.analysis.verdicts import FAILED, HELD, SUCCESSFUL, NotJudged, failed_text, tell
+from bg_switch_tools.analysis.prometheus_query import QueryError, Server, query_values
+from bg_switch_tools.analysis.verdicts import (
+    FAILED,
+    HELD,
+    SUCCESSFUL,
+    NotJudgedError,
+    failed_text,
+    tell,
+)
 from bg_switch_tools.switch.json_values import NAME
 
 ARGUMENT = re.compile(r"\{\{\s*args\.([\w-]+)\s*\}\}")
@@ -62,13 +69,13 @@ def judged(values: Sequence[float], condition: QueryLimits) -> Result:
 
 def filled(query: str, subject: JudgedRevision | None) -> str:
     """A query whose `{{args.revision}}` and `{{args.revision-number}}` are those of a revision.
-    `NotJudged` where it has another argument, or one that is not known."""
+    `NotJudgedError` where it has another argument, or one that is not known."""
     known = {"revision": subject.name, "revision-number": str(subject.number)} if subject else {}
 
     def value(found: re.Match[str]) -> str:
         told = known.get(found[1], "")
         if not NAME.fullmatch(told):
-            raise NotJudged(f"the query's argument {found[1]} is not known")
+            raise NotJudgedError(f"the query's argument {found[1]} is not known")
         return told
 
     return ARGUMENT.sub(value, query)
@@ -88,15 +95,15 @@ class PrometheusAnalysis:
         tell(f"analysis of {self.title}: {text}")
 
     def measure(self, seconds: float) -> None:
-        """A measurement. `NotJudged` where one too many is inconclusive, or too many in a row have
-        no answer."""
+        """A measurement. `NotJudgedError` where one too many is inconclusive, or too many in a row
+        have no answer."""
         try:
             result = judged(query_values(self.server, self.query), self.condition)
-        except NoAnswer as reason:
+        except QueryError as reason:
             self.errors += 1
             self.tell(f"{seconds:.0f} s: no measurement: {reason}")
             if self.errors > self.condition.errors:
-                raise NotJudged(
+                raise NotJudgedError(
                     f"{self.errors} queries in a row had no answer, and the limit is {self.condition.errors}"
                 ) from None
             return
@@ -106,7 +113,7 @@ class PrometheusAnalysis:
         self.inconclusive += result.is_inconclusive
         self.tell(f"{seconds:.0f} s: {result.text()}: {result.outcome()}")
         if self.inconclusive > self.condition.inconclusive:
-            raise NotJudged(
+            raise NotJudgedError(
                 f"{self.inconclusive} measurements are inconclusive, and the limit is {self.condition.inconclusive}"
             )
 
@@ -126,6 +133,6 @@ class PrometheusAnalysis:
             pause = min(interval, LONGEST_RETRY) if self.errors else interval
             time.sleep(max(at + pause - time.monotonic(), 0.0))
         if self.inconclusive == self.measured:
-            raise NotJudged("no measurement was conclusive")
+            raise NotJudgedError("no measurement was conclusive")
         self.tell(HELD)
         return SUCCESSFUL

@@ -32,7 +32,7 @@ def fault_of(given: argparse.Namespace) -> str:
 
 
 def judge(given: argparse.Namespace) -> int:
-    """Judges, and gives the exit status. `NotJudged` where the revision can't be judged."""
+    """Judges, and gives the exit status. `NotJudgedError` where the revision can't be judged."""
     needs_revision = ARGUMENT.search(given.query) or given.revision or os.environ.get(NAME)
     subject = subject_of(given.revision, given.control) if needs_revision else None
     count = math.ceil(round(given.seconds / given.every, 6)) if given.count is None else given.count

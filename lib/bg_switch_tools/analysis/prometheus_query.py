@@ -17,7 +17,7 @@ LONGEST_REASON = 200  # characters of a reason that are repeated
 CONNECTIONS = {"http": http.client.HTTPConnection, "https": http.client.HTTPSConnection}
 
 
-class NoAnswer(Exception):
+class QueryError(Exception):
     """A query has no values. The text says why."""
 
 
@@ -70,7 +70,7 @@ def _cut_after(connection: http.client.HTTPConnection, wait: float) -> Iterator[
 
 
 def _answer(server: Server, query: str, wait: float) -> tuple[int, bytes]:
-    """The status and the body of the answer to a query. `NoAnswer` where none comes."""
+    """The status and the body of the answer to a query. `QueryError` where none comes."""
     body = urllib.parse.urlencode({"query": query, "timeout": f"{wait:g}s"})
     headers = {
         "Content-Type": "application/x-www-form-urlencoded",
@@ -87,27 +87,29 @@ def _answer(server: Server, query: str, wait: float) -> tuple[int, bytes]:
                 told = answer.read(LARGEST + 1)
         except (OSError, http.client.HTTPException, ValueError) as error:
             reason = getattr(error, "strerror", None) or str(error) or type(error).__name__
-            raise NoAnswer(f"{server.host} gives no answer: {reason}") from None
+            raise QueryError(f"{server.host} gives no answer: {reason}") from None
     if was_cut.is_set():
-        raise NoAnswer(f"{server.host} gives no whole answer within {wait:g} seconds")
+        raise QueryError(f"{server.host} gives no whole answer within {wait:g} seconds")
     if len(told) > LARGEST:
-        raise NoAnswer(f"the answer has more than {LARGEST} bytes")
+        raise QueryError(f"the answer has more than {LARGEST} bytes")
     return answer.status, told
 
 
 def query_values(server: Server, query: str, wait: float = WAIT) -> list[float]:
     """The values of an instant query: those of a vector, or the one of a scalar; they can be
-    infinite or not a number. None where the result is empty. `NoAnswer` where the server gives no
+    infinite or not a number. None where the result is empty. `QueryError` where the server gives no
     result within so many seconds.
     """
     status, body = _answer(server, query, wait)
     try:
         told = json.loads(body)
     except (ValueError, RecursionError):
-        raise NoAnswer(f"the answer, with status {status}, is not JSON") from None
+        raise QueryError(f"the answer, with status {status}, is not JSON") from None
     if not isinstance(told, dict) or told.get("status") != "success":
         reason = told.get("error") if isinstance(told, dict) else None
-        raise NoAnswer(f"the query is refused with status {status}: {str(reason)[:LONGEST_REASON]}")
+        raise QueryError(
+            f"the query is refused with status {status}: {str(reason)[:LONGEST_REASON]}"
+        )
     return _values(told.get("data"))
 
 
@@ -119,11 +121,11 @@ def _values(data: object) -> list[float]:
     if kind == "scalar":
         return [_value(result)]
     if kind != "vector" or not isinstance(result, list):
-        raise NoAnswer(
+        raise QueryError(
             f"the result is neither a vector nor a scalar, but {str(kind)[:LONGEST_REASON]}"
         )
     if len(result) > MOST_VALUES:
-        raise NoAnswer(f"the result has more than {MOST_VALUES} values")
+        raise QueryError(f"the result has more than {MOST_VALUES} values")
     return [_value(each.get("value") if isinstance(each, dict) else None) for each in result]
 
 
@@ -132,4 +134,4 @@ def _value(told: object) -> float:
     if isinstance(told, list) and len(told) == 2 and isinstance(told[1], str):
         with contextlib.suppress(ValueError):
             return float(told[1])
-    raise NoAnswer("a sample of the result is malformed")
+    raise QueryError("a sample of the result is malformed")

@@ -5,7 +5,7 @@ SUCCESSFUL, FAILED, NOT_JUDGED = 0, 1, 2  # exit statuses
 HELD = "the limits held to the end"
 
 
-class NotJudged(Exception):
+class NotJudgedError(Exception):
     """The revision can't be judged. The text says why."""
 
 

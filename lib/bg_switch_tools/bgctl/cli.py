@@ -9,13 +9,13 @@ from bg_switch_tools.bgctl.argument_parser import Parser, in_order, parser
 from bg_switch_tools.bgctl.command import CommandRun
 from bg_switch_tools.bgctl.commands import BGCTL_COMMANDS, NAMES, NEWCOMER, wrong_command
 from bg_switch_tools.bgctl.exit_statuses import DONE, NO_ANSWER, REFUSED
-from bg_switch_tools.bgctl.target import Unusable, target_of
-from bg_switch_tools.switch.connection import Unreachable
+from bg_switch_tools.bgctl.target import TargetError, target_of
+from bg_switch_tools.switch.connection import UnreachableError
 from bg_switch_tools.switch.frame import End, Frame
 from bg_switch_tools.switch.installed_names import named
-from bg_switch_tools.switch.reports import NoReport
+from bg_switch_tools.switch.reports import ReportError
 
-ENDS = {kind: End(NO_ANSWER) for kind in (Unreachable, NoReport, Unusable)}
+ENDS = {kind: End(NO_ANSWER) for kind in (UnreachableError, ReportError, TargetError)}
 FRAME = Frame("bgctl", ENDS)
 ASKED = "_ARGCOMPLETE"  # the variable by which argcomplete's code for a shell asks for completions
 

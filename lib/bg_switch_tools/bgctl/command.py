@@ -10,9 +10,10 @@ from typing import Any
 from bg_switch_tools.bgctl.exit_statuses import DONE, REFUSED
 from bg_switch_tools.bgctl.target import Target
 from bg_switch_tools.switch.arguments import seconds_of
-from bg_switch_tools.switch.client import WAIT, Reply, Switch
+from bg_switch_tools.switch.client import WAIT, Answer, Switch
 from bg_switch_tools.switch.frame import Frame
-from bg_switch_tools.switch.lines import Line, with_meaning
+from bg_switch_tools.switch.line_help import LineHelp
+from bg_switch_tools.switch.replies import with_meaning
 
 LONGEST_WAIT = 600.0  # seconds that a command waits, where nothing else is said
 Completer = Callable[..., list[str]]
@@ -82,7 +83,7 @@ class CommandRun:
         self.frame.tell(text)
 
     def switch(self) -> Switch:
-        """The switch. `Unusable` where nothing names it."""
+        """The switch. `TargetError` where nothing names it."""
         wait = getattr(self.given, "request_timeout", WAIT)
         within = getattr(self.given, "within", None)
         return Switch(self.target.control(), wait, within)
@@ -90,19 +91,19 @@ class CommandRun:
     def show_json(self, told: object) -> None:
         print(json.dumps(told), flush=True)
 
-    def show(self, reply: Reply) -> int:
+    def show(self, answer: Answer) -> int:
         """Prints a reply. What it means is no part of it: away from a terminal that goes to
         standard error. Gives the exit status."""
         is_plain_terminal = sys.stdout.isatty() and not self.is_json
         if self.is_json:
-            self.show_json(reply.as_json())
-        for line in [] if self.is_json else reply.lines:
+            self.show_json(answer.as_json())
+        for line in [] if self.is_json else answer.lines:
             print(with_meaning(line) if is_plain_terminal else line, flush=True)
-        if reply.note:
-            self.tell(reply.note)
-        elif reply.meaning and not is_plain_terminal:
-            self.tell(f"{reply.lines[0]}: {reply.meaning}")
-        return DONE if reply.carried_out else REFUSED
+        if answer.note:
+            self.tell(answer.note)
+        elif answer.meaning and not is_plain_terminal:
+            self.tell(f"{answer.lines[0]}: {answer.meaning}")
+        return DONE if answer.carried_out else REFUSED
 
 
 def no_fault(_: argparse.Namespace) -> str:
@@ -124,6 +125,6 @@ class Command:
     arguments: tuple[Argument, ...] = ()
     more: str = ""
     fault: Callable[[argparse.Namespace], str] = no_fault
-    line: Line | None = None
+    line: LineHelp | None = None
     add_options: Callable[[argparse.ArgumentParser], None] | None = None
     has_target: bool = True

@@ -4,12 +4,13 @@ import argparse
 import contextlib
 from typing import Any
 
-from bg_switch_tools.bgctl.target import Unusable, target_of
+from bg_switch_tools.bgctl.target import TargetError, target_of
 from bg_switch_tools.switch.client import Switch
 from bg_switch_tools.switch.conditions import CONDITION_SYNTAX
-from bg_switch_tools.switch.connection import Unreachable
-from bg_switch_tools.switch.lines import LINE_WORDS
-from bg_switch_tools.switch.reports import PHASES, NoReport
+from bg_switch_tools.switch.connection import UnreachableError
+from bg_switch_tools.switch.line_help import LINE_WORDS
+from bg_switch_tools.switch.phases import PHASES
+from bg_switch_tools.switch.reports import ReportError
 
 SOON = 0.5  # seconds that a switch has: a person waits for the completion
 
@@ -26,7 +27,7 @@ def names_of_revisions(
             report = Switch(target.control(), SOON).report()
             known = report.revisions.values() if report else ()
             names |= dict.fromkeys(each.name for each in known)
-        except (Unusable, Unreachable, NoReport):
+        except (TargetError, UnreachableError, ReportError):
             pass
     return [name for name in names if name.startswith(prefix)]
 

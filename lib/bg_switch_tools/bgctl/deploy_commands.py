@@ -13,18 +13,18 @@ from bg_switch_tools.bgctl.completions import names_of_revisions
 from bg_switch_tools.bgctl.exit_statuses import DONE, REFUSED
 from bg_switch_tools.bgctl.plan_notices import tell_absence, tell_pause
 from bg_switch_tools.bgctl.state_commands import wait_until
-from bg_switch_tools.bgctl.target import Unusable
+from bg_switch_tools.bgctl.target import TargetError
 from bg_switch_tools.bgctl.undo_target import KnownRevisions, revision_to_undo_to
-from bg_switch_tools.controller.announced_deploy import AnnouncedDeploy
-from bg_switch_tools.controller.attempts import Attempt
-from bg_switch_tools.controller.history_file import HistoryFile
-from bg_switch_tools.controller.kept_ports import kept_revisions
-from bg_switch_tools.controller.plan import PlannedRevision
-from bg_switch_tools.controller.plan_author import Author
-from bg_switch_tools.controller.plan_edit import make_last, told_of
-from bg_switch_tools.controller.plan_file import PlanEdit, plan_of
-from bg_switch_tools.controller.plan_limits import missing_commands
-from bg_switch_tools.controller.plan_reader import WrongPlan
+from bg_switch_tools.controller.edits.announced_deploy import AnnouncedDeploy
+from bg_switch_tools.controller.edits.plan_edit import make_last, told_of
+from bg_switch_tools.controller.history.attempts import Attempt
+from bg_switch_tools.controller.history.history_file import HistoryFile
+from bg_switch_tools.controller.history.kept_ports import kept_revisions
+from bg_switch_tools.controller.plan.plan import PlannedRevision
+from bg_switch_tools.controller.plan.plan_file import PlanEdit, plan_of
+from bg_switch_tools.controller.plan.plan_limits import missing_commands
+from bg_switch_tools.controller.plan.plan_reader import PlanError
+from bg_switch_tools.controller.state.plan_author import Author
 from bg_switch_tools.switch.arguments import numbered_port
 from bg_switch_tools.switch.json_values import MOST_PORTS
 
@@ -34,7 +34,7 @@ def _made_last(run: CommandRun, path: str, revision: PlannedRevision) -> PlanEdi
     author = Author(path)
     try:
         edit = make_last(run.target.file, revision, author.sign)
-    except WrongPlan as wrong:
+    except PlanError as wrong:
         for problem in wrong.problems:
             run.tell(f"{path}: {problem}")
         return None
@@ -98,10 +98,10 @@ def _attempts(run: CommandRun, path: str) -> list[Attempt]:
 
 def undo(run: CommandRun) -> int:
     """Deploys the revision that was stable before the newest one, or the one of this name or
-    number. `Unusable` where it or its ports are not known."""
+    number. `TargetError` where it or its ports are not known."""
     report = run.switch().report()
     if report is None:
-        raise Unusable("no book is open, so there is nothing to undo")
+        raise TargetError("no book is open, so there is nothing to undo")
     path, plan = run.target.path, run.target.plan()
     known = KnownRevisions(
         report, _attempts(run, path) if path else [], plan, kept_revisions(path) if path else {}

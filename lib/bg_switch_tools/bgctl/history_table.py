@@ -1,5 +1,5 @@
 """The history of a plan's rollout as a table, and as JSON."""
-from bg_switch_tools.controller.attempts import BEGINNINGS, DEPLOYED, UNDEPLOYED, Attempt
+from bg_switch_tools.controller.history.attempts import BEGINNINGS, DEPLOYED, UNDEPLOYED, Attempt
 
 TITLES = ("WHEN", "REVISION", "BY", "HOW IT ENDED", "LIVE FOR")
 UNITS = (("d", 86400), ("h", 3600), ("m", 60), ("s", 1))

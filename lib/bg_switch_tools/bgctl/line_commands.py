@@ -18,9 +18,9 @@ from bg_switch_tools.bgctl.state_commands import (
     watch,
 )
 from bg_switch_tools.bgctl.target import GivenTarget
-from bg_switch_tools.switch.connection import words_of
 from bg_switch_tools.switch.control import Control
-from bg_switch_tools.switch.lines import Line
+from bg_switch_tools.switch.line_help import LineHelp
+from bg_switch_tools.switch.lines import is_quit
 
 
 def promote(run: CommandRun) -> int:
@@ -56,7 +56,7 @@ def send_lines(run: CommandRun, lines: Iterable[bytes]) -> int:
     goes_on = getattr(run.given, "keep_going", False)
     for each in lines:
         status = run.show(switch.send(each, is_idempotent, run.given.yes)) or status
-        if words_of(each) == [b"quit"] or (status != DONE and not goes_on):
+        if is_quit(each) or (status != DONE and not goes_on):
             break
     return status
 
@@ -171,10 +171,10 @@ SHUTDOWN = Command(
     "bgctl shutdown --yes",
     shutdown,
     (flag("--yes", "does not ask"),),
-    line=Line("shutdown", "asks, and then shuts the switch down: it sends quit", "shutdown"),
+    line=LineHelp("shutdown", "asks, and then shuts the switch down: it sends quit", "shutdown"),
 )
 
 
-def listed_commands() -> list[Line]:
+def listed_commands() -> list[LineHelp]:
     """The commands that the prompt and bin/operator have beside the lines of the switch."""
     return [each.line for each in (STATUS, WAIT, WATCH, SHUTDOWN) if each.line]

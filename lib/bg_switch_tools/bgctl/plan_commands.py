@@ -3,9 +3,9 @@ from bg_switch_tools.bgctl.command import JSON, Command, CommandRun, argument, f
 from bg_switch_tools.bgctl.exit_statuses import DONE, REFUSED
 from bg_switch_tools.bgctl.history_table import as_json, table
 from bg_switch_tools.bgctl.plan_notices import tell_absence
-from bg_switch_tools.controller.history_file import HistoryFile
+from bg_switch_tools.controller.history.history_file import HistoryFile
 from bg_switch_tools.controller.log import local_time
-from bg_switch_tools.controller.pause import PauseFile
+from bg_switch_tools.controller.state.pause import PauseFile
 from bg_switch_tools.switch.arguments import count_of
 
 PAUSED_BY_PLAN = "only a controller is paused"

@@ -1,9 +1,9 @@
 """What bgctl tells of the controller of a plan beside what it was asked."""
 from bg_switch_tools.bgctl.command import CommandRun
-from bg_switch_tools.controller.analysis_results import ResultsFile
-from bg_switch_tools.controller.attempts import ABORTED
-from bg_switch_tools.controller.controller_life import life_of
-from bg_switch_tools.controller.pause import PauseFile
+from bg_switch_tools.controller.history.attempts import ABORTED
+from bg_switch_tools.controller.state.analysis_results import ResultsFile
+from bg_switch_tools.controller.state.controller_life import life_of
+from bg_switch_tools.controller.state.pause import PauseFile
 
 
 def tell_absence(run: CommandRun, path: str) -> None:

@@ -1,36 +1,38 @@
 """A prompt at a terminal."""
 from collections.abc import Callable, Sequence
 
-from bg_switch_tools.bgctl.target import Unusable
-from bg_switch_tools.switch.client import Reply, Switch
-from bg_switch_tools.switch.connection import Unreachable, words_of
+from bg_switch_tools.bgctl.target import TargetError
+from bg_switch_tools.switch.client import Answer, Switch
+from bg_switch_tools.switch.connection import UnreachableError
 from bg_switch_tools.switch.control import Control, place_of
-from bg_switch_tools.switch.lines import LINES, Line, with_meaning
-from bg_switch_tools.switch.reports import NoReport
+from bg_switch_tools.switch.line_help import LINES, LineHelp
+from bg_switch_tools.switch.lines import Quit, words_of
+from bg_switch_tools.switch.replies import with_meaning
+from bg_switch_tools.switch.reports import ReportError
 
 try:
     import readline as readline  # noqa: F401  (gives `input` editing and history)
 except ImportError:
     pass
 
-LEAVE = ("quit", "exit")
-HELP = Line("help", "lists the lines and commands", "help")
-LEAVING = Line("quit, exit, ctrl-D", "leave this prompt; the switch continues", "exit")
+LEAVE = (Quit.word, "exit")
+HELP = LineHelp("help", "lists the lines and commands", "help")
+LEAVING = LineHelp("quit, exit, ctrl-D", "leave this prompt; the switch continues", "exit")
 WIDTH = 24  # of the column of the forms
 PromptCommand = Callable[[Sequence[str]], object]
 
 
-def listed(lines: Sequence[Line]) -> list[str]:
+def listed(lines: Sequence[LineHelp]) -> list[str]:
     """A line for each, with what it does."""
     return [f"  {line.syntax:{WIDTH}} {line.meaning}" for line in lines]
 
 
-def show_at_terminal(reply: Reply) -> None:
+def show_at_terminal(answer: Answer) -> None:
     """Prints the lines of a reply with what they mean, and what it comes to."""
-    for line in reply.lines:
+    for line in answer.lines:
         print(with_meaning(line))
-    if reply.note:
-        print(reply.note)
+    if answer.note:
+        print(answer.note)
 
 
 def confirm_shutdown(control: Control) -> bool:
@@ -53,7 +55,7 @@ class Prompt:
         self,
         switch: Switch,
         commands: dict[str, PromptCommand],
-        described: Sequence[Line] = (),
+        described: Sequence[LineHelp] = (),
     ) -> None:
         self.switch = switch
         self.commands = commands
@@ -68,7 +70,7 @@ class Prompt:
         if words[0] in LEAVE and len(words) == 1:
             return False
         if words == ["help"]:
-            sent = [line for line in LINES if line.syntax != "quit"]  # which leaves the prompt
+            sent = [line for line in LINES if line.syntax != Quit.word]  # which leaves the prompt
             print("\n".join(listed([*sent, *self.described, HELP, LEAVING])))
         elif words == ["shutdown"]:
             return not self.shut_down()
@@ -104,7 +106,7 @@ class Prompt:
         while goes_on:
             try:
                 goes_on = self.run_line(input(f"{self.switch.control}> "))
-            except (Unreachable, NoReport, Unusable, ValueError) as reason:
+            except (UnreachableError, ReportError, TargetError, ValueError) as reason:
                 print(reason)
             except (EOFError, KeyboardInterrupt):
                 print()

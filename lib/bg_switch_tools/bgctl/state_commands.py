@@ -12,14 +12,15 @@ from bg_switch_tools.bgctl.command import (
 from bg_switch_tools.bgctl.completions import conditions
 from bg_switch_tools.bgctl.exit_statuses import DARK, DONE, HELD_BACK, NO_CONTROLLER, REFUSED
 from bg_switch_tools.bgctl.plan_notices import tell_analyses, tell_pause
-from bg_switch_tools.controller.announced_deploy import AnnouncedDeploy, held_back
-from bg_switch_tools.controller.controller_life import ControllerLife, Life, life_of
-from bg_switch_tools.controller.state_file import HeldBack
+from bg_switch_tools.controller.edits.announced_deploy import AnnouncedDeploy, held_back
+from bg_switch_tools.controller.state.controller_life import ControllerLife, Life, life_of
+from bg_switch_tools.controller.state.state_file import HeldBack
 from bg_switch_tools.switch.conditions import CONDITION_SYNTAX, Conditions, wrong_condition
-from bg_switch_tools.switch.connection import Unreachable
-from bg_switch_tools.switch.lines import Line
+from bg_switch_tools.switch.connection import UnreachableError
+from bg_switch_tools.switch.line_help import LineHelp
+from bg_switch_tools.switch.phases import Phase
 from bg_switch_tools.switch.report_text import in_one_line
-from bg_switch_tools.switch.reports import NoReport, Report, as_json
+from bg_switch_tools.switch.reports import Report, ReportError, as_json
 from bg_switch_tools.switch.wait import Announcement, WaitResult, nothing_comes, wait_for
 from bg_switch_tools.switch.watch import dated
 from bg_switch_tools.switch.watch import watch as watch_switch
@@ -30,7 +31,7 @@ def _read_report(run: CommandRun) -> Report | None:
     switch = run.switch()
     try:
         return switch.report()
-    except (Unreachable, NoReport) as reason:
+    except (UnreachableError, ReportError) as reason:
         if run.is_json:
             run.show_json({"phase": None, "reason": str(reason)})
         raise
@@ -73,7 +74,7 @@ def status(run: CommandRun) -> int:
         return NO_CONTROLLER
     if held:
         return HELD_BACK
-    return REFUSED if report is None or report.phase == "aborted" else DONE
+    return REFUSED if report is None or report.phase is Phase.ABORTED else DONE
 
 
 def watch(run: CommandRun) -> int:
@@ -155,7 +156,7 @@ STATUS = Command(
     status,
     (JSON,),
     more="With a plan, it also tells whether a controller runs the plan, and which revisions of the plan the controller holds back.",
-    line=Line(
+    line=LineHelp(
         "status",
         "shows the state in one line; status 0 if it is steady or an attempt runs, 1 if it was aborted, "
         "3 if no endpoint of the active revision is available",
@@ -167,7 +168,7 @@ WATCH = Command(
     "draws the state once a second, and each change, until ctrl-C",
     "bgctl watch",
     watch,
-    line=Line("watch", "draws the state once a second, and each change, until ctrl-C", "watch"),
+    line=LineHelp("watch", "draws the state once a second, and each change, until ctrl-C", "watch"),
 )
 WAIT = Command(
     "wait",
@@ -181,7 +182,7 @@ WAIT = Command(
     ),
     more="With a plan it first waits until the controller has deployed the last revision of the plan.",
     fault=wrong_condition(Conditions),
-    line=Line(
+    line=LineHelp(
         "wait CONDITION..",
         "waits until all conditions hold; status 0 then, 1 as soon as they cannot hold unless a line is sent, "
         "2 at the timeout",

@@ -3,9 +3,9 @@ import argparse
 import os
 from typing import Any
 
-from bg_switch_tools.controller.plan import Plan
-from bg_switch_tools.controller.plan_file import OpenPlan, plan_of, unreadable
-from bg_switch_tools.controller.plan_reader import WrongPlan
+from bg_switch_tools.controller.plan.plan import Plan
+from bg_switch_tools.controller.plan.plan_file import OpenPlan, plan_of, unreadable
+from bg_switch_tools.controller.plan.plan_reader import PlanError
 from bg_switch_tools.switch.arguments import control_of
 from bg_switch_tools.switch.control import Control
 
@@ -15,7 +15,7 @@ CONTROL, PLAN = ("BG_CONTROL", "BG_PLAN")
 BEFORE = "before_"  # begins the names of the options that stand before the command
 
 
-class Unusable(Exception):
+class TargetError(Exception):
     """The run can't find what it needs. The text says why."""
 
 
@@ -45,28 +45,28 @@ class Target:
             self.path, self.file = path, OpenPlan(path)
 
     def needed_path(self, why: str) -> str:
-        """The path of the plan, whose file can be read. `Unusable` where none is named (then `why`
-        says what it is for)."""
+        """The path of the plan, whose file can be read. `TargetError` where none is named (then
+        `why` says what it is for)."""
         if self.path is None:
-            raise Unusable(f"{why}: --plan FILE or the variable {PLAN} names the plan")
+            raise TargetError(f"{why}: --plan FILE or the variable {PLAN} names the plan")
         try:
             self.file.text()
         except OSError as error:
-            raise Unusable(f"the plan {self.path} can't be read: {error.strerror}") from None
+            raise TargetError(f"the plan {self.path} can't be read: {error.strerror}") from None
         return self.path
 
     def plan(self) -> Plan | None:
-        """The plan; None where none is named. `Unusable` where it is wrong, or can't be read."""
+        """The plan; None where none is named. `TargetError` where it is wrong, or can't be read."""
         try:
             return self._plan()
-        except WrongPlan as wrong:
-            raise Unusable(f"{self.path} is not a plan: {wrong}") from None
+        except PlanError as wrong:
+            raise TargetError(f"{self.path} is not a plan: {wrong}") from None
 
     def plan_if_right(self) -> Plan | None:
         """The plan; None where none is named, or it is wrong."""
         try:
             return self._plan()
-        except WrongPlan:
+        except PlanError:
             return None
 
     def _plan(self) -> Plan | None:
@@ -76,8 +76,8 @@ class Target:
             raise unreadable(error) from None
 
     def known_control(self) -> Control | None:
-        """The control port or socket; None where nothing names it. `Unusable` where what names it
-        is wrong."""
+        """The control port or socket; None where nothing names it. `TargetError` where what names
+        it is wrong."""
         # a plan that is named and wrong is told, also where its port is not needed
         plan = self.plan()
         if self.given_control is not None:
@@ -86,14 +86,14 @@ class Target:
             try:
                 return control_of(told)
             except argparse.ArgumentTypeError as error:
-                raise Unusable(f"{CONTROL}: {error}") from None
+                raise TargetError(f"{CONTROL}: {error}") from None
         return plan.control if plan else None
 
     def control(self) -> Control:
-        """The control port or socket. `Unusable` where nothing names it."""
+        """The control port or socket. `TargetError` where nothing names it."""
         control = self.known_control()
         if control is None:
-            raise Unusable(
+            raise TargetError(
                 f"the control port is not known: --control PORT names it, or the variable {CONTROL}, or a plan "
                 f"(--plan FILE, {PLAN})"
             )

@@ -1,12 +1,12 @@
 """Which revision an undo takes again."""
 from collections.abc import Sequence
 
-from bg_switch_tools.switch.suggestion import did_you_mean
-from bg_switch_tools.bgctl.target import Unusable
-from bg_switch_tools.controller.attempts import STABLE, Attempt
-from bg_switch_tools.controller.kept_ports import Kept
-from bg_switch_tools.controller.plan import Plan, PlannedRevision
+from bg_switch_tools.bgctl.target import TargetError
+from bg_switch_tools.controller.history.attempts import STABLE, Attempt
+from bg_switch_tools.controller.history.kept_ports import Kept
+from bg_switch_tools.controller.plan.plan import Plan, PlannedRevision
 from bg_switch_tools.switch.reports import Report
+from bg_switch_tools.switch.suggestion import did_you_mean
 
 
 class KnownRevisions:
@@ -23,7 +23,7 @@ class KnownRevisions:
 
     def before(self) -> str:
         """The name of the revision that was stable before the newest one. Without a history that is
-        the only other revision. `Unusable` where it can't be told."""
+        the only other revision. `TargetError` where it can't be told."""
         newest = self.report.newest.name
         if self.report.stable.name != newest:
             return self.report.stable.name
@@ -36,15 +36,15 @@ class KnownRevisions:
         if len(others) == 1 and not self.attempts:
             return others[0]
         if self.attempts or not others:
-            raise Unusable(
+            raise TargetError(
                 f"no revision is known that was stable before {newest}: --to NAME names another one"
             )
-        raise Unusable(
+        raise TargetError(
             f"no history tells which revision was stable before {newest}: --to NAME names one of {', '.join(others)}"
         )
 
     def named(self, told: str) -> str:
-        """The name of the revision of this name or number. `Unusable` where none is known."""
+        """The name of the revision of this name or number. `TargetError` where none is known."""
         if (
             told.isascii()
             and told.isdigit()
@@ -54,7 +54,7 @@ class KnownRevisions:
             return self.report.revisions[int(told)].name
         names = self.names()
         if told not in names:
-            raise Unusable(f"no revision {told} is known{did_you_mean(told, names)}")
+            raise TargetError(f"no revision {told} is known{did_you_mean(told, names)}")
         return told
 
     def names(self) -> list[str]:
@@ -76,11 +76,11 @@ def revision_to_undo_to(
     known: KnownRevisions, to: str | None, ports: Sequence[int]
 ) -> PlannedRevision:
     """The revision that an undo takes again, with its ports; `ports` are used where they are given.
-    `Unusable` where either is not known."""
+    `TargetError` where either is not known."""
     name = known.named(to) if to else known.before()
     found = tuple(ports) or known.ports(name)
     if not found:
-        raise Unusable(
+        raise TargetError(
             f"the ports of {name} are not known, since the switch does not report them: --ports PORT.. names them, or "
             "--plan FILE a plan that has them"
         )

@@ -5,21 +5,21 @@ import sys
 import threading
 from collections.abc import Callable, Sequence
 
-from bg_switch_tools.controller.book_opener import CannotOpen
-from bg_switch_tools.controller.controller import Controller, files_beside
+from bg_switch_tools.controller.edits.plan_check import problems_of
+from bg_switch_tools.controller.edits.plan_edit import OtherPortsError, deploy_by_plan
+from bg_switch_tools.controller.endpoints.probes import Probes
 from bg_switch_tools.controller.log import Log
-from bg_switch_tools.controller.plan import Plan
-from bg_switch_tools.controller.plan_check import problems_of
-from bg_switch_tools.controller.plan_edit import OtherPorts, deploy_by_plan
-from bg_switch_tools.controller.plan_file import OpenPlan, PlanFile, plan_of
-from bg_switch_tools.controller.plan_reader import WrongPlan
-from bg_switch_tools.controller.probes import Probes
-from bg_switch_tools.controller.state_file import IsLocked, StateLock
-from bg_switch_tools.controller.switch_silence import SwitchSilence
-from bg_switch_tools.switch.connection import Connection, Unreachable
+from bg_switch_tools.controller.plan.plan import Plan
+from bg_switch_tools.controller.plan.plan_file import OpenPlan, PlanFile, plan_of
+from bg_switch_tools.controller.plan.plan_reader import PlanError
+from bg_switch_tools.controller.rounds.book_opener import OpeningError
+from bg_switch_tools.controller.rounds.composition import files_beside, make_controller
+from bg_switch_tools.controller.rounds.switch_silence import SwitchSilence
+from bg_switch_tools.controller.state.state_file import StateLock, StateLockedError
+from bg_switch_tools.switch.connection import Connection, UnreachableError
 from bg_switch_tools.switch.frame import Frame, Signals, list_of
 from bg_switch_tools.switch.installed_names import named
-from bg_switch_tools.switch.reports import NoReport
+from bg_switch_tools.switch.reports import ReportError
 
 USAGE = """bin/controller [--json] PLAN              runs the plan, until SIGTERM or ctrl-C
        bin/controller check PLAN [--rollout FILE]   judges it: prints its problems, and carries nothing out
@@ -85,7 +85,7 @@ class Runner:
         self.file = file
         self.log = log
         self.lock = lock
-        self.controller = Controller(files_beside(file.path), plan, log, Probes())
+        self.controller = make_controller(files_beside(file.path), plan, log, Probes())
         self.silence = SwitchSilence(log, MINUTE)
         self.stopping = threading.Event()
         self.connection: Connection | None = None
@@ -111,7 +111,7 @@ class Runner:
         try:
             if (plan := self.file.read()) is not None:
                 self.controller.take_plan(plan)
-        except WrongPlan as wrong:
+        except PlanError as wrong:
             for problem in wrong.problems:
                 self.log.say("plan", f"the plan is wrong, so the one before is used: {problem}")
 
@@ -129,10 +129,10 @@ class Runner:
                 )
             self.silence.end()
             return pause
-        except (Unreachable, NoReport) as reason:
+        except (UnreachableError, ReportError) as reason:
             if not self.stopping.is_set():
                 self.silence.begin(str(reason))
-        except CannotOpen as reason:
+        except OpeningError as reason:
             self.unfit = str(reason)
         finally:
             self.connection = None
@@ -160,10 +160,10 @@ def run(path: str, as_json: bool, text: bytes | None = None) -> int:
     try:
         plan = file.first()
         lock = StateLock(path)
-    except WrongPlan as wrong:
+    except PlanError as wrong:
         FRAME.tell(list_of(f"{path} is not a plan:", wrong.problems))
         return 1
-    except IsLocked as reason:
+    except StateLockedError as reason:
         FRAME.tell(str(reason))
         return 1
     except OSError as error:
@@ -204,7 +204,7 @@ def check_text(path: str, text: bytes, rollout: str | None) -> int:
     Gives the exit status."""
     try:
         problems = problems_of(path, plan_of(text), rollout)
-    except WrongPlan as wrong:
+    except PlanError as wrong:
         problems = wrong.problems
     print("\n".join(problems) if problems else f"{path} is a plan")
     return 1 if problems else 0
@@ -215,10 +215,10 @@ def deploy(path: str, name: str, ports: Sequence[str]) -> int:
     status."""
     try:
         print(deploy_by_plan(path, name, [port_or_none(port) for port in ports]))
-    except OtherPorts as wrong:
+    except OtherPortsError as wrong:
         FRAME.tell(list_of(f"{path} stays as it is:", wrong.problems))
         return 1
-    except WrongPlan as wrong:
+    except PlanError as wrong:
         FRAME.tell(
             list_of(
                 f"{path} stays as it is, since with {name} it would not be a plan:", wrong.problems

@@ -6,7 +6,8 @@ import time
 from collections.abc import Callable, Mapping
 from typing import TextIO
 
-from bg_switch_tools.switch.lines import meaning_of, was_carried_out, with_meaning
+from bg_switch_tools.switch.lines import Line
+from bg_switch_tools.switch.replies import Reply, as_json
 from bg_switch_tools.switch.reports import Revision
 
 
@@ -39,15 +40,9 @@ class Log:
         """Writes the result of an analysis; `told` is what only JSON shows of it."""
         self._write("analysis", text, told)
 
-    def say_reply(self, line: str, reply: str) -> None:
+    def say_reply(self, line: Line, reply: Reply) -> None:
         """Writes an operator's line and its reply."""
-        told = {
-            "line": line,
-            "reply": reply,
-            "carried_out": was_carried_out(reply),
-            "meaning": meaning_of(reply),
-        }
-        self._write("order", f"{line} => {with_meaning(reply)}", told)
+        self._write("order", f"{line} => {reply.with_meaning()}", as_json(line, reply))
 
     def say_beside(self, event: str, text: str) -> None:
         """Writes a line that `tell` is not given. Any thread may call this."""

@@ -4,7 +4,7 @@ import time
 from collections.abc import Mapping, Sequence
 from typing import TypedDict
 
-from bg_switch_tools.controller.analysis_results import AttemptResults
+from bg_switch_tools.controller.state.analysis_results import AttemptResults
 from bg_switch_tools.dashboard.alarms import alarms
 from bg_switch_tools.dashboard.local_controller import ControllerView
 from bg_switch_tools.dashboard.steps import SeenPhases, possible_commands, steps
@@ -12,12 +12,15 @@ from bg_switch_tools.dashboard.totals import Totals
 from bg_switch_tools.dashboard.traffic import KEPT, SLOT, Traffic
 from bg_switch_tools.switch.access_log import CLIENT_SERVICES, Batch, LogEntry
 from bg_switch_tools.switch.control import Control
-from bg_switch_tools.switch.lines import with_meaning
-from bg_switch_tools.switch.report_changes import changes, is_another_book
+from bg_switch_tools.switch.lines import Line
+from bg_switch_tools.switch.replies import Reply
+from bg_switch_tools.switch.report_changes import ChangeKind, changes_with_kinds, is_another_book
 from bg_switch_tools.switch.report_text import NO_BOOK, WAITS_FOR, in_one_line
 from bg_switch_tools.switch.reports import Report, as_json
 
 MOST_HAPPENED, MOST_FAILED = 200, 50
+# What the list of what has happened calls a change; any other is a `change`.
+KIND_OF_CHANGE = {ChangeKind.ACTIVE_SWITCHED: "switch", ChangeKind.ABORTED: "abort"}
 MOST_OF_A_BATCH = 20  # failed requests that one look adds
 
 
@@ -101,15 +104,9 @@ class Board:
             self.totals.take_changes(None if is_another else before, report)
             self.attempt.take(report)
         is_first, self.has_asked = not self.has_asked, True
-        for change in changes(before, report) if not is_first else []:
-            kind = (
-                "switch"
-                if change.startswith("active: ")
-                else "abort"
-                if change.endswith(" -> aborted")
-                else "change"
-            )
-            self.say(kind, change, self._mark(kind, report))
+        for change in changes_with_kinds(before, report) if not is_first else []:
+            kind = KIND_OF_CHANGE.get(change.kind, "change")
+            self.say(kind, change.text, self._mark(kind, report))
         self._say_alarms(None if is_another else before, report)
 
     def _say_alarms(self, before: Report | None, now: Report | None) -> None:
@@ -229,8 +226,8 @@ class Board:
         """The name of a revision; empty where there is none."""
         return "" if number is None else self.names.get(number, f"revision-{number}")
 
-    def note_line(self, line: str, reply: str) -> None:
-        self.say("order", f"{line} => {with_meaning(reply)}")
+    def note_line(self, line: Line, reply: Reply) -> None:
+        self.say("order", f"{line} => {reply.with_meaning()}")
 
     def head(self) -> dict[str, object]:
         """All but what is told piece by piece."""
@@ -255,7 +252,7 @@ class Board:
             "steps": steps(report, self.attempt.seen, self.attempt.failed_at) if report else [],
             "waits_for": WAITS_FOR[report.phase] if report else NO_BOOK,
             "orders": {
-                command: can and not self.fault and not self.is_read_only
+                str(command): can and not self.fault and not self.is_read_only
                 for command, can in possible_commands(report).items()
             },
             "recent": self.traffic.recent(now),

@@ -6,7 +6,7 @@ from collections.abc import Sequence
 
 from bg_switch_tools.dashboard.board import Board
 from bg_switch_tools.dashboard.fleet_agent import local_agent
-from bg_switch_tools.fleet.fleet_file import FleetFile, WrongFleetFile, read_whole_fleet_file
+from bg_switch_tools.fleet.plan.fleet_file import FleetFile, FleetFileError, read_whole_fleet_file
 from bg_switch_tools.switch.arguments import control_of, numbered_port
 from bg_switch_tools.switch.frame import REFUSED, Frame
 from bg_switch_tools.switch.installed_names import named
@@ -108,7 +108,7 @@ def fault_of(given: argparse.Namespace) -> str:
 
 
 def fleet_file(path: str) -> FleetFile | None:
-    """The fleet file of a path; None where none is named. `WrongFleetFile` where it is none."""
+    """The fleet file of a path; None where none is named. `FleetFileError` where it is none."""
     return read_whole_fleet_file(path) if path else None
 
 
@@ -137,7 +137,7 @@ def show(given: argparse.Namespace) -> int:
         if board and agent and not given.plan:
             board.results_of = agent.files
         server.run(board, file, agent, given.listen)
-    except WrongFleetFile as wrong:
+    except FleetFileError as wrong:
         for problem in wrong.problems:
             FRAME.tell(f"{given.fleet}: {problem}")
         return REFUSED

@@ -1,10 +1,10 @@
 """What the agent of this machine tells of its own reads, in the file that it keeps up to date."""
 import pathlib
 
-from bg_switch_tools.fleet.agent_files import path_of
-from bg_switch_tools.fleet.agent_status import SUFFIX, AgentStatus, read_agent_status
-from bg_switch_tools.fleet.fleet_file import FleetFile
-from bg_switch_tools.fleet.record import Unreadable
+from bg_switch_tools.fleet.agent.agent_files import path_of
+from bg_switch_tools.fleet.agent.agent_status import SUFFIX, AgentStatus, read_agent_status
+from bg_switch_tools.fleet.plan.fleet_file import FleetFile
+from bg_switch_tools.fleet.record.record import UnreadableError
 
 LARGEST = 1 << 16  # bytes of the file
 
@@ -24,7 +24,7 @@ class LocalAgent:
         try:
             with open(self.path, "rb") as file:
                 status = read_agent_status(file.read(LARGEST))
-        except (OSError, Unreadable):
+        except (OSError, UnreadableError):
             return None
         return None if status.is_stale(now) else status
 

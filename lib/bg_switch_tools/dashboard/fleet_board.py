@@ -6,9 +6,9 @@ from typing import NamedTuple, TypedDict
 
 from bg_switch_tools.dashboard.fleet_changes import attempt_told, changes
 from bg_switch_tools.dashboard.fleet_state import FleetState, read_state
-from bg_switch_tools.fleet.agent import Clock
-from bg_switch_tools.fleet.record import Record
-from bg_switch_tools.fleet.store import Snapshot
+from bg_switch_tools.fleet.agent.agent import Clock
+from bg_switch_tools.fleet.record.record import Record
+from bg_switch_tools.fleet.store.store import Snapshot
 
 MOST_HAPPENED = 200
 MOST_LEADERS = 100  # leaders of before whose names are known

@@ -3,9 +3,9 @@ from collections.abc import Iterator
 from typing import NamedTuple
 
 from bg_switch_tools.dashboard.fleet_state import AWAY, FleetState
-from bg_switch_tools.fleet.record import ABORTED, PROMOTING, SUCCESSFUL
-from bg_switch_tools.fleet.status import FleetStatus, MemberStatus
-from bg_switch_tools.fleet.status_text import attempt_title
+from bg_switch_tools.fleet.record.record import ABORTED, PROMOTING, SUCCESSFUL
+from bg_switch_tools.fleet.record.status import FleetStatus, MemberStatus
+from bg_switch_tools.fleet.record.status_text import attempt_title
 
 # of changes to a stage; `change` for others
 KINDS = {ABORTED: "abort", PROMOTING: "switch", SUCCESSFUL: "switch"}

@@ -4,7 +4,7 @@ from typing import TypedDict
 
 from bg_switch_tools.dashboard.fleet_board import FleetBoard, FleetHappening, Since, shown_text
 from bg_switch_tools.dashboard.fleet_state import FleetState, steps_of
-from bg_switch_tools.fleet.status import MemberStatus
+from bg_switch_tools.fleet.record.status import MemberStatus
 
 MOST_SHOWN = 200  # rows of machines, and items of each other list
 

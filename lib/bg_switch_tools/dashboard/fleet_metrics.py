@@ -7,7 +7,7 @@ from bg_switch_tools.dashboard.fleet_agent import LocalAgent
 from bg_switch_tools.dashboard.fleet_board import FleetBoard
 from bg_switch_tools.dashboard.fleet_state import MEMBER_STATES, FleetState
 from bg_switch_tools.dashboard.metric_families import by_label, counter, gauge, gauges
-from bg_switch_tools.fleet.record import STAGES
+from bg_switch_tools.fleet.record.record import STAGES
 
 
 def _of_read(state: FleetState) -> Iterator[Metric]:

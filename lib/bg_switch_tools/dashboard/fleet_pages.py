@@ -11,7 +11,7 @@ from bg_switch_tools.dashboard.fleet_board import FleetBoard
 from bg_switch_tools.dashboard.looks import take_fault, while_it_runs
 from bg_switch_tools.dashboard.streams import Listeners
 from bg_switch_tools.dashboard.web_pages import FLEET, SWITCH, html_answer, page
-from bg_switch_tools.fleet.store import Snapshot, Store, StoreFault
+from bg_switch_tools.fleet.store.store import Snapshot, Store, StoreError
 
 PAUSE = 1.0  # seconds between two reads, and between two updates while a read takes longer
 
@@ -50,14 +50,14 @@ class FleetPages:
         """Takes in what one read gives, and tells it to all who listen."""
         try:
             self.board.take_read(await self.read())
-        except StoreFault as fault:
+        except StoreError as fault:
             self.board.take_silence(str(fault))
         self.board.take_fault("")
         self.tell()
 
     async def read(self) -> Snapshot:
         """One read. While it lasts, all who listen are told that the dashboard is there.
-        `StoreFault` as the store has it."""
+        `StoreError` as the store has it."""
         reading = asyncio.wrap_future(self._begin_read())
         try:
             while not (await asyncio.wait({reading}, timeout=PAUSE))[0]:

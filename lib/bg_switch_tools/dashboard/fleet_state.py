@@ -2,7 +2,7 @@
 from typing import NamedTuple
 
 from bg_switch_tools.dashboard.steps import Step
-from bg_switch_tools.fleet.record import (
+from bg_switch_tools.fleet.record.record import (
     ABORTED,
     DEPLOYING,
     LEADER,
@@ -11,8 +11,8 @@ from bg_switch_tools.fleet.record import (
     SUCCESSFUL,
     Record,
 )
-from bg_switch_tools.fleet.status import FleetStatus, MemberStatus, status_of
-from bg_switch_tools.fleet.store import Snapshot
+from bg_switch_tools.fleet.record.status import FleetStatus, MemberStatus, status_of
+from bg_switch_tools.fleet.store.store import Snapshot
 
 AWAY = "away"  # the state of a member without a report
 MEMBER_STATES = (*STATES, AWAY)

@@ -3,9 +3,9 @@ import os
 from collections.abc import Sequence
 from typing import NamedTuple
 
-from bg_switch_tools.controller.announced_deploy import held_back
-from bg_switch_tools.controller.controller_life import ControllerLife, Life, life_of
-from bg_switch_tools.controller.state_file import LOCK, SUFFIX, HeldBack
+from bg_switch_tools.controller.edits.announced_deploy import held_back
+from bg_switch_tools.controller.state.controller_life import ControllerLife, Life, life_of
+from bg_switch_tools.controller.state.state_file import LOCK, SUFFIX, HeldBack
 
 
 class ControllerView(NamedTuple):

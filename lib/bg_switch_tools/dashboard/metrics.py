@@ -3,16 +3,17 @@ from collections.abc import Iterator, Mapping
 
 from prometheus_client.core import HistogramMetricFamily, Metric
 
-from bg_switch_tools.controller.controller_life import Life
+from bg_switch_tools.controller.state.controller_life import Life
 from bg_switch_tools.dashboard.alarms import without_endpoint
 from bg_switch_tools.dashboard.board import Board
 from bg_switch_tools.dashboard.local_controller import ControllerView
 from bg_switch_tools.dashboard.metric_families import by_label, counter, gauge, gauges
 from bg_switch_tools.dashboard.totals import Labels, Totals
-from bg_switch_tools.switch.reports import PHASES, SERVICES, Report
+from bg_switch_tools.switch.phases import PHASES, Phase
+from bg_switch_tools.switch.reports import SERVICES, Report
 
 # The phases of Argo Rollouts.
-ARGO_PHASES = {"steady": "Healthy", "aborted": "Degraded", "paused": "Paused"}
+ARGO_PHASES = {Phase.STEADY: "Healthy", Phase.ABORTED: "Degraded", Phase.PAUSED: "Paused"}
 LABELS = list(Labels._fields)
 DROPPED_IN = "0.2.0"  # the version that no longer has the old names
 # The names that metrics had before, which are those of exporters that can run beside the dashboard.

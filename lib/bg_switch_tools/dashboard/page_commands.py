@@ -1,29 +1,33 @@
 """The commands of the page's buttons, which are sent only if the newest revision is the one that
 the page showed."""
+from collections.abc import Mapping
 from typing import NamedTuple
 
+from bg_switch_tools.dashboard.steps import COMMANDS
 from bg_switch_tools.switch.connection import Connection, sent
 from bg_switch_tools.switch.control import Control
 from bg_switch_tools.switch.json_values import Judge, decoded
-from bg_switch_tools.switch.reports import read_report
+from bg_switch_tools.switch.lines import Line
+from bg_switch_tools.switch.replies import Reply
 
-PAGE_COMMANDS = ("promote", "promote full", "abort", "retry")
+# By what a page calls them.
+PAGE_COMMANDS: Mapping[str, Line] = {str(line): line for line in COMMANDS}
 MOST_REVISIONS = 1 << 53
 WAIT = 5.0  # seconds for the switch to answer
 
 
-class WrongPageCommand(ValueError):
+class PageCommandError(ValueError):
     """A text that is not a command. The message says why."""
 
 
-class NewestHasChanged(Exception):
+class NewestChangedError(Exception):
     """The newest revision is another one than the page showed."""
 
 
 class PageCommand(NamedTuple):
     """A command, and the number of the newest revision that it was meant for."""
 
-    line: str
+    line: Line
     revision: int
 
 
@@ -33,10 +37,10 @@ def read_page_command(text: bytes) -> PageCommand:
     try:
         told = decoded(text)
     except ValueError:
-        raise WrongPageCommand("it is not JSON") from None
+        raise PageCommandError("it is not JSON") from None
     members = judge.members(told, "the command", ("order", "revision"), ("order", "revision"))
-    line = str(members.get("order"))
-    if line not in PAGE_COMMANDS:
+    name = str(members.get("order"))
+    if name not in PAGE_COMMANDS:
         judge.note("order", f"it must be one of {', '.join(PAGE_COMMANDS)}")
     number = judge.member(
         members,
@@ -46,15 +50,15 @@ def read_page_command(text: bytes) -> PageCommand:
         0,
     )
     if judge.problems:
-        raise WrongPageCommand("; ".join(judge.problems))
-    return PageCommand(line, number)
+        raise PageCommandError("; ".join(judge.problems))
+    return PageCommand(PAGE_COMMANDS[name], number)
 
 
-def send_page_command(control: Control, command: PageCommand) -> str:
-    """Sends a command, and gives its reply. `Unreachable` where the switch gives no answer."""
+def send_page_command(control: Control, command: PageCommand) -> Reply:
+    """Sends a command, and gives its reply. `UnreachableError` where the switch gives no answer."""
     with Connection(control, WAIT) as connection:
-        report = read_report(connection.answer(b"report"))
+        report = connection.ask_report()
         if report is None or report.newest.number != command.revision:
             newest = report.newest.title() if report else "none"
-            raise NewestHasChanged(f"the newest revision is {newest} by now: nothing was sent")
-        return sent(connection, command.line.encode("ascii"), WAIT)[0]
+            raise NewestChangedError(f"the newest revision is {newest} by now: nothing was sent")
+        return connection.read(sent(connection, command.line.encoded(), WAIT)[0])

@@ -13,8 +13,8 @@ from bg_switch_tools.dashboard.fleet_metrics import FleetCollector
 from bg_switch_tools.dashboard.fleet_pages import FleetPages
 from bg_switch_tools.dashboard.switch_pages import SwitchPages
 from bg_switch_tools.dashboard.web_pages import PageFiles, guarded
-from bg_switch_tools.fleet.etcd import EtcdStore
-from bg_switch_tools.fleet.fleet_file import FleetFile
+from bg_switch_tools.fleet.plan.fleet_file import FleetFile
+from bg_switch_tools.fleet.store.etcd import EtcdStore
 from bg_switch_tools.switch.control import HOST
 
 LARGEST_COMMAND = 4096  # bytes

@@ -1,21 +1,25 @@
 """An attempt as a line of steps, and the commands that make sense in it."""
-from collections.abc import Collection
+from collections.abc import Collection, Mapping
 from typing import TypedDict
 
-from bg_switch_tools.switch.reports import PHASES, Report
+from bg_switch_tools.switch.lines import Abort, Line, Promote, Retry
+from bg_switch_tools.switch.phases import PHASES, Phase
+from bg_switch_tools.switch.reports import Report
 
-# The steps of the line, each with its title. The phases of an attempt are steps, and so are the
-# switch and the end.
-STEPS = (
-    ("scaling", "scaling"),
-    ("preAnalysis", "analysis"),
-    ("paused", "paused"),
-    ("sizing", "sizing"),
-    ("switch", "switch"),
-    ("postAnalysis", "analysis"),
-    ("stable", "stable"),
+# The steps of the line: the phases of an attempt, the switch and the end.
+NAMES: tuple[str, ...] = (
+    Phase.SCALING,
+    Phase.PRE_ANALYSIS,
+    Phase.PAUSED,
+    Phase.SIZING,
+    "switch",
+    Phase.POST_ANALYSIS,
+    "stable",
 )
-NAMES = [name for name, _ in STEPS]
+# Of the others, the title is the name.
+TITLES: Mapping[str, str] = {Phase.PRE_ANALYSIS: "analysis", Phase.POST_ANALYSIS: "analysis"}
+PROMOTE, PROMOTE_FULL, ABORT, RETRY = Promote(), Promote(is_full=True), Abort(), Retry()
+COMMANDS: tuple[Line, ...] = (PROMOTE, PROMOTE_FULL, ABORT, RETRY)  # of the page's buttons
 
 
 class Step(TypedDict):
@@ -30,33 +34,33 @@ class Step(TypedDict):
 
 class SeenPhases:
     """What was seen of the attempt that the reports show: its phases, and in which one it was
-    aborted, where that is known."""
+    aborted; None where that is not known."""
 
     def __init__(self) -> None:
         self.number = 0
         self.was_running = False
-        self.seen: list[str] = []
-        self.failed_at = ""
+        self.seen: list[Phase] = []
+        self.failed_at: Phase | None = None
 
     def take(self, report: Report) -> None:
         """Takes in the next report."""
         if report.newest.number != self.number or (report.is_running and not self.was_running):
-            self.seen, self.failed_at = [], ""
-        if report.phase == "aborted" and self.was_running and self.seen:
+            self.seen, self.failed_at = [], None
+        if report.phase is Phase.ABORTED and self.was_running and self.seen:
             self.failed_at = self.seen[-1]
         if report.is_running and report.phase not in self.seen:
             self.seen.append(report.phase)
         self.number, self.was_running = report.newest.number, report.is_running
 
 
-def steps(report: Report, seen: Collection[str], failed_at: str) -> list[Step]:
+def steps(report: Report, seen: Collection[Phase], failed_at: Phase | None) -> list[Step]:
     """The line of steps. `seen` are the phases of the attempt that were seen, and `failed_at` the
-    one in which it was aborted; empty where that is not known."""
-    if report.phase == "steady":
+    one in which it was aborted; None where that is not known."""
+    if report.phase is Phase.STEADY:
         reached, state = len(NAMES), ""
-    elif report.phase == "aborted":
+    elif report.phase is Phase.ABORTED:
         reached, state = (
-            NAMES.index(failed_at) if failed_at in NAMES else 0,
+            NAMES.index(failed_at) if failed_at else 0,
             "failed" if failed_at else "ahead",
         )
     else:
@@ -65,19 +69,19 @@ def steps(report: Report, seen: Collection[str], failed_at: str) -> list[Step]:
     return [
         {
             "name": name,
-            "title": title,
+            "title": TITLES.get(name, name),
             "state": before[name] if place < reached else state if place == reached else "ahead",
         }
-        for place, (name, title) in enumerate(STEPS)
+        for place, name in enumerate(NAMES)
     ]
 
 
-def possible_commands(report: Report | None) -> dict[str, bool]:
-    """Whether each command makes sense by this report. The switch has the last word."""
+def possible_commands(report: Report | None) -> dict[Line, bool]:
+    """Whether each of `COMMANDS` makes sense by this report. The switch has the last word."""
     is_running = report is not None and report.is_running
     return {
-        "promote": report is not None and report.phase == "paused",
-        "promote full": is_running,
-        "abort": is_running,
-        "retry": report is not None and report.phase == "aborted",
+        PROMOTE: report is not None and report.phase is Phase.PAUSED,
+        PROMOTE_FULL: is_running,
+        ABORT: is_running,
+        RETRY: report is not None and report.phase is Phase.ABORTED,
     }

@@ -6,23 +6,23 @@ import secrets
 
 from aiohttp import web
 
-from bg_switch_tools.controller.analysis_results import ResultsFile
+from bg_switch_tools.controller.state.analysis_results import ResultsFile
 from bg_switch_tools.dashboard import guard
 from bg_switch_tools.dashboard.board import Board
 from bg_switch_tools.dashboard.local_controller import LocalController
 from bg_switch_tools.dashboard.looks import take_fault, while_it_runs
 from bg_switch_tools.dashboard.page_commands import (
-    NewestHasChanged,
-    WrongPageCommand,
+    NewestChangedError,
+    PageCommandError,
     read_page_command,
     send_page_command,
 )
 from bg_switch_tools.dashboard.streams import Listeners
 from bg_switch_tools.dashboard.web_pages import FLEET, SWITCH, html_answer, page, refusal
 from bg_switch_tools.switch.access_log import Batch, Follower
-from bg_switch_tools.switch.connection import Unreachable, ask
-from bg_switch_tools.switch.lines import meaning_of, was_carried_out
-from bg_switch_tools.switch.reports import NoReport, Report, read_report
+from bg_switch_tools.switch.connection import UnreachableError, ask_report
+from bg_switch_tools.switch.replies import as_json
+from bg_switch_tools.switch.reports import Report, ReportError
 
 PAUSE = 0.5  # seconds between two reports
 SOON = 0.01  # seconds, while more of the log is there than was read
@@ -78,8 +78,8 @@ class SwitchPages:
         each revision that it names is in the report."""
         batch = self.follower.read() if self.follower else None
         try:
-            return batch, read_report(ask(self.board.control, b"report", ANSWER))
-        except (Unreachable, NoReport) as reason:
+            return batch, ask_report(self.board.control, ANSWER)
+        except (UnreachableError, ReportError) as reason:
             return batch, str(reason)
 
     def take(self, batch: Batch | None, seen: Report | None | str, is_counted: bool) -> None:
@@ -118,22 +118,15 @@ class SwitchPages:
             )
         try:
             command = read_page_command(await request.read())
-        except WrongPageCommand as wrong:
+        except PageCommandError as wrong:
             return refusal(400, str(wrong))
         try:
             reply = await asyncio.to_thread(send_page_command, self.board.control, command)
-        except NewestHasChanged as moved:
+        except NewestChangedError as moved:
             return refusal(409, str(moved))
-        except (Unreachable, NoReport) as reason:
+        except (UnreachableError, ReportError) as reason:
             return refusal(503, str(reason))
         self.board.note_line(command.line, reply)
         self.tell()  # at once: a page that is opened later finds the command in its state, and not in an update as well
         self.soon.set()
-        return web.json_response(
-            {
-                "line": command.line,
-                "reply": reply,
-                "carried_out": was_carried_out(reply),
-                "meaning": meaning_of(reply),
-            }
-        )
+        return web.json_response(as_json(command.line, reply))

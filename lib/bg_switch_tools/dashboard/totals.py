@@ -7,10 +7,13 @@ from typing import NamedTuple
 
 from bg_switch_tools.dashboard.traffic import CLASSES, NO_ANSWER, class_of
 from bg_switch_tools.switch.access_log import CLIENT_SERVICES, LogEntry
+from bg_switch_tools.switch.phases import Phase
 from bg_switch_tools.switch.reports import SERVICES, Report
 
 # The ends of the buckets of durations, in seconds.
 BUCKETS = (0.001, 0.0025, 0.005, 0.01, 0.025, 0.05, 0.1, 0.25, 0.5, 1.0, 2.5, 5.0, 10.0, 30.0, 60.0)
+# By the phase that an attempt has come to.
+REASONS = {Phase.ABORTED: ["RolloutAborted"], Phase.PAUSED: ["RolloutPaused"]}
 MOST_REVISIONS = (
     200  # names of revisions that are counted by; those that were seen first are dropped
 )
@@ -133,8 +136,9 @@ def reasons(before: Report, now: Report) -> list[str]:
         if before.selected[service] != now.selected[service]
     ]
     if before.phase != now.phase:
-        found += {"aborted": ["RolloutAborted"], "paused": ["RolloutPaused"]}.get(now.phase, [])
-        found += ["RolloutResumed"] if before.phase == "paused" and now.phase != "aborted" else []
+        is_resumed = before.phase is Phase.PAUSED and now.phase is not Phase.ABORTED
+        found += REASONS.get(now.phase, [])
+        found += ["RolloutResumed"] if is_resumed else []
     return found + (
         ["RolloutCompleted"] if before.selected["stable"] != now.selected["stable"] else []
     )

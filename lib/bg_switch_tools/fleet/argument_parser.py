@@ -3,8 +3,8 @@ import argparse
 
 from bg_switch_tools import VERSION
 from bg_switch_tools.fleet.commands import FLEET_COMMANDS
-from bg_switch_tools.fleet.conditions import CONDITION_SYNTAX
 from bg_switch_tools.fleet.exit_statuses import listed
+from bg_switch_tools.fleet.person.conditions import CONDITION_SYNTAX
 from bg_switch_tools.switch.installed_names import named
 
 DESCRIPTION = "Rolls one plan out over the machines of a fleet, which agree by etcd."

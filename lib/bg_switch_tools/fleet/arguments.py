@@ -1,10 +1,10 @@
 """The words of the commands of bin/fleet, and what each of them has to be."""
 import argparse
 
-from bg_switch_tools.fleet.conditions import CONDITION_SYNTAX
+from bg_switch_tools.fleet.person.conditions import CONDITION_SYNTAX
 from bg_switch_tools.switch.arguments import seconds_of
 from bg_switch_tools.switch.json_values import NAME
-from bg_switch_tools.switch.lines import REFUSALS
+from bg_switch_tools.switch.meanings import REFUSALS
 
 LONGEST_ID = 19  # digits of a revision of etcd
 # seconds: no line goes forward by a read that is older than a second

@@ -1,16 +1,16 @@
 """bin/fleet: the agent of a machine, and the commands of a person for a whole fleet."""
 from collections.abc import Sequence
 
-from bg_switch_tools.controller.plan_reader import WrongPlan
+from bg_switch_tools.controller.plan.plan_reader import PlanError
 from bg_switch_tools.fleet.argument_parser import parser
 from bg_switch_tools.fleet.commands import FLEET_COMMAND_NAMES, FLEET_COMMANDS, FleetRun, StoreOf
-from bg_switch_tools.fleet.etcd import EtcdStore
 from bg_switch_tools.fleet.exit_statuses import NO_ANSWER, REFUSED, WRONG_WORDS
-from bg_switch_tools.fleet.fleet_file import FleetFile, WrongFleetFile, read_whole_fleet_file
-from bg_switch_tools.fleet.person import Refused, tell
-from bg_switch_tools.fleet.person_plans import CannotRead
-from bg_switch_tools.fleet.record import Unreadable
-from bg_switch_tools.fleet.store import Store, StoreFault
+from bg_switch_tools.fleet.person.person import RefusedError, tell
+from bg_switch_tools.fleet.person.person_plans import UnreadableFileError
+from bg_switch_tools.fleet.plan.fleet_file import FleetFile, FleetFileError, read_whole_fleet_file
+from bg_switch_tools.fleet.record.record import UnreadableError
+from bg_switch_tools.fleet.store.etcd import EtcdStore
+from bg_switch_tools.fleet.store.store import Store, StoreError
 from bg_switch_tools.switch.frame import End, Frame, list_of
 
 
@@ -21,18 +21,18 @@ def etcd_of(file: FleetFile) -> Store:
 
 def problems_told(wrong: Exception) -> str:
     """The problems of a plan, a line each."""
-    problems = wrong.problems if isinstance(wrong, WrongPlan) else [str(wrong)]
+    problems = wrong.problems if isinstance(wrong, PlanError) else [str(wrong)]
     return list_of("the plan is wrong:", problems)
 
 
 FRAME = Frame(
     "fleet",
     {
-        Refused: End(REFUSED),
-        Unreadable: End(REFUSED),
-        WrongPlan: End(REFUSED, problems_told),
-        StoreFault: End(NO_ANSWER),
-        CannotRead: End(WRONG_WORDS),
+        RefusedError: End(REFUSED),
+        UnreadableError: End(REFUSED),
+        PlanError: End(REFUSED, problems_told),
+        StoreError: End(NO_ANSWER),
+        UnreadableFileError: End(WRONG_WORDS),
     },
 )
 
@@ -41,7 +41,7 @@ def fleet_file(path: str) -> FleetFile | None:
     """The fleet file at a path; None where it is none, which is told."""
     try:
         return read_whole_fleet_file(path)
-    except WrongFleetFile as wrong:
+    except FleetFileError as wrong:
         tell(list_of(f"{path} is not a fleet file:", wrong.problems))
         if path in FLEET_COMMAND_NAMES:
             tell(f"the fleet file stands before the command: fleet FLEET.json {path}")

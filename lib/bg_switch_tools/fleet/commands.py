@@ -7,8 +7,7 @@ import pathlib
 from collections.abc import Callable
 from typing import NamedTuple
 
-from bg_switch_tools.controller.plan_author import login_name
-from bg_switch_tools.fleet import person_members, person_orders, person_plans
+from bg_switch_tools.controller.state.plan_author import login_name
 from bg_switch_tools.fleet.arguments import (
     add_agent,
     add_json,
@@ -20,16 +19,17 @@ from bg_switch_tools.fleet.arguments import (
     add_wait,
     add_yes,
 )
-from bg_switch_tools.fleet.conditions import Conditions, FleetConditions, OrderIsCarriedOut
 from bg_switch_tools.fleet.exit_statuses import DONE, REFUSED
-from bg_switch_tools.fleet.fleet_file import FleetFile
-from bg_switch_tools.fleet.person import Person, tell
-from bg_switch_tools.fleet.record import ABORTED
-from bg_switch_tools.fleet.status import status_of
-from bg_switch_tools.fleet.status_text import draw, in_one_line
-from bg_switch_tools.fleet.store import Snapshot, Store, StoreFault
-from bg_switch_tools.fleet.wait import wait_for
-from bg_switch_tools.fleet.watch import watch
+from bg_switch_tools.fleet.person import person_members, person_orders, person_plans
+from bg_switch_tools.fleet.person.conditions import Conditions, FleetConditions, OrderIsCarriedOut
+from bg_switch_tools.fleet.person.person import Person, tell
+from bg_switch_tools.fleet.person.wait import wait_for
+from bg_switch_tools.fleet.person.watch import watch
+from bg_switch_tools.fleet.plan.fleet_file import FleetFile
+from bg_switch_tools.fleet.record.record import ABORTED
+from bg_switch_tools.fleet.record.status import status_of
+from bg_switch_tools.fleet.record.status_text import draw, in_one_line
+from bg_switch_tools.fleet.store.store import Snapshot, Store, StoreError
 from bg_switch_tools.switch.conditions import wrong_condition
 
 
@@ -66,7 +66,7 @@ class FleetRun:
 
     def agent(self) -> int:
         # here, since no other command needs its parts
-        from bg_switch_tools.fleet.agent_process import AgentArguments, run_agent
+        from bg_switch_tools.fleet.agent.agent_process import AgentArguments, run_agent
 
         arguments = AgentArguments(
             None if self.given.state is None else pathlib.Path(self.given.state),
@@ -136,7 +136,7 @@ class FleetRun:
         def see(snapshot: Snapshot) -> None:
             changes.tell(in_one_line(status_of(person.fleet, snapshot)))
 
-        def lose(fault: StoreFault) -> None:
+        def lose(fault: StoreError) -> None:
             changes.tell(str(fault))
 
         result = wait_for(person.store, conditions, self.given.timeout, see, lose)

@@ -22,7 +22,8 @@ from bg_switch_tools.switch.arguments import control_of, seconds_of
 from bg_switch_tools.switch.conditions import CONDITION_SYNTAX
 from bg_switch_tools.switch.frame import Frame
 from bg_switch_tools.switch.installed_names import named
-from bg_switch_tools.switch.lines import EVENT_WORDS, LINES, Line
+from bg_switch_tools.switch.line_help import LINES, LineHelp
+from bg_switch_tools.switch.lines import EVENT_WORDS, Deploy, Tick
 
 FRAME = Frame("operator", ENDS)
 COMMANDS = {command.name: command for command in (STATUS, WAIT, WATCH, SHUTDOWN)}
@@ -42,7 +43,7 @@ docs/LINES.md has each line and its replies.
 """
 
 
-def lines_and_commands() -> list[Line]:
+def lines_and_commands() -> list[LineHelp]:
     return [*LINES, *listed_commands(), HELP]
 
 
@@ -125,11 +126,11 @@ def fault_of(given: argparse.Namespace) -> str:
         return f"wait needs one condition or more, of {CONDITION_SYNTAX}"
     if given.timeout is not None and command != WAIT.name:
         return "--timeout is only for wait; --wait says how long to wait for an answer"
-    if given.idempotent and command not in ("", "deploy"):
+    if given.idempotent and command not in ("", Deploy.word):
         return "--idempotent is only for deploy"
     if given.within is not None and command not in EVENT_WORDS:
         return f"--within is only for a line that gives an event: {', '.join(EVENT_WORDS)}"
-    if given.yes and command not in ("", SHUTDOWN.name, "tick"):
+    if given.yes and command not in ("", SHUTDOWN.name, Tick.word):
         return "--yes is only for shutdown and tick"
     if given.plan is not None and command not in (WAIT.name, STATUS.name):
         return "--plan is only for wait and status"

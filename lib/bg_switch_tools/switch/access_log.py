@@ -54,7 +54,7 @@ TYPES = {**MEMBERS, **OPTIONAL}
 REQUIRED = operator.itemgetter(*MEMBERS)
 
 
-class NoLogEntry(ValueError):
+class LogEntryError(ValueError):
     """A line that is none of an access log."""
 
 
@@ -116,7 +116,7 @@ class LostLines(NamedTuple):
 def seconds_of(told: object) -> float:
     """The seconds from 1970 of a time as RFC 3339 has it."""
     if not isinstance(told, str):
-        raise NoLogEntry("its time is not a text")
+        raise LogEntryError("its time is not a text")
     return _seconds_of_text(told)
 
 
@@ -125,9 +125,9 @@ def _seconds_of_text(told: str) -> float:
     try:
         read = datetime.datetime.fromisoformat(told)
     except ValueError:
-        raise NoLogEntry("its time is not as in RFC 3339") from None
+        raise LogEntryError("its time is not as in RFC 3339") from None
     if read.tzinfo is None:
-        raise NoLogEntry("its time has no zone")
+        raise LogEntryError("its time has no zone")
     return read.timestamp()
 
 
@@ -168,15 +168,15 @@ def _numbers_of(types: tuple[type, ...]) -> Callable[[Sequence[object]], tuple[f
 
 
 def _values(told: Mapping[str, object]) -> tuple[object, ...]:
-    """The values of the members of a line. `NoLogEntry` where one is missing or wrong: what
+    """The values of the members of a line. `LogEntryError` where one is missing or wrong: what
     `_fault` says, found in less time."""
     try:
         values = (*REQUIRED(told), *map(told.get, OPTIONAL))
     except KeyError:
-        raise NoLogEntry(_fault(told)) from None
+        raise LogEntryError(_fault(told)) from None
     take = _numbers_of(tuple(map(type, values)))
     if take is None or min(numbers := take(values)) < 0 or max(numbers) >= GREATEST:
-        raise NoLogEntry(_fault(told))
+        raise LogEntryError(_fault(told))
     return values
 
 
@@ -186,14 +186,14 @@ def _object(line: bytes) -> dict[str, object]:
         text = line.strip(WHITESPACE).decode()
         told, end = DECODER.raw_decode(text)
     except (ValueError, RecursionError):
-        raise NoLogEntry("it is not JSON") from None
+        raise LogEntryError("it is not JSON") from None
     if end != len(text) or not isinstance(told, dict):
-        raise NoLogEntry("it is not an object")
+        raise LogEntryError("it is not an object")
     return told
 
 
 def read_line(line: bytes) -> LogEntry | LostLines:
-    """The values of a line, without its end. `NoLogEntry` where it is none of an access log;
+    """The values of a line, without its end. `LogEntryError` where it is none of an access log;
     further members are passed over."""
     told = _object(line)
     lost = told.get("lost")
@@ -201,7 +201,7 @@ def read_line(line: bytes) -> LogEntry | LostLines:
         return LostLines(None if told.get("time") is None else seconds_of(told["time"]), lost)
     entry = LogEntry._make((seconds_of(told.get("time")), *_values(told)))
     if entry.service not in CLIENT_SERVICES or entry.end not in ENDS:
-        raise NoLogEntry("its service or end is not one that a line can have")
+        raise LogEntryError("its service or end is not one that a line can have")
     return entry
 
 
@@ -230,7 +230,7 @@ def read_lines(lines: list[bytes], unreadable: int = 0) -> Batch:
     for line in lines:
         try:
             read = read_line(line)
-        except NoLogEntry:
+        except LogEntryError:
             unreadable += 1
             continue
         if isinstance(read, LogEntry):

@@ -1,9 +1,10 @@
-"""The line `before MILLISECONDS LINE`: the switch carries LINE out within a time limit of the boot clock,
-or never, however long the sender or the switch was stopped meanwhile."""
+"""Time limits of lines: the switch carries LINE of `before MILLISECONDS LINE` out within a time limit of
+the boot clock, or never, however long the sender or the switch was stopped meanwhile."""
 import time
 
-WORD = "before"
-TOO_LATE = "refused TooLate"
+from bg_switch_tools.switch.lines import Before, Event
+
+WORD = Before.word
 
 
 def boot_clock() -> float:
@@ -12,13 +13,11 @@ def boot_clock() -> float:
     return time.clock_gettime(time.CLOCK_BOOTTIME)
 
 
-def before(limit: float, line: str) -> str:
-    """This line with a time limit, in seconds of the boot clock, which is rounded down to a
-    millisecond."""
-    return f"{WORD} {max(int(limit * 1000), 0)} {line}"
+def milliseconds_of(limit: float) -> int:
+    """A time limit in seconds of the boot clock as a line has it, rounded down."""
+    return max(int(limit * 1000), 0)
 
 
-def without_time_limit(line: str) -> str:
-    """The line that a line `before` carries out; any other line as it is."""
-    words = line.split(" ", 2)
-    return words[2] if words[0] == WORD and len(words) == 3 else line
+def before(limit: float, event: Event) -> Before:
+    """This line with a time limit, in seconds of the boot clock."""
+    return Before(milliseconds_of(limit), event)

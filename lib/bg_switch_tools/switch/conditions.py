@@ -8,7 +8,8 @@ from collections.abc import Callable, Sequence
 from typing import NamedTuple, Protocol
 
 from bg_switch_tools.switch.json_values import NAME
-from bg_switch_tools.switch.reports import PHASES, RUNNING, SERVICES, Report
+from bg_switch_tools.switch.phases import PHASES, RUNNING, Phase
+from bg_switch_tools.switch.reports import SERVICES, Report
 
 CONDITION_SYNTAX = "phase=PHASE, active=NAME, preview=NAME, stable=NAME, newest=NAME, open(NAME)=N, scaled-down=NAME, settled"
 
@@ -47,7 +48,7 @@ class Condition(Protocol):
         """Whether it holds by this report, or can come to hold."""
 
 
-class WrongCondition(ValueError):
+class ConditionError(ValueError):
     """A text that is no condition. The message says what is needed."""
 
 
@@ -59,7 +60,7 @@ def _at_rest(report: Report) -> str:
     """Why nothing moves any more, while no attempt runs."""
     return (
         f"the attempt of {report.newest.name} was aborted"
-        if report.phase == "aborted"
+        if report.phase is Phase.ABORTED
         else "no attempt runs"
     )
 
@@ -68,14 +69,14 @@ def _at_rest(report: Report) -> str:
 class PhaseIs:
     """The attempt that was the newest at the wait's begin is in this phase, or has ended in it."""
 
-    phase: str
+    phase: Phase
 
     def outlook(self, report: Report, seen: SeenRevisions) -> Outlook:
         if report.newest.number != seen.newest:
             return Outlook(
                 False, f"{report.newest.name} took the place of the revision that it waits for"
             )
-        if report.phase == self.phase:
+        if report.phase is self.phase:
             return HOLDS
         if not report.is_running:
             return Outlook(False, _at_rest(report))
@@ -156,7 +157,7 @@ class Settled:
 
 
 def read_condition(text: str) -> Condition:
-    """The condition of a word. `WrongCondition` where it is none."""
+    """The condition of a word. `ConditionError` where it is none."""
     if text == "settled":
         return Settled()
     key, sign, value = text.partition("=")
@@ -165,22 +166,22 @@ def read_condition(text: str) -> Condition:
             near = "".join(
                 f"; the nearest is {phase}" for phase in difflib.get_close_matches(value, PHASES, 1)
             )
-            raise WrongCondition(
+            raise ConditionError(
                 f"{text}: a phase is needed after phase=, one of {', '.join(PHASES)}{near}"
             )
-        return PhaseIs(value)
+        return PhaseIs(Phase(value))
     opened = re.fullmatch(r"open\((.*)\)", key)
     name = opened[1] if opened else value
     if not sign or not (opened or key in (*SERVICES, "scaled-down")):
-        raise WrongCondition(f"{text}: a condition is needed, one of {CONDITION_SYNTAX}")
+        raise ConditionError(f"{text}: a condition is needed, one of {CONDITION_SYNTAX}")
     if not NAME.fullmatch(name):
-        raise WrongCondition(f"{text}: the name of a revision is needed, such as web-v2")
+        raise ConditionError(f"{text}: the name of a revision is needed, such as web-v2")
     if key == "scaled-down":
         return ScaledDown(name)
     if not opened:
         return ServiceIs(key, name)
     if not re.fullmatch(r"[0-9]{1,9}", value):
-        raise WrongCondition(f"{text}: a number of open requests is needed after open({name})=")
+        raise ConditionError(f"{text}: a number of open requests is needed after open({name})=")
     return OpenAre(name, int(value))
 
 
@@ -188,7 +189,7 @@ class Conditions:
     """Conditions that are to hold at one time."""
 
     def __init__(self, texts: Sequence[str]) -> None:
-        """`WrongCondition` where a text is none."""
+        """`ConditionError` where a text is none."""
         self.texts = list(texts)
         self.conditions = [read_condition(text) for text in texts]
         # whose deploy is awaited
@@ -230,7 +231,7 @@ def wrong_condition(
     def fault(given: argparse.Namespace) -> str:
         try:
             conditions(given.conditions)
-        except WrongCondition as wrong:
+        except ConditionError as wrong:
             return str(wrong)
         return ""
 

@@ -10,23 +10,27 @@ from collections.abc import Sequence
 from types import TracebackType
 
 from bg_switch_tools.switch.control import HOST, Control, connected, place_of
-from bg_switch_tools.switch.lines import was_carried_out
+from bg_switch_tools.switch.lines import AskReport, Line, Quit, is_quit, is_report
+from bg_switch_tools.switch.replies import (
+    NOT_ALLOWED,
+    Reply,
+    ReplyError,
+    ReportBegin,
+    read_reply,
+    reply_in,
+)
+from bg_switch_tools.switch.reports import END, Report, read_report
 
 PAUSE = 0.1  # seconds between two tries to connect
 SHORTEST = 0.001  # seconds; a socket takes a timeout of 0 for "do not block"
 LONGEST_LINE = 65536  # bytes without a line end, above which the peer is not a switch
-NOT_ALLOWED = "refused NotAllowed"  # what a connection of a user is sent whose lines are not taken, before it is closed
+# what a connection of a user is sent whose lines are not taken, before it is closed
+USER_REFUSED = str(NOT_ALLOWED)
 LONGEST_REPORT = 80  # lines; a report has 7, and one for each of at most 64 revisions
 
 
-class Unreachable(Exception):
+class UnreachableError(Exception):
     """The switch did not answer in time. The text says what happened."""
-
-
-def words_of(line: bytes) -> list[bytes]:
-    """The words of a line, as the switch splits it: spaces alone part words, and a CR at the end
-    does not count."""
-    return [word for word in line.removesuffix(b"\r").split(b" ") if word]
 
 
 class Connection:
@@ -34,8 +38,8 @@ class Connection:
     which `allow` sets."""
 
     def __init__(self, control: Control, wait: float) -> None:
-        """Connects within `wait` seconds, since the switch may be starting. `Unreachable` where
-        that fails."""
+        """Connects within `wait` seconds, since the switch may be starting. `UnreachableError`
+        where that fails."""
         self.control = control
         self.place = place_of(control)
         self.wait = wait
@@ -74,16 +78,16 @@ class Connection:
             try:
                 return connected(self.control, self._left())
             except TimeoutError:
-                raise Unreachable(
+                raise UnreachableError(
                     f"{self.place} takes no connection: others wait there already"
                 ) from None
             except PermissionError as error:
-                raise Unreachable(
+                raise UnreachableError(
                     f"{self.place} can't be opened by this user: {error.strerror}"
                 ) from None
             except OSError as error:
                 if time.monotonic() + PAUSE >= self.deadline:
-                    raise Unreachable(self._not_reached(error)) from None
+                    raise UnreachableError(self._not_reached(error)) from None
                 time.sleep(PAUSE)
 
     def _not_reached(self, error: OSError) -> str:
@@ -93,12 +97,12 @@ class Connection:
         return f"{place} can't be reached: {error.strerror}"
 
     def send(self, *lines: bytes) -> None:
-        """Sends lines in one piece. `Unreachable` where the switch takes them no more."""
+        """Sends lines in one piece. `UnreachableError` where the switch takes them no more."""
         self.socket.settimeout(self._left())
         try:
             self.socket.sendall(b"".join(line + b"\n" for line in lines))
         except OSError as error:
-            raise Unreachable(
+            raise UnreachableError(
                 f"{self.place} takes no line: {error.strerror or 'it is too slow'}"
             ) from None
 
@@ -113,45 +117,58 @@ class Connection:
         except ConnectionError:
             return b""
 
-    def next_line(self) -> str:
-        """The next line of a reply. `Unreachable` where none comes in time, or the connection has
-        ended."""
+    def receive_line(self) -> str:
+        """The next line of a reply. `UnreachableError` where none comes in time, or the connection
+        has ended."""
         while b"\n" not in self.unread:
             try:
                 piece = self.receive()
             except TimeoutError:
-                raise Unreachable(
+                raise UnreachableError(
                     f"{self.place} gave no answer in time: the switch is stopped or busy, or takes no "
                     "lines any more"
                 ) from None
             if not piece:
-                raise Unreachable("the switch has ended the connection")
+                raise UnreachableError("the switch has ended the connection")
             self.unread += piece
             if len(self.unread) > LONGEST_LINE and b"\n" not in self.unread:
                 raise self._no_switch()
         line, self.unread = self.unread.split(b"\n", 1)
         return line.decode("ascii", "replace")
 
-    def _not_allowed(self) -> Unreachable:
-        return Unreachable(
+    def _not_allowed(self) -> UnreachableError:
+        return UnreachableError(
             f"the switch at {self.place} takes no lines of this user: its BG_SWITCH_OPERATORS lists others"
         )
 
-    def _no_switch(self) -> Unreachable:
-        return Unreachable(f"what answers at {self.place} is not a switch")
+    def _no_switch(self) -> UnreachableError:
+        return UnreachableError(f"what answers at {self.place} is not a switch")
 
     def reply_to(self, line: bytes) -> list[str]:
         """The lines of the reply to a line that was sent. A report has several; every other reply
-        has one. `Unreachable` where the switch takes no lines of this user."""
-        replies = [self.next_line()]
-        if replies[0] == NOT_ALLOWED:
+        has one. `UnreachableError` where the switch takes no lines of this user."""
+        first = self.receive_line()
+        if first == USER_REFUSED:
             raise self._not_allowed()
-        if words_of(line) == [b"report"] and was_carried_out(replies[0]):
-            while replies[-1] != "end":
-                if not replies[0].startswith("moment ") or len(replies) > LONGEST_REPORT:
-                    raise self._no_switch()
-                replies.append(self.next_line())
-        return replies
+        return self._report_from(first) if is_report(line) else [first]
+
+    def _report_from(self, first: str) -> list[str]:
+        """The lines of a report that begins with this one; this one alone where it is a refusal."""
+        lines, begin = [first], reply_in(first)
+        if begin and not begin.was_carried_out:
+            return lines
+        while lines[-1] != END:
+            if not isinstance(begin, ReportBegin) or len(lines) > LONGEST_REPORT:
+                raise self._no_switch()
+            lines.append(self.receive_line())
+        return lines
+
+    def read(self, text: str) -> Reply:
+        """The reply of its first line. `UnreachableError` where it is none."""
+        try:
+            return read_reply(text)
+        except ReplyError:
+            raise self._no_switch() from None
 
     def answer(self, line: bytes) -> list[str]:
         """Sends a line, and gives the lines of its reply."""
@@ -170,17 +187,29 @@ class Connection:
         self.allow(self.wait)
         return self.answer(line.encode("ascii"))[0]
 
+    def carry_out(self, line: Line) -> Reply:
+        """Sends a line, and gives its reply."""
+        return self.read(self.answer(line.encoded())[0])
+
+    def carry_out_all(self, lines: Sequence[Line]) -> list[Reply]:
+        """Sends lines in one piece, as `answers`, and gives the reply to each."""
+        return [self.read(reply[0]) for reply in self.answers([line.encoded() for line in lines])]
+
+    def ask_report(self) -> Report | None:
+        """The report; None where no book is open. `ReportError` where what comes is none."""
+        return read_report(self.answer(AskReport().encoded()))
+
     def quit(self) -> None:
         """Sends `quit`, which has no reply, and waits up to the deadline for the switch to end the
-        connection. `Unreachable` where it takes no lines of this user."""
-        self.send(b"quit")
+        connection. `UnreachableError` where it takes no lines of this user."""
+        self.send(Quit().encoded())
         got = b""
         try:
             while piece := self.receive():
                 got = (got + piece)[:LONGEST_LINE]
         except TimeoutError:
             pass
-        if got.startswith(NOT_ALLOWED.encode("ascii")):
+        if got.startswith(USER_REFUSED.encode("ascii")):
             raise self._not_allowed()
 
 
@@ -188,14 +217,19 @@ def ask(control: Control, line: bytes, wait: float) -> list[str]:
     """Sends a line on a connection of its own, and gives the lines of its reply; none for `quit`.
 
     The line is sent only once the switch has answered a `report` on this connection. So no line is
-    carried out later that this call gave up. `Unreachable` where the switch does not answer within
-    `wait` seconds.
-    """
+    carried out later that this call gave up. `UnreachableError` where the switch does not answer
+    within `wait` seconds."""
     with Connection(control, wait) as connection:
-        state = connection.answer(b"report")
-        if words_of(line) == [b"report"]:
+        state = connection.answer(AskReport().encoded())
+        if is_report(line):
             return state
         return sent(connection, line, wait)
+
+
+def ask_report(control: Control, wait: float) -> Report | None:
+    """The report, on a connection of its own; None where no book is open. `ReportError` where what
+    answers is no switch."""
+    return read_report(ask(control, AskReport().encoded(), wait))
 
 
 def sent(connection: Connection, line: bytes, wait: float) -> list[str]:
@@ -203,11 +237,11 @@ def sent(connection: Connection, line: bytes, wait: float) -> list[str]:
     `quit`."""
     connection.allow(max(wait, 1))
     try:
-        if words_of(line) == [b"quit"]:
+        if is_quit(line):
             connection.quit()
             return []
         return connection.answer(line)
-    except Unreachable:
-        raise Unreachable(
+    except UnreachableError:
+        raise UnreachableError(
             "the line was sent and no reply came: a report tells whether it was carried out"
         ) from None

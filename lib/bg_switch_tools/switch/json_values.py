@@ -10,7 +10,7 @@ from collections.abc import Callable, Iterable, Sequence
 from typing import TypeVar
 
 from bg_switch_tools.switch.control import ABSOLUTE, LONGEST_PATH, Control
-from bg_switch_tools.switch.lines import REFUSALS
+from bg_switch_tools.switch.meanings import REFUSALS
 
 LONGEST_TOLD = 60  # characters of a value that a problem repeats
 NAME = re.compile(r"[a-z0-9]([a-z0-9-]{0,61}[a-z0-9])?")

@@ -1,139 +1,323 @@
-"""The lines that an operator can send, and what each refusal and fault means. docs/LINES.md says
-the same at length."""
-from typing import NamedTuple
+"""The lines that an operator can send, as values. They are read and printed here alone.
+
+docs/LINES.md has each of them. `enter` and `leave` are lines of a script, which no tool sends.
+"""
+import abc
+import dataclasses
+import enum
+from collections.abc import Mapping, Sequence
+from typing import ClassVar, Self, TypeVar
+
+from bg_switch_tools.switch.meanings import FAULTS
+
+LONGEST_LINE = 4096  # bytes
+LONGEST_NUMBER = 20  # digits
+PRINTABLE = range(0x20, 0x7F)
+Choice = TypeVar("Choice", bound=enum.StrEnum)
 
 
-class Line(NamedTuple):
-    """A line: its form, what it does, and an example."""
+class LineError(ValueError):
+    """A text that is no line. `fault` names what is wrong, as the switch names it."""
 
-    syntax: str
-    meaning: str
-    example: str
+    def __init__(self, fault: str) -> None:
+        super().__init__(FAULTS[fault])
+        self.fault = fault
 
 
-LINES = (
-    Line(
-        "open NAME PORT..",
-        "opens the book with revision 1, which has one port for each replica",
-        "open web-v1 9101 9102",
-    ),
-    Line(
-        "deploy NAME PORT..",
-        "deploys a new revision, or the one of this name again (undo)",
-        "deploy web-v2 9201 9202",
-    ),
-    Line(
-        "available R N",
-        "says that N endpoints of revision R can take requests: the first N, or the first N that are not down",
-        "available 2 2",
-    ),
-    Line("tick M", "says that the time is M seconds from the start", "tick 30"),
-    Line(
-        "verdict pre RESULT",
-        "ends the analysis before the switch: successful, failed or error",
-        "verdict pre successful",
-    ),
-    Line(
-        "verdict post RESULT",
-        "ends the analysis after the switch: successful, failed or error",
-        "verdict post failed",
-    ),
-    Line("promote", "ends the pause of the attempt", "promote"),
-    Line("promote full", "skips the analyses and pauses of the attempt", "promote full"),
-    Line("abort", "ends the attempt: both services select the stable revision again", "abort"),
-    Line("retry", "begins the attempt of the newest revision again", "retry"),
-    Line(
-        "before MILLISECONDS LINE",
-        "carries out LINE, which gives an event, if the boot clock is below MILLISECONDS",
-        "before 81234567 promote",
-    ),
-    Line(
-        "down PORT..",
-        "names all ports that are down now, in place of those before; without a port, none is down",
-        "down 9101",
-    ),
-    Line("report", "shows the state", "report"),
-    Line("compact", "drops the entries of closed requests from the history", "compact"),
-    Line("quit", "shuts the switch down: no operator is answered any more", "quit"),
+class AnalysisKind(enum.StrEnum):
+    """Which analysis of an attempt: the one before the switch, or the one after it."""
+
+    PRE = "pre"
+    POST = "post"
+
+
+class VerdictResult(enum.StrEnum):
+    """What an analysis comes to."""
+
+    SUCCESSFUL = "successful"
+    FAILED = "failed"
+    ERROR = "error"
+
+
+class Line(abc.ABC):
+    """A line. Its text is what the switch reads."""
+
+    word: ClassVar[str]  # the first one
+
+    @abc.abstractmethod
+    def arguments(self) -> Sequence[object]:
+        """What follows the first word."""
+
+    @classmethod
+    @abc.abstractmethod
+    def read(cls, words: Sequence[str]) -> Self:
+        """The line of the words that follow the first one. `LineError` where they are wrong."""
+
+    def __str__(self) -> str:
+        return " ".join(map(str, (self.word, *self.arguments())))
+
+    def encoded(self) -> bytes:
+        """As it is sent, without its end."""
+        return str(self).encode("utf-8", "surrogateescape")
+
+
+class Event(Line):
+    """A line that gives an event: it may have a time limit."""
+
+
+def _check_count(is_right: bool) -> None:
+    if not is_right:
+        raise LineError("WrongCount")
+
+
+def _number(word: str) -> int:
+    """A number. Whether it is too large for its place, the switch alone says."""
+    if not (word.isdigit() and len(word) <= LONGEST_NUMBER):
+        raise LineError("BadNumber")
+    return int(word)
+
+
+def _one_of(choices: type[Choice], word: str) -> Choice:
+    if word not in tuple(choices):
+        raise LineError("BadWord")
+    return choices(word)
+
+
+@dataclasses.dataclass(frozen=True)
+class _WithRevision(Line):
+    """A line with a revision: its name, and a port for each replica. Two are equal if they also have
+    one class, as all dataclasses are."""
+
+    name: str
+    ports: tuple[int, ...]
+
+    def arguments(self) -> Sequence[object]:
+        return (self.name, *self.ports)
+
+    @classmethod
+    def read(cls, words: Sequence[str]) -> Self:
+        _check_count(len(words) >= 2)
+        return cls(words[0], tuple(map(_number, words[1:])))
+
+
+@dataclasses.dataclass(frozen=True)
+class _WordAlone(Line):
+    """A line of one word."""
+
+    def arguments(self) -> Sequence[object]:
+        return ()
+
+    @classmethod
+    def read(cls, words: Sequence[str]) -> Self:
+        _check_count(not words)
+        return cls()
+
+
+class Open(_WithRevision):
+    """Opens the book with revision 1."""
+
+    word = "open"
+
+
+@dataclasses.dataclass(frozen=True)
+class Available(Event):
+    """So many endpoints of the revision of this number can take requests."""
+
+    revision: int
+    count: int
+    word = "available"
+
+    def arguments(self) -> Sequence[object]:
+        return (self.revision, self.count)
+
+    @classmethod
+    def read(cls, words: Sequence[str]) -> Self:
+        _check_count(len(words) == 2)
+        return cls(_number(words[0]), _number(words[1]))
+
+
+class Deploy(_WithRevision, Event):
+    """Deploys a new revision, or the one of this name again."""
+
+    word = "deploy"
+
+
+@dataclasses.dataclass(frozen=True)
+class Tick(Event):
+    """The time is so many seconds from the start."""
+
+    moment: int
+    word = "tick"
+
+    def arguments(self) -> Sequence[object]:
+        return (self.moment,)
+
+    @classmethod
+    def read(cls, words: Sequence[str]) -> Self:
+        _check_count(len(words) == 1)
+        return cls(_number(words[0]))
+
+
+@dataclasses.dataclass(frozen=True)
+class Verdict(Event):
+    """An analysis has come to this result."""
+
+    analysis: AnalysisKind
+    result: VerdictResult
+    word = "verdict"
+
+    def arguments(self) -> Sequence[object]:
+        return (self.analysis, self.result)
+
+    @classmethod
+    def read(cls, words: Sequence[str]) -> Self:
+        _check_count(len(words) == 2)
+        return cls(_one_of(AnalysisKind, words[0]), _one_of(VerdictResult, words[1]))
+
+
+@dataclasses.dataclass(frozen=True)
+class Promote(Event):
+    """Ends the pause; in full, all analyses and pauses of the attempt."""
+
+    is_full: bool = False
+    word = "promote"
+    FULL: ClassVar[str] = "full"
+
+    def arguments(self) -> Sequence[object]:
+        return (self.FULL,) if self.is_full else ()
+
+    @classmethod
+    def read(cls, words: Sequence[str]) -> Self:
+        _check_count(len(words) <= 1)
+        if list(words) not in ([], [cls.FULL]):
+            raise LineError("BadWord")
+        return cls(bool(words))
+
+
+class Abort(_WordAlone, Event):
+    """Ends the attempt."""
+
+    word = "abort"
+
+
+class Retry(_WordAlone, Event):
+    """Begins the attempt of the newest revision again."""
+
+    word = "retry"
+
+
+@dataclasses.dataclass(frozen=True)
+class Before(Line):
+    """A line with a time limit: milliseconds of the boot clock."""
+
+    milliseconds: int
+    event: Event
+    word = "before"
+
+    def arguments(self) -> Sequence[object]:
+        return (self.milliseconds, self.event)
+
+    @classmethod
+    def read(cls, words: Sequence[str]) -> Self:
+        _check_count(len(words) >= 2)
+        milliseconds = _number(words[0])
+        event = None if words[1] == cls.word else _read(words[1:])
+        if not isinstance(event, Event):
+            raise LineError("BadWord")
+        return cls(milliseconds, event)
+
+
+@dataclasses.dataclass(frozen=True)
+class Down(Line):
+    """All ports that are down now."""
+
+    ports: tuple[int, ...]
+    word = "down"
+
+    def arguments(self) -> Sequence[object]:
+        return self.ports
+
+    @classmethod
+    def read(cls, words: Sequence[str]) -> Self:
+        return cls(tuple(map(_number, words)))
+
+
+class AskReport(_WordAlone):
+    """Asks for the state."""
+
+    word = "report"
+
+
+class Compact(_WordAlone):
+    """Drops the entries of closed requests from the history."""
+
+    word = "compact"
+
+
+class Quit(_WordAlone):
+    """Shuts the switch down."""
+
+    word = "quit"
+
+
+KINDS: tuple[type[Line], ...] = (
+    *(Open, Available, Deploy, Tick, Verdict, Promote, Abort, Retry),
+    *(Before, Down, AskReport, Compact, Quit),
 )
-
-# The first words of the lines that give an event: those that may have a time limit.
-EVENT_WORDS = ("available", "deploy", "tick", "verdict", "promote", "abort", "retry")
-LINE_WORDS = tuple(dict.fromkeys(line.syntax.split()[0] for line in LINES))  # their first words
-
-# The sentences of the switch itself: those of its error types. tests/test_sentences.py compares
-# them.
-REFUSALS = {
-    "Aborted": "the last attempt was aborted",
-    "AlreadyAborted": "the last attempt was already aborted",
-    "AlreadyFull": "this attempt was already promoted in full",
-    "AlreadyOpen": "a book is open already",
-    "BadLimits": "a limit is above the usual one",
-    "BadName": "a name is 1 to 63 lower-case letters, digits and hyphens, with no hyphen at its ends",
-    "BadPorts": "a revision has one port for each replica, all distinct and none of them 0",
-    "BadSeats": "a book has no such number of seats",
-    "HistoryFull": "the history has no room left",
-    "MomentBack": "the moment lies before the book's",
-    "MomentTooLarge": "a moment is at most 2^53 seconds",
-    "MoreThanDesired": "more endpoints are reported than the revision wants",
-    "NoAnalysis": "this analysis is not awaited",
-    "NoEndpoints": "the selected revision has no available endpoint",
-    "NoPreview": "no preview service is set",
-    "NoSuchRevision": "no revision has this number",
-    "NoSuchSeat": "no seat has this place",
-    "NotAborted": "the last attempt was not aborted",
-    "NotHere": "requests enter and leave elsewhere, by the workers",
-    "NotOpen": "the line asks for an open book, and none is open",
-    "NotPaused": "the rollout is not paused",
-    "NothingToAbort": "there is no attempt to abort",
-    "NothingToPromote": "there is no attempt to promote",
-    "NumbersSpent": "every request number has been given",
-    "OutOfMemory": "out of memory",
-    "PortsDiffer": "a revision of this name already has other ports",
-    "SameTemplate": "the newest revision already has this name and these ports",
-    "SeatBusy": "the seat holds a request, so none can enter at it",
-    "SeatIdle": "the seat holds no request, so none can leave it",
-    "TooLate": "the boot clock is not below the time limit of the line",
-    "TooManyRevisions": "64 revisions exist already",
-}
-
-FAULTS = {
-    "BadNumber": "a word of the line is not a number that its place allows",
-    "BadWord": "a word of the line is none that its place allows",
-    "Empty": "the line has no word",
-    "NotAscii": "the line has a byte that is no printable ASCII character",
-    "OutOfMemory": "out of memory",
-    "TooLong": "the line has more than 4,096 bytes",
-    "UnknownWord": "the first word of the line is none that is known",
-    "WrongCount": "the line has too few or too many words",
-}
-
-# What an operator can do next, or may rely on.
-HINTS = {
-    "Aborted": "retry begins it again",
-    "HistoryFull": "upgrade to a second switch (docs/OPERATING.md)",
-    "NotOpen": "open NAME PORT.. opens one",
-    "OutOfMemory": "nothing has changed",
-    "PortsDiffer": "deploy these ports by a new name",
-    "TooLate": "nothing has changed",
-    "UnknownWord": "help lists the lines",
-}
+BY_WORD: Mapping[str, type[Line]] = {kind.word: kind for kind in KINDS}
+EVENT_WORDS = tuple(kind.word for kind in KINDS if issubclass(kind, Event))
 
 
-def meaning_of(reply: str) -> str | None:
-    """What a line `refused NAME` or `fault NAME` means, and a hint where there is one; None for any
-    other line."""
-    kind, _, name = reply.partition(" ")
-    sentence = {"refused": REFUSALS, "fault": FAULTS}.get(kind, {}).get(name)
-    return f"{sentence}; {HINTS[name]}" if sentence and name in HINTS else sentence
+def words_of(text: bytes) -> list[bytes]:
+    """The words of a text, as the switch splits it: spaces alone part words, and a CR at the end
+    does not count."""
+    return [word for word in text.removesuffix(b"\r").split(b" ") if word]
 
 
-def was_carried_out(reply: str) -> bool:
-    """Whether the line was carried out that this is the first line of the reply to."""
-    return not reply.startswith(("refused ", "fault "))
+def _read(words: Sequence[str]) -> Line:
+    if not words:
+        raise LineError("Empty")
+    if words[0] not in BY_WORD:
+        raise LineError("UnknownWord")
+    return BY_WORD[words[0]].read(words[1:])
 
 
-def with_meaning(reply: str) -> str:
-    """The line of a reply, and after it what it means where it is a refusal or a fault."""
-    meaning = meaning_of(reply)
-    return f"{reply}: {meaning}" if meaning else reply
+def read_line(text: bytes) -> Line:
+    """The line of a text without its LF, as the switch reads it. `LineError` where it is none."""
+    if len(text.removesuffix(b"\r")) > LONGEST_LINE:
+        raise LineError("TooLong")
+    if not all(byte in PRINTABLE for byte in text.removesuffix(b"\r")):
+        raise LineError("NotAscii")
+    return _read([word.decode("ascii") for word in words_of(text)])
+
+
+def line_in(text: bytes) -> Line | None:
+    """The same; None where it is none."""
+    try:
+        return read_line(text)
+    except LineError:
+        return None
+
+
+def without_time_limit(line: Line) -> Line:
+    """The line that a line `before` carries out; any other line as it is."""
+    return line.event if isinstance(line, Before) else line
+
+
+def is_report(text: bytes) -> bool:
+    """Whether a text is the line `report`. Its words tell, so nothing else of a line is read."""
+    return words_of(text) == [AskReport.word.encode("ascii")]
+
+
+def is_quit(text: bytes) -> bool:
+    """Whether a text is the line `quit`."""
+    return words_of(text) == [Quit.word.encode("ascii")]
+
+
+def in_time(milliseconds: int, text: bytes) -> bytes:
+    """What a person wrote, with a time limit where it begins as an event does. What is wrong with
+    it, the switch says."""
+    words = words_of(text)
+    if not words or words[0].decode("latin-1") not in EVENT_WORDS:
+        return text
+    return f"{Before.word} {milliseconds} ".encode("ascii") + text

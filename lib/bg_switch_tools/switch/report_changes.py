@@ -1,6 +1,9 @@
 """What has changed between two reports."""
+import enum
 from collections.abc import Iterator
+from typing import NamedTuple
 
+from bg_switch_tools.switch.phases import Phase
 from bg_switch_tools.switch.reports import SERVICES, Report, Revision
 
 
@@ -35,28 +38,55 @@ def is_another_book(before: Report, now: Report) -> bool:
     )
 
 
-def changes(before: Report | None, now: Report | None) -> list[str]:
-    """What has moved from where to where, a text each. The moment and numbers of open requests
-    alone are no change."""
+class ChangeKind(enum.Enum):
+    """Which changes clients notice most: an abort, and a switch of the active service."""
+
+    ABORTED = enum.auto()
+    ACTIVE_SWITCHED = enum.auto()
+    OTHER = enum.auto()
+
+
+class Change(NamedTuple):
+    """What has moved from where to where."""
+
+    text: str
+    kind: ChangeKind = ChangeKind.OTHER
+
+
+GONE = Change("the book is gone: the switch was started again")
+OPENED = Change("the book was opened")
+
+
+def changes_with_kinds(before: Report | None, now: Report | None) -> list[Change]:
+    """The changes. The moment and numbers of open requests alone are none."""
     if now is None:
-        return [] if before is None else ["the book is gone: the switch was started again"]
+        return [] if before is None else [GONE]
     if before is None:
-        return ["the book was opened"]
+        return [OPENED]
     if is_another_book(before, now):
-        return ["the book is gone: the switch was started again", "the book was opened"]
-    found = [f"phase: {before.phase} -> {now.phase}"] if before.phase != now.phase else []
+        return [GONE, OPENED]
+    return list(_changes_of_book(before, now))
+
+
+def _changes_of_book(before: Report, now: Report) -> Iterator[Change]:
+    if before.phase is not now.phase:
+        kind = ChangeKind.ABORTED if now.phase is Phase.ABORTED else ChangeKind.OTHER
+        yield Change(f"phase: {before.phase} -> {now.phase}", kind)
     for service in SERVICES:
-        if before.selected[service] != now.selected[service]:
-            found.append(
-                f"{service}: {before.title(before.selected[service])} -> {now.title(now.selected[service])}"
-            )
+        was, is_now = before.selected[service], now.selected[service]
+        if was != is_now:
+            kind = ChangeKind.ACTIVE_SWITCHED if service == "active" else ChangeKind.OTHER
+            yield Change(f"{service}: {before.title(was)} -> {now.title(is_now)}", kind)
     for number, revision in now.revisions.items():
         if number not in before.revisions:
-            found.append(f"{revision.title()}: deployed, desired {revision.desired}")
+            yield Change(f"{revision.title()}: deployed, desired {revision.desired}")
         else:
-            found += _revision_changes(before.revisions[number], revision)
-    return found + [
-        f"{gone.title()}: removed"
-        for number, gone in before.revisions.items()
-        if number not in now.revisions
-    ]
+            yield from map(Change, _revision_changes(before.revisions[number], revision))
+    for number, gone in before.revisions.items():
+        if number not in now.revisions:
+            yield Change(f"{gone.title()}: removed")
+
+
+def changes(before: Report | None, now: Report | None) -> list[str]:
+    """The texts of the changes."""
+    return [change.text for change in changes_with_kinds(before, now)]

@@ -1,14 +1,15 @@
 """A report as a table, and in one line."""
+from bg_switch_tools.switch.phases import Phase
 from bg_switch_tools.switch.reports import Report, Revision
 
 WAITS_FOR = {
-    "steady": "no attempt runs",
-    "scaling": "waits for endpoints of the newest revision",
-    "preAnalysis": "waits for: verdict pre RESULT",
-    "paused": "waits for: promote",
-    "sizing": "waits for all endpoints of the newest revision",
-    "postAnalysis": "waits for: verdict post RESULT",
-    "aborted": "back at the stable revision; retry begins again",
+    Phase.STEADY: "no attempt runs",
+    Phase.SCALING: "waits for endpoints of the newest revision",
+    Phase.PRE_ANALYSIS: "waits for: verdict pre RESULT",
+    Phase.PAUSED: "waits for: promote",
+    Phase.SIZING: "waits for all endpoints of the newest revision",
+    Phase.POST_ANALYSIS: "waits for: verdict post RESULT",
+    Phase.ABORTED: "back at the stable revision; retry begins again",
 }
 NO_BOOK = "no book is open yet"
 

@@ -2,15 +2,14 @@
 import dataclasses
 from collections.abc import Mapping, Sequence
 
-from bg_switch_tools.switch.lines import was_carried_out
+from bg_switch_tools.switch.phases import PHASES, RUNNING, Phase
+from bg_switch_tools.switch.replies import reply_in
 
 SERVICES = ("active", "preview", "stable", "newest")
-PHASES = ("steady", "scaling", "preAnalysis", "paused", "sizing", "postAnalysis", "aborted")
-# The phases of an attempt. One attempt passes through them in this order, and may leave some out.
-RUNNING = ("scaling", "preAnalysis", "paused", "sizing", "postAnalysis")
+END = "end"  # the last line
 
 
-class NoReport(ValueError):
+class ReportError(ValueError):
     """These lines have not the form of a report."""
 
 
@@ -38,7 +37,7 @@ class Report:
     each one by its number."""
 
     moment: int
-    phase: str
+    phase: Phase
     selected: Mapping[str, int]
     revisions: Mapping[int, Revision]
 
@@ -72,14 +71,14 @@ class Report:
 def _number(word: str) -> int:
     """A number as a line has it: 1 to 20 digits."""
     if not (word.isascii() and word.isdigit() and len(word) <= 20):
-        raise NoReport(f"{word[:20]} is not a number")
+        raise ReportError(f"{word[:20]} is not a number")
     return int(word)
 
 
 def _read_revision(words: Sequence[str]) -> Revision:
     """A line `revision R NAME desired D available A open O deadline T [draining [cut]]`."""
     if [words[place] for place in (3, 5, 7, 9)] != ["desired", "available", "open", "deadline"]:
-        raise NoReport(" ".join(words))
+        raise ReportError(" ".join(words))
     number, desired, available, opened = (_number(words[place]) for place in (1, 4, 6, 8))
     deadline = None if words[10] == "none" else _number(words[10])
     return Revision(
@@ -109,19 +108,20 @@ def _read_values(lines: Sequence[str]) -> Report:
         not all(number in revisions for number in selected.values())
         or values["phase"] not in PHASES
     ):
-        raise NoReport("a service or the phase is not one that a report can have")
-    return Report(_number(values["moment"]), values["phase"], selected, revisions)
+        raise ReportError("a service or the phase is not one that a report can have")
+    return Report(_number(values["moment"]), Phase(values["phase"]), selected, revisions)
 
 
 def read_report(lines: Sequence[str]) -> Report | None:
-    """The report of these lines, or None where they say that no book is open. `NoReport` where they
-    are neither."""
-    if lines and not was_carried_out(lines[0]):
+    """The report of these lines, or None where they say that no book is open. `ReportError` where
+    they are neither."""
+    reply = reply_in(lines[0]) if lines else None
+    if reply and not reply.was_carried_out:
         return None
     try:
         return _read_values(lines)
     except (IndexError, KeyError, ValueError) as error:
-        raise NoReport(f"this is not a report: {error}") from None
+        raise ReportError(f"this is not a report: {error}") from None
 
 
 def as_json(report: Report) -> dict[str, object]:

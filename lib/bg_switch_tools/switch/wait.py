@@ -5,9 +5,9 @@ from typing import NamedTuple
 
 from bg_switch_tools.switch.client import Switch
 from bg_switch_tools.switch.conditions import Conditions
-from bg_switch_tools.switch.connection import Unreachable
+from bg_switch_tools.switch.connection import UnreachableError
 from bg_switch_tools.switch.report_text import in_one_line
-from bg_switch_tools.switch.reports import NoReport, Report
+from bg_switch_tools.switch.reports import Report, ReportError
 
 PAUSE = 0.2  # seconds between two reports
 REACHED, NEVER, TOO_LATE = 0, 1, 2
@@ -61,7 +61,7 @@ def wait_for(
         try:
             report = switch.report(max(min(switch.wait, deadline - time.monotonic()), PAUSE))
             state = in_one_line(report)
-        except (Unreachable, NoReport) as error:
+        except (UnreachableError, ReportError) as error:
             report, state = None, str(error)
         if report is not None:
             see(report)

@@ -29,7 +29,7 @@ def dated(before: Report | None, now: Report | None) -> list[str]:
 
 
 def watch(switch: Switch) -> None:
-    """Draws until it is interrupted, or the switch does not answer in time (`Unreachable`).
+    """Draws until it is interrupted, or the switch does not answer in time (`UnreachableError`).
 
     At a terminal the screen is drawn anew each second. Elsewhere a block of plain text is written
     at first, and then after each change of anything but the moment and the numbers of open

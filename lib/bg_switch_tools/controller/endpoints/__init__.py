@@ -1,0 +1,1 @@
+"""The endpoints of revisions: their probes, and the commands that start and stop them."""

@@ -1,0 +1,1 @@
+"""The rounds of a controller, and their steps."""

@@ -1,0 +1,1 @@
+"""The files that a controller and people keep beside a plan, but for the history."""

@@ -1,0 +1,1 @@
+"""What the commands of a person do in a fleet."""

@@ -1,0 +1,1 @@
+"""The plan of a fleet, and what each machine adds to it."""
