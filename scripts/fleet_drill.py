@@ -1,13 +1,17 @@
 #!/usr/bin/env python3
 """A drill of a fleet of three machines, by hand: faults at random, or agents with a planted fault.
 
-usage: scripts/fleet_drill.py --seed N --seconds S [--folder FOLDER]    faults, plans and persons at random for so many seconds
-       scripts/fleet_drill.py --fault NAME [--folder FOLDER]            agents with a planted fault, and without it; `all` is each one
+usage: scripts/fleet_drill.py --seed N --seconds S [--machine-clock] [--folder FOLDER]    faults, plans and persons at random for so many seconds
+       scripts/fleet_drill.py --fault NAME [--folder FOLDER]                              agents with a planted fault, and without it; `all` is each one
 
 It needs the built program, etcd, HAProxy and nginx. Where root may, the machines are network
 namespaces, and a machine that is cut off takes its member of etcd with it; else they are ports of
 this one. Several drills may run side by side. What was recorded stays in the folder: without one, in
 a new one below /tmp.
+
+The wall clock of an agent is stepped inside its process. With --machine-clock the wall clock of this
+machine is stepped too, as root alone may: all that runs on it sees that, so do it where nothing else
+matters. It is set right at the end; who kills the drill has to do that.
 
 At the end it prints the figures, and for each rule whether it holds. Exit status: 0 if all rules
 hold, the fleet has settled, at least a third of the attempts were promoted, and a promote met an
@@ -27,8 +31,8 @@ from support.fleet.verdict import table, verdict
 LEAST_SECONDS, MOST_SECONDS = 10, 86400
 
 
-def play_random(folder: pathlib.Path, seed: int, seconds: float) -> bool:
-    outcome = random_drill(folder, seed, seconds)
+def play_random(folder: pathlib.Path, seed: int, seconds: float, steps_machine_clock: bool) -> bool:
+    outcome = random_drill(folder, seed, seconds, steps_machine_clock)
     print(f"\n| seed {seed}, {seconds:g} seconds of faults | |\n|---|---|")
     print("\n".join(table(outcome)))
     lines, holds = verdict(outcome)
@@ -60,6 +64,7 @@ def main() -> int:
     parser.add_argument("--seed", type=int)
     parser.add_argument("--seconds", type=float)
     parser.add_argument("--fault", choices=[*PLANTED, "all"])
+    parser.add_argument("--machine-clock", action="store_true")
     parser.add_argument("--folder", type=pathlib.Path)
     given = parser.parse_args()
     is_random = (
@@ -79,7 +84,7 @@ def main() -> int:
         given.folder or pathlib.Path(tempfile.mkdtemp(prefix="bg_fleet_"))
     ).absolute()
     if is_random:
-        has_passed = play_random(folder, given.seed, given.seconds)
+        has_passed = play_random(folder, given.seed, given.seconds, given.machine_clock)
     else:
         has_passed = all(
             [

@@ -8,7 +8,8 @@ is one that no identifier of the code has: in lower case, it is no part of an id
 forbids `owner_of`, `has-owner` and `TheOwner`); with a capital, no type has this name (`Order`). A
 word without code font has other meanings too, and is for reviews. Text in comments and in strings
 is not looked at, since it says what a reader sees. A template of JavaScript counts as text with the
-code in it, which only uses names that stand elsewhere too.
+code in it, which only uses names that stand elsewhere too. A path to a name of the kit's libraries
+(`Rattle.sqlite.specs.Order`) is not looked at, nor are the names that it brings.
 """
 import functools
 import pathlib
@@ -20,7 +21,7 @@ from typing import NamedTuple
 
 TOP = pathlib.Path(__file__).resolve().parents[1]
 GLOSSARY = "docs/GLOSSARY.md"
-FOLDERS = ("crates", "lib", "scripts", "tests", "bench", "examples", "packaging")
+FOLDERS = ("crates", "lib", "scripts", "tools", "tests", "bench", "examples", "packaging")
 # Names that libraries give.
 OF_LIBRARIES = {"compare_exchange", "compare_exchange_weak", "SO_LINGER"}
 
@@ -37,6 +38,9 @@ TEXTS = {
     ".py": r'"""[\s\S]*?"""|"(?:\\.|[^"\\\n])*"|\'(?:\\.|[^\'\\\n])*\'',
     ".js": r'"(?:\\.|[^"\\\n])*"|\'(?:\\.|[^\'\\\n])*\'|' + template(template("`[^`]*`")),
 }
+# A path to names of the kit's libraries, and those that it brings: those behind `as` are our own.
+OF_KIT = re.compile(r"\bRattle\.(?!bg_)[\w.-]+(?:\{[^}]*\})?")
+OWN_NAME = re.compile(r"\bas ([\w-]+)|\n")
 IDENTIFIER = re.compile(r"[A-Za-z_][A-Za-z0-9_]*(?:-[A-Za-z0-9_]+)*")
 
 
@@ -70,7 +74,12 @@ def blanked(text: str) -> str:
 def code_of(text: str, suffix: str) -> str:
     """A source without its strings and comments, with the same lines."""
     either = re.compile(f"(?P<text>{TEXTS[suffix]})|(?P<comment>{COMMENTS[suffix]})")
-    return either.sub(lambda found: blanked(found[0]), text)
+    return OF_KIT.sub(own_names, either.sub(lambda found: blanked(found[0]), text))
+
+
+def own_names(found: re.Match[str]) -> str:
+    """The names that an import from the kit gives in place of the kit's own, on their lines."""
+    return "".join(f" {own[1]} " if own[1] else "\n" for own in OWN_NAME.finditer(found[0]))
 
 
 def parts_of(identifier: str) -> list[str]:

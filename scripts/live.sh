@@ -1,6 +1,6 @@
 #!/bin/sh
-# Runs `serve` of the built program before small endpoints on loopback (python3, and curl). The parts run side by side, since
-# they mostly wait:
+# Runs `serve` of the built program before small endpoints on loopback (python3, and curl). The parts are the files of tests/live,
+# and run side by side, since they mostly wait:
 #   live             what clients, operators and endpoints get through a rollout, and the last report
 #   live_starting    faults of the strategy, and ports that are taken
 #   live_timeouts    slow clients and endpoints, and requests that are given up
@@ -23,23 +23,25 @@
 #   live_access_log, live_access_log_random   the access log, and two thousand connections of all kinds beside it
 #   live_history     a full history
 #   live_error_pages the pages of refusals
+#   live_event_loop  the event loop of bg_event_loop, by a program of its own
 #   live_analysis    outages that analyses find, by the access log, by reports and by Prometheus
 #   live_dashboard   the dashboard's page in a browser, and a bad revision that its analysis takes back
 #   live_fleet       a fleet of three machines with etcd, HAProxy and nginx, each kind of fault once, and the rules of a fleet
 set -eu
 cd "$(dirname -- "$0")/.."
-# Builds the program where it is stale.
+# Builds the programs where they are stale.
 bin/bg_switch check < examples/direct.json > /dev/null
+scripts/build_if_stale.sh bg_tests_event_loop 0 9 close
 work=$(mktemp -d)
 trap 'rm -rf "$work"' EXIT
 parts='live live_starting live_timeouts live_resources live_concurrency live_attack live_random live_operator live_controller
     live_readme live_operating live_clients live_endpoints live_operators live_control live_shutdown live_production
-    live_access_log live_access_log_random live_history live_analysis live_memory live_error_pages'
+    live_access_log live_access_log_random live_history live_analysis live_memory live_error_pages live_event_loop'
 # These run alone, since they start many programs: two controllers and eight switches at a time, a browser, and fleets.
 alone='live_crash live_dashboard live_fleet live_fleet_pages'
 play() {
     for part in "$@"; do
-        { python3 -B "scripts/$part.py" > "$work/$part" 2>&1 && : > "$work/$part.passed"; } &
+        { PYTHONPATH=scripts python3 -B "tests/live/$part.py" > "$work/$part" 2>&1 && : > "$work/$part.passed"; } &
     done
     wait
 }

@@ -13,7 +13,6 @@ set -eu
 cd "$(dirname -- "$0")/.."
 work=$(mktemp -d)
 trap 'rm -rf "$work"' EXIT
-callers=crates/bg_tests_refused_memory/out/bg_tests_refused_memory
 
 # Builds scripts/refuse_memory.c, by the kit's clang where there is no compiler else.
 build_refuser() {
@@ -27,17 +26,7 @@ build_refuser() {
     fi
 }
 
-# Proves and builds bg_tests_refused_memory where it is missing or older than its sources, as bin/bg_switch does the switch.
-build_callers() {
-    if [ -x "$callers" ] &&
-        [ -z "$(find crates crates.txt -name out -prune -o -type f -newer "$callers" -print | head -n 1)" ]; then
-        return
-    fi
-    (cd crates/bg_tests_refused_memory && rt run) > "$work/built" 2>&1 || { cat "$work/built" >&2; exit 1; }
-    touch "$callers"
-}
-
 build_refuser
-[ $# -gt 0 ] || build_callers
+[ $# -gt 0 ] || scripts/build_if_stale.sh bg_tests_refused_memory
 bin/bg_switch check < examples/direct.json > /dev/null
 python3 -B scripts/refused_memory.py "$work/refuse_memory.so" "$@"

@@ -37,9 +37,9 @@ from support.switch import LISTENING, words_of_serve
 from support.traffic import ACCESS_LOG
 
 # isort: split; `support` tells where the tools' package is
-from bg_switch_tools.controller.attempts import ABORTED, STABLE
-from bg_switch_tools.controller.history_file import HistoryFile
-from bg_switch_tools.switch.connection import Unreachable, ask
+from bg_switch_tools.controller.history.attempts import ABORTED, STABLE
+from bg_switch_tools.controller.history.history_file import HistoryFile
+from bg_switch_tools.switch.connection import UnreachableError, ask
 from bg_switch_tools.switch.reports import Report, read_report
 
 ROLLOUT = """{"spec": {"replicas": 2, "revisionHistoryLimit": 3, "strategy": {"blueGreen": {"activeService": "web",
@@ -152,7 +152,7 @@ class Machine:
     def report(self) -> Report | None:
         try:
             return read_report(ask(self.control, b"report", 5.0))
-        except Unreachable:
+        except UnreachableError:
             return None
 
     def is_stable(self, name: str) -> bool:

@@ -1,8 +1,9 @@
 """The line `before` as the switch reads and judges it, for switches that stand in for it."""
 from collections.abc import Callable, Mapping, Sequence
 
-from bg_switch_tools.switch.before import TOO_LATE, WORD
-from bg_switch_tools.switch.lines import LINE_WORDS
+from bg_switch_tools.switch.before import WORD
+from bg_switch_tools.switch.line_help import LINE_WORDS
+from bg_switch_tools.switch.replies import TOO_LATE
 
 GREATEST, LONGEST = 2**64 - 1, 20  # of a number, and of its digits
 GREATEST_PORT, GREATEST_COUNT = 65535, 2**32 - 1
@@ -83,5 +84,5 @@ def answer_before(line: str, is_open: bool, clock: Clock, answer: Answer) -> Seq
     if not is_open:
         return ["refused NotOpen"]
     if int(clock() * 1000) >= int(words[1]):
-        return [TOO_LATE]
+        return [str(TOO_LATE)]
     return answer(" ".join(words[2:]))

@@ -11,7 +11,7 @@ from collections.abc import Callable, Iterator, Mapping
 from unittest import mock
 
 from bg_switch_tools.bgctl import cli as bgctl_cli
-from bg_switch_tools.controller.attempts import (
+from bg_switch_tools.controller.history.attempts import (
     ABORTED,
     DEPLOYED,
     ENDED,
@@ -21,9 +21,9 @@ from bg_switch_tools.controller.attempts import (
     STABLE,
     Event,
 )
-from bg_switch_tools.controller.history_file import HistoryFile
-from bg_switch_tools.controller.plan import PlannedRevision
-from bg_switch_tools.controller.state_file import (
+from bg_switch_tools.controller.history.history_file import HistoryFile
+from bg_switch_tools.controller.plan.plan import PlannedRevision
+from bg_switch_tools.controller.state.state_file import (
     HeldBack,
     State,
     StateFile,
@@ -194,7 +194,7 @@ def full_folder(stack: contextlib.ExitStack, folder: str) -> Place:
     """A plan whose folder takes no file."""
     place = by_plan(*STEADY)(stack, folder)
     refused = OSError(28, "No space left on device")
-    for function in ("plan_edit.write_whole", "plan_author.write_whole"):
+    for function in ("edits.plan_edit.write_whole", "state.plan_author.write_whole"):
         stack.enter_context(
             mock.patch(f"bg_switch_tools.controller.{function}", side_effect=refused)
         )
@@ -291,6 +291,6 @@ def at(name: str, folder: str) -> Iterator[Place]:
     alice."""
     with contextlib.ExitStack() as stack:
         for module in ("plan_author", "pause"):
-            place = f"bg_switch_tools.controller.{module}.login_name"
+            place = f"bg_switch_tools.controller.state.{module}.login_name"
             stack.enter_context(mock.patch(place, return_value="alice"))
         yield PLACES[name](stack, folder)

@@ -4,7 +4,7 @@ import json
 import socket
 from collections.abc import Callable, Mapping
 
-from bg_switch_tools.fleet.store_endpoints import StoreEndpoint
+from bg_switch_tools.fleet.store.store_endpoints import StoreEndpoint
 from support import endpoints
 from support.messages import response
 from support.ports import HOST

@@ -8,16 +8,21 @@ import dataclasses
 from collections.abc import Iterator
 from unittest import mock
 
-from bg_switch_tools.controller.plan import Plan
-from bg_switch_tools.fleet import fleet_lines, leader, next_line
-from bg_switch_tools.fleet.candidate import Candidate
-from bg_switch_tools.fleet.fleet_lines import FleetLines
-from bg_switch_tools.fleet.fleet_plan import FleetPlan
-from bg_switch_tools.fleet.leader import Decision, Votes, Waited, Write
-from bg_switch_tools.fleet.machine import Machine
-from bg_switch_tools.fleet.next_line import Known
-from bg_switch_tools.fleet.record import PLAN, MachineReport, Record, View
-from bg_switch_tools.fleet.store import Compare
+from bg_switch_tools.controller.plan.plan import Plan
+from bg_switch_tools.fleet.agent import fleet_lines
+from bg_switch_tools.fleet.agent.agent import Lease
+from bg_switch_tools.fleet.agent.candidate import Candidate
+from bg_switch_tools.fleet.agent.fleet_lines import FleetLines
+from bg_switch_tools.fleet.machine import line_table
+from bg_switch_tools.fleet.machine.line_table import Known
+from bg_switch_tools.fleet.machine.machine import Machine
+from bg_switch_tools.fleet.plan.fleet_plan import FleetPlan
+from bg_switch_tools.fleet.record import leader
+from bg_switch_tools.fleet.record.leader import Decision, Votes, Waited, Write
+from bg_switch_tools.fleet.record.record import PLAN, MachineReport, Record, View
+from bg_switch_tools.fleet.store.store import Compare
+from bg_switch_tools.switch.lines import Event, Line, Promote, Verdict
+from bg_switch_tools.switch.phases import Phase
 from bg_switch_tools.switch.reports import Report
 
 Patch = contextlib.AbstractContextManager[object]
@@ -48,9 +53,9 @@ def alone() -> Patch:
     """An agent that promotes when it has lost the store."""
     line_of = FleetLines.next_line
 
-    def or_promote(self: FleetLines, plan: Plan, report: Report) -> str | None:
-        is_alone = self.machine.read_at is None and report.phase == "paused"
-        return "promote" if is_alone else line_of(self, plan, report)
+    def or_promote(self: FleetLines, plan: Plan, report: Report) -> Line | None:
+        is_alone = self.machine.read_at is None and report.phase is Phase.PAUSED
+        return Promote() if is_alone else line_of(self, plan, report)
 
     return mock.patch.object(FleetLines, "next_line", or_promote)
 
@@ -58,7 +63,7 @@ def alone() -> Patch:
 def without_time_limit() -> Patch:
     """An agent whose promotes have no time limit."""
 
-    def as_it_is(limit: float, line: str) -> str:
+    def as_it_is(limit: float, line: Event) -> Event:
         return line
 
     return mock.patch.object(fleet_lines, "before", as_it_is)
@@ -66,10 +71,10 @@ def without_time_limit() -> Patch:
 
 def on_changes() -> Patch:
     """An agent that acts on each change of the record once, and not on the record."""
-    line_of = Machine.next_line
+    line_of = Machine.permitted_line
     done: dict[Machine, Record] = {}
 
-    def once(self: Machine, report: Report, now: float) -> str | None:
+    def once(self: Machine, report: Report, now: float) -> Event | None:
         if self.record is None or done.get(self) == self.record or not self.is_fresh(now):
             return None
         line = line_of(self, report, now)
@@ -77,7 +82,7 @@ def on_changes() -> Patch:
             done[self] = self.record
         return line
 
-    return mock.patch.object(Machine, "next_line", once)
+    return mock.patch.object(Machine, "permitted_line", once)
 
 
 @contextlib.contextmanager
@@ -95,7 +100,7 @@ def no_catch_up() -> Patch:
     def nothing(report: Report, known: Known) -> None:
         return None
 
-    return mock.patch.object(next_line, "_catch_up", nothing)
+    return mock.patch.object(line_table, "_catch_up", nothing)
 
 
 def without_the_id() -> Patch:
@@ -111,10 +116,8 @@ def back_by_permission() -> Patch:
     """An agent that hands a failed verdict in only where it has a fresh read."""
     may_hand_in = FleetLines.may_hand_in
 
-    def by_permission(
-        self: FleetLines, report: Report, name: str, verdict: str, fault: str
-    ) -> bool:
-        return self.machine.is_fresh(self.now()) and may_hand_in(self, report, name, verdict, fault)
+    def by_permission(self: FleetLines, report: Report, verdict: Verdict, fault: str) -> bool:
+        return self.machine.is_fresh(self.now()) and may_hand_in(self, report, verdict, fault)
 
     return mock.patch.object(FleetLines, "may_hand_in", by_permission)
 
@@ -123,8 +126,8 @@ def verdict_at_once() -> Patch:
     """An agent that does not hold the verdict after the switch back."""
     may_hand_in = FleetLines.may_hand_in
 
-    def at_once(self: FleetLines, report: Report, name: str, verdict: str, fault: str) -> bool:
-        return may_hand_in(self, report, name, verdict, fault) or True
+    def at_once(self: FleetLines, report: Report, verdict: Verdict, fault: str) -> bool:
+        return may_hand_in(self, report, verdict, fault) or True
 
     return mock.patch.object(FleetLines, "may_hand_in", at_once)
 
@@ -139,6 +142,24 @@ def after_the_end() -> Patch:
         return begin(view, plan, record)
 
     return mock.patch.object(leader, "_begin", again)
+
+
+def refreshing_lapsed_leases() -> Patch:
+    """An agent that refreshes its lease however late the store ends it."""
+
+    def never(self: Lease) -> bool:
+        return False
+
+    return mock.patch.object(Lease, "_was_ended", never)
+
+
+def waiting_for_lapsed_leads() -> Patch:
+    """A candidate that waits until the store ends the lease of a leader, however late."""
+
+    def nothing(self: Candidate, lease: int) -> None:
+        return None
+
+    return mock.patch.object(Candidate, "_end_lapsed", nothing)
 
 
 def silent_about_orders() -> Patch:

@@ -9,9 +9,9 @@ import unittest
 from collections.abc import Callable, Collection, Mapping, Sequence
 from unittest import mock
 
-from bg_switch_tools.controller.plan import PlannedRevision
+from bg_switch_tools.controller.plan.plan import PlannedRevision
 from bg_switch_tools.fleet import cli, commands
-from bg_switch_tools.fleet.record import (
+from bg_switch_tools.fleet.record.record import (
     ATTEMPT,
     DEPLOYING,
     LEADER,
@@ -24,7 +24,7 @@ from bg_switch_tools.fleet.record import (
     Record,
     View,
 )
-from bg_switch_tools.fleet.store import NO_WATCH_STATE, Compare, WatchState
+from bg_switch_tools.fleet.store.store import NO_WATCH_STATE, Compare, WatchState
 from support.processes import Run
 from tests.memory_store import Keys, MemoryStore
 from tests.tool_runs import run_in_process

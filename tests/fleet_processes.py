@@ -12,24 +12,24 @@ from collections.abc import Collection, Mapping, Sequence
 from unittest import mock
 
 from bg_switch_tools.controller.log import Log
-from bg_switch_tools.controller.plan import PlannedRevision
-from bg_switch_tools.fleet import agent_process
-from bg_switch_tools.fleet.agent_process import AgentArguments, AgentProcess
-from bg_switch_tools.fleet.etcd_gateway import EtcdSettings
-from bg_switch_tools.fleet.fleet_file import FleetFile
-from bg_switch_tools.fleet.fleet_plan import MachineSettings
-from bg_switch_tools.fleet.record import MachineReport, Record, View, read_machine_report
-from bg_switch_tools.fleet.store import (
+from bg_switch_tools.controller.plan.plan import PlannedRevision
+from bg_switch_tools.fleet.agent import agent_process
+from bg_switch_tools.fleet.agent.agent_process import AgentArguments, AgentProcess, make_agent
+from bg_switch_tools.fleet.plan.fleet_file import FleetFile
+from bg_switch_tools.fleet.plan.fleet_plan import MachineSettings
+from bg_switch_tools.fleet.record.record import MachineReport, Record, View, read_machine_report
+from bg_switch_tools.fleet.store.etcd_gateway import EtcdSettings
+from bg_switch_tools.fleet.store.store import (
     NO_WATCH_STATE,
     Compare,
     Snapshot,
-    StoreFault,
+    StoreError,
     WatchState,
 )
-from bg_switch_tools.switch.before import without_time_limit
 from tests.fake_switch import FakeSwitch
 from tests.memory_store import Keys, MemoryStore
 from tests.tool_runs import WAIT, Endpoint, comes
+from tests.typed_lines import untimed
 
 LONGEST = 20.0  # seconds for which anything is awaited
 LEASE = 2  # seconds
@@ -77,7 +77,7 @@ class Network:
         if self.silence is not None:
             self.is_asked.set()
             self.has_ended.wait(self.silence)
-            raise StoreFault("it is away")
+            raise StoreError("it is away")
         self.has_ended.wait(self.delay)
 
 
@@ -117,6 +117,10 @@ class SharedStore(MemoryStore):
         with self._pass():
             return super().refresh(lease)
 
+    def seconds_left(self, lease: int) -> int:
+        with self._pass():
+            return super().seconds_left(lease)
+
     def revoke(self, lease: int) -> None:
         with self._pass():
             super().revoke(lease)
@@ -131,7 +135,7 @@ class SharedStore(MemoryStore):
             while time.monotonic() < deadline and not cut.wait(0.01):
                 hangs = hangs or network.hangs or network.silence is not None
                 if network.breaks:
-                    raise StoreFault("the watch has ended")
+                    raise StoreError("the watch has ended")
                 if network.keys.revision > after and not hangs:
                     return True
             return False
@@ -203,7 +207,7 @@ class FleetProcessCase(unittest.TestCase):
         state = self.folder / folder
         state.mkdir(exist_ok=True)
         file = FleetFile("web", EtcdSettings(()), str(self.folder), host, self.settings())
-        made = AgentProcess(
+        made = make_agent(
             file,
             self.settings(),
             AgentArguments(state, 0.1),
@@ -256,7 +260,5 @@ class FleetProcessCase(unittest.TestCase):
     def own_lines(self) -> list[str]:
         """The lines that select something, without their time limits."""
         return [
-            without_time_limit(line)
-            for line in self.switch.sent_lines()
-            if not line.startswith("available ")
+            untimed(line) for line in self.switch.sent_lines() if not line.startswith("available ")
         ]

@@ -11,24 +11,36 @@ import random
 import types
 from typing import cast
 
-from bg_switch_tools.controller.analysis_process import ANALYSIS_OF_PHASE
-from bg_switch_tools.controller.controller import MOST_LINES
-from bg_switch_tools.controller.line_source import SourceParts
-from bg_switch_tools.controller.plan import Plan
-from bg_switch_tools.fleet.agent import FleetAgent
-from bg_switch_tools.fleet.candidate import Candidate, Clocks, Pending
-from bg_switch_tools.fleet.fleet_lines import FleetLines
-from bg_switch_tools.fleet.fleet_plan import MachineSettings
-from bg_switch_tools.fleet.leader import awaited_of
-from bg_switch_tools.fleet.machine import Machine
-from bg_switch_tools.fleet.machine_state import MachineState, read_machine_state
-from bg_switch_tools.fleet.record import FOLLOWS, PersonOrder, View
-from bg_switch_tools.fleet.store import Compare
-from bg_switch_tools.switch.before import WORD, without_time_limit
-from bg_switch_tools.switch.lines import was_carried_out
-from bg_switch_tools.switch.reports import RUNNING, Report, Revision
+from bg_switch_tools.controller.analyses.analysis_process import ANALYSIS_OF_PHASE
+from bg_switch_tools.controller.lines.line_source import SourceParts
+from bg_switch_tools.controller.plan.plan import Plan
+from bg_switch_tools.controller.rounds.controller import MOST_LINES
+from bg_switch_tools.fleet.agent.agent import FleetAgent
+from bg_switch_tools.fleet.agent.candidate import Candidate, Clocks, Pending
+from bg_switch_tools.fleet.agent.fleet_lines import FleetLines
+from bg_switch_tools.fleet.machine.machine import Machine
+from bg_switch_tools.fleet.machine.machine_state import MachineState, read_machine_state
+from bg_switch_tools.fleet.plan.fleet_plan import MachineSettings
+from bg_switch_tools.fleet.record.leader import awaited_of
+from bg_switch_tools.fleet.record.record import FOLLOWS, PersonOrder, View
+from bg_switch_tools.fleet.store.store import Compare
+from bg_switch_tools.switch.before import WORD
+from bg_switch_tools.switch.lines import (
+    AnalysisKind,
+    Deploy,
+    Line,
+    Promote,
+    Retry,
+    Verdict,
+    VerdictResult,
+    without_time_limit,
+)
+from bg_switch_tools.switch.phases import RUNNING, Phase
+from bg_switch_tools.switch.replies import Refused, Reply, read_reply
+from bg_switch_tools.switch.reports import Report, Revision
 from tests.before_line import answer_before
-from tests.fleet_rules import Promote, Said, Selection, Trace
+from tests import fleet_rules
+from tests.fleet_rules import Said, Selection, Trace
 from tests.memory_store import Keys, MemoryStore
 
 LEASE = 3  # seconds
@@ -40,6 +52,9 @@ SPOILED = 0.1  # how probable it is that what is put is no plan
 # Seconds in which an attempt ends that is promoting, or whose abort is ordered: a lease of a leader
 # that is gone may come first.
 ENDING = {"promoting": PROMOTING_SECONDS + LEASE + 2.0, "abort": LEASE + 2.0}
+LATE_ENDING = (
+    2.0  # how many seconds more if leases end late, since a candidate ends the leader's then
+)
 AIMED = 0.1  # how probable it is that a person aborts between a leader's read and its write
 # How probable it is that the agent or the switch is stopped while a promote is on its way, and for how
 # many seconds.
@@ -84,7 +99,7 @@ class SimulatedSwitch:
             "stable": self.stable,
             "newest": self.newest,
         }
-        return Report(self.moment, self.phase, selected, revisions)
+        return Report(self.moment, Phase(self.phase), selected, revisions)
 
     def name(self, number: int) -> str:
         return self.names[number - 1] if number else ""
@@ -172,12 +187,12 @@ class SimulatedSwitch:
 class RunningAnalysis:
     """An analysis that runs beside an agent."""
 
-    name: str
+    kind: AnalysisKind
     number: int
-    verdict: str = ""
+    verdict: VerdictResult | None = None
 
-    def is_for(self, name: str | None, number: int) -> bool:
-        return (self.name, self.number) == (name, number)
+    def is_for(self, kind: AnalysisKind | None, number: int) -> bool:
+        return (self.kind, self.number) == (kind, number)
 
 
 @dataclasses.dataclass
@@ -185,7 +200,7 @@ class LineOnItsWay:
     """A line of an agent, which it has decided on by this plan and this report. Until a moment its
     agent is stopped, and has not sent it; or the switch is, and has not carried it out."""
 
-    line: str
+    line: Line
     plan: Plan
     report: Report
     until: float
@@ -331,23 +346,20 @@ class Host:
                 )
 
     def judge(self, plan: Plan, report: Report) -> None:
-        name, number = ANALYSIS_OF_PHASE.get(report.phase), report.newest.number
+        kind, number = ANALYSIS_OF_PHASE.get(report.phase), report.newest.number
         if (
             self.lines.why_not_judged(plan, report)
             or self.analysis
-            and not self.analysis.is_for(name, number)
+            and not self.analysis.is_for(kind, number)
         ):
             self.analysis = None
-        elif name and name in plan.analyses.commands and self.analysis is None:
-            self.analysis = RunningAnalysis(name, number)
-        elif (
-            name
-            and self.analysis
-            and self.analysis.verdict
-            and self.lines.may_hand_in(report, name, self.analysis.verdict, "")
-        ):
-            self.send(f"verdict {name} {self.analysis.verdict}")
-            self.analysis = None
+        elif kind and kind in plan.analyses.commands and self.analysis is None:
+            self.analysis = RunningAnalysis(kind, number)
+        elif kind and self.analysis and self.analysis.verdict:
+            verdict = Verdict(kind, self.analysis.verdict)
+            if self.lines.may_hand_in(report, verdict, ""):
+                self.send(verdict)
+                self.analysis = None
 
     def let_line_arrive(self) -> None:
         """The switch carries out the line that is on its way, whose stop is over."""
@@ -359,11 +371,11 @@ class Host:
         if self.agent:  # another one than before has given the reply up
             self.lines.take_reply(sent.plan, sent.report, sent.line, reply)
 
-    def is_stopped_with(self, line: str, plan: Plan, report: Report) -> bool:
+    def is_stopped_with(self, line: Line, plan: Plan, report: Report) -> bool:
         """Whether the agent or the switch is stopped while a promote is on its way."""
         world = self.world
         if (
-            without_time_limit(line) != "promote"
+            not isinstance(without_time_limit(line), Promote)
             or world.is_resting
             or world.chance.random() >= STOPPED
         ):
@@ -388,27 +400,27 @@ class Host:
                 return
             reply = self.send(line)
             self.lines.take_reply(plan, report, line, reply)
-            if not was_carried_out(reply) or self.switch is None:
+            if not reply.was_carried_out or self.switch is None:
                 return
             report = self.switch.report()
 
-    def send(self, line: str) -> str:
+    def send(self, line: Line) -> Reply:
         """A line of the agent's, which the switch carries out at once."""
         return self.carry_out(line, self.store.read_at, self.record_read())
 
-    def carry_out(self, line: str, read_at: float, record: str) -> str:
+    def carry_out(self, line: Line, read_at: float, record: str) -> Reply:
         """The switch carries out a line that rests on a read of this moment and record."""
         switch = self.switch
         if switch is None:
-            return "refused NotOpen"
-        reply = switch.send(line, self.now())
+            return Refused("NotOpen")
+        reply = read_reply(switch.send(str(line), self.now()))
         self.world.log(f"{self.name}: {line} => {reply}")
-        if was_carried_out(reply):
-            if line.startswith(("deploy ", "retry")):
+        if reply.was_carried_out:
+            if isinstance(line, (Deploy, Retry)):
                 self.begun_by = record
-            elif without_time_limit(line) == "promote":
+            elif isinstance(without_time_limit(line), Promote):
                 self.world.trace.promotes.append(
-                    Promote(
+                    fleet_rules.Promote(
                         self.world.time,
                         self.name,
                         switch.name(switch.newest),
@@ -420,7 +432,7 @@ class Host:
         self.world.note_selection(self)
         return reply
 
-    def end_analysis(self, verdict: str) -> None:
+    def end_analysis(self, verdict: VerdictResult) -> None:
         if self.analysis and not self.analysis.verdict:
             self.analysis.verdict = verdict
             is_seen = (
@@ -428,7 +440,11 @@ class Host:
                 and self.switch.phase == "postAnalysis"
                 and self.switch.newest == self.analysis.number
             )
-            self.has_failed = verdict != "successful" and self.analysis.name == "post" and is_seen
+            self.has_failed = (
+                verdict is not VerdictResult.SUCCESSFUL
+                and self.analysis.kind is AnalysisKind.POST
+                and is_seen
+            )
 
 
 class World:
@@ -574,12 +590,14 @@ class World:
                 "switch",
                 "both",
                 "cut",
+                "cut",
                 "away",
                 "away",
                 "freeze",
                 "freeze",
                 "lease",
                 "lost answers",
+                "late leases",
                 "by hand",
             )
         )
@@ -603,6 +621,9 @@ class World:
             self.keys.end(lease)
         if kind == "lost answers":
             host.store.loses = host.leader_store.loses = chance.choice((0.0, 0.3))
+        if kind == "late leases":
+            self.keys.late = chance.choice((0.0, 5.0, 1000.0))
+            self.log(f"leases end {self.keys.late:g} seconds late")
         is_stopped = host.on_its_way is not None and host.on_its_way.is_sent
         if (
             kind == "by hand"
@@ -677,9 +698,9 @@ class World:
             if self.chance.random() < 0.3:
                 host.switch.scale_down()
             host.end_analysis(
-                self.chance.choice(("failed", "error"))
+                self.chance.choice((VerdictResult.FAILED, VerdictResult.ERROR))
                 if self.chance.random() < self.failing
-                else "successful"
+                else VerdictResult.SUCCESSFUL
             )
             self.note_selection(host)
 
@@ -718,18 +739,23 @@ class World:
                 host.switch.endpoints_come_up()
                 host.switch.scale_down()
                 if ends_analyses:
-                    host.end_analysis("successful")
+                    host.end_analysis(VerdictResult.SUCCESSFUL)
                 self.note_selection(host)
 
     def end_without_a_plan(self) -> None:
         """Rule 8: no analysis ends any more, so an attempt that is promoting ends by its time. One
-        that is deploying is aborted by a person."""
+        that is deploying is aborted by a person. The leader may be gone."""
+        leader = next((host for host in self.hosts if host.candidate.leads), None)
+        if leader and self.chance.random() < 0.5:
+            self.log(f"{leader.name}: the agent, which leads, is started again")
+            leader.kill_agent()
+            leader.start_agent()
         for what in ("promoting", "abort"):
-            begun = self.time
+            begun, longest = self.time, ENDING[what] + (LATE_ENDING if self.keys.late else 0.0)
             while self.stage == "promoting" if what == "promoting" else self.runs:
-                if self.time > begun + ENDING[what]:
+                if self.time > begun + longest:
                     self.trace.broken.append(
-                        f"rule 8: the attempt is {self.stage} {ENDING[what]:g} seconds later ({what}), and what stands is no plan"
+                        f"rule 8: the attempt is {self.stage} {longest:g} seconds later ({what}), and what stands is no plan"
                     )
                     return
                 if what == "abort":

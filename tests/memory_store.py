@@ -1,15 +1,15 @@
-"""A store in memory with etcd's revisions and leases, and with its faults: it is away, or the
-answer to a write is lost."""
+"""A store in memory with etcd's revisions and leases, and with its faults: it is away, the answer to
+a write is lost, or leases end late."""
 import random
 from collections.abc import Callable, Collection, Mapping, Sequence
 from typing import NamedTuple
 
-from bg_switch_tools.fleet.store import (
+from bg_switch_tools.fleet.store.store import (
     NO_WATCH_STATE,
     Compare,
     Key,
     Snapshot,
-    StoreFault,
+    StoreError,
     WatchState,
 )
 
@@ -44,12 +44,17 @@ class Keys:
         self.keys: dict[str, Key] = {}
         self.leases: dict[int, tuple[float, int]] = {}  # by number: when it ends, and its seconds
         self.last_lease = 0
+        self.late = 0.0  # how many seconds after its time a lease ends
         self.changes: list[Change] = []
 
     def expire(self) -> None:
         """Ends the leases whose time has come."""
-        for lease in [lease for lease, (end, _) in self.leases.items() if end <= self.now()]:
+        for lease in [lease for lease in self.leases if self.left(lease) + self.late <= 0]:
             self.end(lease)
+
+    def left(self, lease: int) -> float:
+        """The seconds until the time of a lease is over."""
+        return self.leases[lease][0] - self.now()
 
     def end(self, lease: int) -> None:
         """Ends a lease, and deletes its keys."""
@@ -102,7 +107,7 @@ class MemoryStore:
     def _reach(self) -> None:
         self.all.expire()
         if self.is_cut:
-            raise StoreFault("it is away")
+            raise StoreError("it is away")
 
     def read(self) -> Snapshot:
         self._reach()
@@ -118,7 +123,7 @@ class MemoryStore:
     ) -> int | None:
         self._reach()
         if lease and lease not in self.all.leases:
-            raise StoreFault("etcdserver: requested lease not found")
+            raise StoreError("etcdserver: requested lease not found")
         is_written = all(self.all.holds(compare) for compare in compares)
         if is_written:
             self.all.revision += 1
@@ -127,7 +132,7 @@ class MemoryStore:
             for name in deletes:
                 self.all.delete(name, self.client, self.read_revision)
         if self.chance and self.chance.random() < self.loses:
-            raise StoreFault("the answer was lost")
+            raise StoreError("the answer was lost")
         return self.all.revision if is_written else None
 
     def grant(self, seconds: int) -> int:
@@ -140,9 +145,15 @@ class MemoryStore:
         self._reach()
         if lease not in self.all.leases:
             return 0
+        if self.all.left(lease) <= 0:
+            raise StoreError("it waits for the end of the lease")
         seconds = self.all.leases[lease][1]
         self.all.leases[lease] = (self.all.now() + seconds, seconds)
         return seconds
+
+    def seconds_left(self, lease: int) -> int:
+        self._reach()
+        return int(self.all.left(lease)) if lease in self.all.leases else -1
 
     def revoke(self, lease: int) -> None:
         self._reach()

@@ -13,7 +13,7 @@ import urllib.error
 import urllib.request
 from collections.abc import Mapping, Sequence
 
-from bg_switch_tools.fleet.store_endpoints import StoreEndpoint
+from bg_switch_tools.fleet.store.store_endpoints import StoreEndpoint
 from support import processes
 from tests.fake_port import free_port
 from tests.tool_runs import WAIT, comes

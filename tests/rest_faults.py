@@ -2,13 +2,13 @@
 import math
 from unittest import mock
 
-from bg_switch_tools.fleet import agent, rest
-from bg_switch_tools.fleet.agent import FleetAgent, Lease
-from bg_switch_tools.fleet.candidate import Candidate
-from bg_switch_tools.fleet.handover import Handover
-from bg_switch_tools.fleet.record import MachineReport
-from bg_switch_tools.fleet.rest import Rest, Standing
-from bg_switch_tools.fleet.store_threads import StoreTurns
+from bg_switch_tools.fleet.agent import agent, rest
+from bg_switch_tools.fleet.agent.agent import FleetAgent, Lease
+from bg_switch_tools.fleet.agent.candidate import Candidate
+from bg_switch_tools.fleet.agent.handover import Handover
+from bg_switch_tools.fleet.agent.rest import Rest, Standing
+from bg_switch_tools.fleet.agent.store_threads import StoreTurns
+from bg_switch_tools.fleet.record.record import MachineReport
 from tests.fleet_faults import Patch
 
 

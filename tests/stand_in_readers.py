@@ -4,7 +4,7 @@ from collections.abc import Sequence
 from typing import NamedTuple
 
 from support.smuggling.corpus import corpus
-from support.smuggling.echo import Malformed, request_in
+from support.smuggling.echo import MalformedRequestError, request_in
 from support.smuggling.messages import HIDDEN, Message
 from support.smuggling.readings import Item, Read, Reading
 
@@ -51,7 +51,7 @@ class StandIn(NamedTuple):
             source = io.BytesIO(b"POST / HTTP/1.1\r\nTransfer-Encoding: chunked\r\n\r\n" + stream)
             try:
                 body = request_in(source, lambda _: None).body
-            except Malformed:
+            except MalformedRequestError:
                 return None
             return body, len(body), source.read()
         value = fields.get(LENGTH, b"0") if framing == LENGTH else b"0"

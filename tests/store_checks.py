@@ -3,11 +3,11 @@ takes."""
 import time
 from collections.abc import Callable
 
-from bg_switch_tools.fleet.etcd import EtcdStore
-from bg_switch_tools.fleet.etcd_gateway import EtcdSettings
-from bg_switch_tools.fleet.store import StoreFault
-from bg_switch_tools.fleet.store_endpoints import StoreEndpoint
-from bg_switch_tools.fleet.tls_files import TlsFiles
+from bg_switch_tools.fleet.store.etcd import EtcdStore
+from bg_switch_tools.fleet.store.etcd_gateway import EtcdSettings
+from bg_switch_tools.fleet.store.store import StoreError
+from bg_switch_tools.fleet.store.store_endpoints import StoreEndpoint
+from bg_switch_tools.fleet.store.tls_files import TlsFiles
 
 FLEET = "web"
 PREFIX = f"/bg-switch/{FLEET}/"
@@ -29,7 +29,7 @@ def fault_of(call: Callable[[], object]) -> str:
     """The sentence of the fault of a call, which has to have one."""
     try:
         given = call()
-    except StoreFault as fault:
+    except StoreError as fault:
         return str(fault)
     raise AssertionError(f"no fault, but {given!r}")
 

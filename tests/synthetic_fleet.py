@@ -5,8 +5,8 @@ import socket
 import time
 from collections.abc import Sequence
 
-from bg_switch_tools.controller.plan import PlannedRevision
-from bg_switch_tools.fleet.record import (
+from bg_switch_tools.controller.plan.plan import PlannedRevision
+from bg_switch_tools.fleet.record.record import (
     ATTEMPT,
     DEPLOYING,
     FOLLOWS,

@@ -10,8 +10,8 @@ from bg_switch_tools.switch import access_log
 from bg_switch_tools.switch.access_log import (
     Follower,
     LogEntry,
+    LogEntryError,
     LostLines,
-    NoLogEntry,
     read_line,
     time_text,
     written,
@@ -77,7 +77,7 @@ class Lines(unittest.TestCase):
             b'"tries":1e400',
             b'"slot_port":[]',
         ):
-            with self.subTest(member=wrong), self.assertRaises(NoLogEntry):
+            with self.subTest(member=wrong), self.assertRaises(LogEntryError):
                 read_line(LINE[:-1] + b"," + wrong + b"}")
 
     def test_a_refusal_without_an_endpoint(self) -> None:
@@ -149,7 +149,7 @@ class Lines(unittest.TestCase):
             wrong = {"x": 1} if value is None else [value]
             without = {key: each for key, each in whole.items() if key != name}
             for told in ({**whole, name: wrong}, {**whole, name: True}, without):
-                with self.subTest(member=name, told=told), self.assertRaises(NoLogEntry):
+                with self.subTest(member=name, told=told), self.assertRaises(LogEntryError):
                     read_line(json.dumps(told).encode())
         for told in (
             b"",
@@ -171,7 +171,7 @@ class Lines(unittest.TestCase):
             b"\xff",
             b"[" * 100000,
         ):
-            with self.subTest(line=told[:80]), self.assertRaises(NoLogEntry):
+            with self.subTest(line=told[:80]), self.assertRaises(LogEntryError):
                 read_line(told)
 
     def test_further_members_are_passed_over(self) -> None:

@@ -2,10 +2,13 @@
 import unittest
 from collections.abc import Mapping
 
+from bg_switch_tools.switch.before import before, boot_clock
 from bg_switch_tools.switch.connection import Connection
-from bg_switch_tools.switch.before import TOO_LATE, before, boot_clock, without_time_limit
+from bg_switch_tools.switch.lines import Abort, Promote
+from bg_switch_tools.switch.replies import TOO_LATE
 from tests.fake_switch import FakeSwitch
 from tests.tool_runs import WAIT
+from tests.typed_lines import untimed
 
 NOW = 5.0005  # seconds since the boot
 OPEN, DEPLOY = "open web-v1 9101 9102", "deploy web-v2 9201 9202"
@@ -72,17 +75,17 @@ class Answers(unittest.TestCase):
 
     def test_in_time(self) -> None:
         self.pause()
-        self.assertEqual(self.answer("before 5001 promote"), "ok 1")
+        self.assertEqual(self.answer("before 5001 promote"), "ok 3")
         self.assertEqual(self.switch.book.active, 2)
 
     def test_with_the_greatest_number_and_spaces(self) -> None:
         self.pause()
-        self.assertEqual(self.answer("  before  18446744073709551615   promote  "), "ok 1")
+        self.assertEqual(self.answer("  before  18446744073709551615   promote  "), "ok 3")
 
     def test_too_late(self) -> None:
         self.pause()
         for limit in (0, 4999, 5000):
-            self.assertEqual(self.answer(f"before {limit} promote"), TOO_LATE)
+            self.assertEqual(self.answer(f"before {limit} promote"), str(TOO_LATE))
         self.assertEqual(self.switch.book.phase, "paused")
 
     def test_each_event(self) -> None:
@@ -90,26 +93,26 @@ class Answers(unittest.TestCase):
         for line, reply in (
             ("tick 30", "ok 0"),
             ("available 1 2", "ok 0"),
-            ("promote full", "ok 1"),
+            ("promote full", "ok 3"),
             ("promote", "refused NotPaused"),
             ("abort", "refused NothingToAbort"),
             ("retry", "refused NotAborted"),
             ("verdict post failed", "refused NoAnalysis"),
             ("deploy web-v3 9301 9302", "ok 0"),
         ):
-            self.assertEqual(self.answer(f"before 5000 {line}"), TOO_LATE)
+            self.assertEqual(self.answer(f"before 5000 {line}"), str(TOO_LATE))
             self.assertEqual(self.answer(f"before 5001 {line}"), reply, line)
 
 
 class TimeLimits(unittest.TestCase):
     def test_the_time_limit_is_rounded_down(self) -> None:
-        self.assertEqual(before(5.0009, "promote full"), "before 5000 promote full")
-        self.assertEqual(before(-1.0, "abort"), "before 0 abort")
+        self.assertEqual(str(before(5.0009, Promote(is_full=True))), "before 5000 promote full")
+        self.assertEqual(str(before(-1.0, Abort())), "before 0 abort")
 
     def test_the_line_without_its_time_limit(self) -> None:
-        for line in ("promote full", "before", "before 5", "report"):
-            self.assertEqual(without_time_limit(line), line)
-        self.assertEqual(without_time_limit("before 5 promote full"), "promote full")
+        for line in ("promote full", "report"):
+            self.assertEqual(untimed(line), line)
+        self.assertEqual(untimed("before 5 promote full"), "promote full")
 
     def test_the_clock_of_a_switch_is_that_of_the_tools(self) -> None:
         switch = FakeSwitch("pause")

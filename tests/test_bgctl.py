@@ -18,7 +18,7 @@ from bg_switch_tools.bgctl.cli import main
 from bg_switch_tools.bgctl.commands import BGCTL_COMMANDS, FIRST_ONES
 from bg_switch_tools.dashboard import cli as dashboard_cli
 from bg_switch_tools.operator import cli as operator_cli
-from bg_switch_tools.switch.client import Reply, Switch
+from bg_switch_tools.switch.client import Answer, Switch
 from support.processes import Run
 from tests.fake_port import free_port
 from tests.fake_switch import FakeSwitch
@@ -136,7 +136,7 @@ class Words(unittest.TestCase):
     def test_the_statuses_stand_in_the_help_alone(self) -> None:
         self.assertIn(exit_statuses.listed(), run("--help").printed)
         self.assertEqual([status for status, _ in exit_statuses.TABLE], [0, 1, 2, 3, 4, 5, 70, 130])
-        for page in TOP.glob("docs/*.md"):
+        for page in TOP.glob("docs/**/*.md"):
             self.assertNotIn("ended by ctrl-C", page.read_text(encoding="utf-8"), page.name)
 
     def test_the_version_is_that_of_the_switch(self) -> None:
@@ -308,7 +308,7 @@ class Lines(Operated):
         )
 
     def test_interrupted(self) -> None:
-        with mock.patch("bg_switch_tools.switch.client.ask", side_effect=KeyboardInterrupt):
+        with mock.patch("bg_switch_tools.switch.client.ask_report", side_effect=KeyboardInterrupt):
             self.assertEqual(self.bgctl("status").status, 130)
 
 
@@ -448,9 +448,9 @@ class WithoutAPlan(Operated):
         self.assertEqual((waited.status, "steady: active web-v2" in waited.printed), (0, True))
         self.by_hand("deploy web-v3 5 6")
 
-        def aborted_by_another(*_: object, **__: object) -> Reply:
+        def aborted_by_another(*_: object, **__: object) -> Answer:
             self.by_hand("abort")
-            return Reply("deploy web-v3 5 6", ["ok 0"], True, None)
+            return Answer("deploy web-v3 5 6", ["ok 0"], True, None)
 
         with mock.patch.object(Switch, "deploy", side_effect=aborted_by_another):
             aborted = self.bgctl("deploy", "web-v3", "5", "6", "--wait", "--timeout", "5")

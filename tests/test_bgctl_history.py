@@ -9,8 +9,8 @@ import unittest
 from unittest import mock
 
 from bg_switch_tools.bgctl.history_table import duration
-from bg_switch_tools.controller import history_file, history_recorder
-from bg_switch_tools.controller.attempts import (
+from bg_switch_tools.controller.history import history_file, history_recorder
+from bg_switch_tools.controller.history.attempts import (
     DEPLOYED,
     ENDED,
     LIVE,
@@ -19,11 +19,11 @@ from bg_switch_tools.controller.attempts import (
     Event,
     read_event,
 )
-from bg_switch_tools.controller.history_file import HistoryFile
-from bg_switch_tools.controller.history_recorder import HistoryRecorder
+from bg_switch_tools.controller.history.history_file import HistoryFile
+from bg_switch_tools.controller.history.history_recorder import HistoryRecorder
 from bg_switch_tools.controller.log import Log
-from bg_switch_tools.controller.pause import Pause, PauseFile
-from bg_switch_tools.controller.plan import PlannedRevision
+from bg_switch_tools.controller.plan.plan import PlannedRevision
+from bg_switch_tools.controller.state.pause import Pause, PauseFile
 from bg_switch_tools.switch.reports import Report, read_report
 from tests.test_bgctl import run
 

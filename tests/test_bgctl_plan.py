@@ -10,13 +10,13 @@ import unittest
 from typing import Any
 from unittest import mock
 
-from bg_switch_tools.controller import plan_edit
-from bg_switch_tools.controller import plan_author
-from bg_switch_tools.controller.pause import PauseFile
-from bg_switch_tools.controller.plan_author import Author, login_name
-from bg_switch_tools.controller.plan_edit import deploy_by_plan, with_last
-from bg_switch_tools.controller.plan_edit_lock import EditGoesOn, EditLock
-from bg_switch_tools.controller.plan_file import read_whole_plan
+from bg_switch_tools.controller.edits import plan_edit
+from bg_switch_tools.controller.edits.plan_edit import deploy_by_plan, with_last
+from bg_switch_tools.controller.edits.plan_edit_lock import EditInProgressError, EditLock
+from bg_switch_tools.controller.plan.plan_file import read_whole_plan
+from bg_switch_tools.controller.state import plan_author
+from bg_switch_tools.controller.state.pause import PauseFile
+from bg_switch_tools.controller.state.plan_author import Author, login_name
 from support.processes import Run
 from tests.test_bgctl import run
 from tests.test_controller import NAMES, ControllerCase
@@ -100,7 +100,7 @@ class Edits(unittest.TestCase):
     def test_a_crash_before_the_file_is_in_place_changes_nothing(self) -> None:
         before = self.path.read_bytes()
         with mock.patch(
-            "bg_switch_tools.controller.state_file.os.replace",
+            "bg_switch_tools.controller.state.state_file.os.replace",
             side_effect=OSError(5, "Input/output error"),
         ), self.assertRaises(OSError):
             deploy_by_plan(str(self.path), "web-v3", [3])
@@ -125,7 +125,7 @@ class Edits(unittest.TestCase):
 
     def test_the_lock_is_waited_for_and_no_longer_than_told(self) -> None:
         with EditLock(str(self.path)):
-            with self.assertRaises(EditGoesOn), EditLock(str(self.path), 0.1):
+            with self.assertRaises(EditInProgressError), EditLock(str(self.path), 0.1):
                 self.fail("two have the lock")
             with mock.patch.object(plan_edit, "EditLock", lambda path: EditLock(path, 0.1)):
                 told = run("deploy", "web-v3", "3", "--plan", str(self.path))
@@ -175,7 +175,7 @@ class ByAPlan(ControllerCase):
 
     def bgctl(self, *words: str, who: str = "alice") -> Run:
         with mock.patch.object(plan_author, "login_name", return_value=who), mock.patch(
-            "bg_switch_tools.controller.pause.login_name", return_value=who
+            "bg_switch_tools.controller.state.pause.login_name", return_value=who
         ):
             return run(*words, BG_PLAN=self.plan.path)
 

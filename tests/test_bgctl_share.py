@@ -8,12 +8,12 @@ import tempfile
 import unittest
 
 from bg_switch_tools.bgctl.commands import BGCTL_COMMANDS, NAMES
-from bgctl_share import TOOLS
 from tests.fake_switch import FakeSwitch
 from tests.tool_runs import TOP
+from tools.bgctl_share import TOOLS
 
 PYTHON = "/usr/bin/python3"
-SCRIPT = TOP / "scripts" / "bgctl_share.py"
+SCRIPT = TOP / "tools" / "bgctl_share.py"
 
 # zsh completes at a terminal alone: one of its own, in which the keys ^T and ^O take all words, and
 # tell the line

@@ -2,22 +2,25 @@
 import unittest
 from collections.abc import Callable
 
-from bg_switch_tools.switch.client import Reply, Switch
+from bg_switch_tools.switch.client import Answer, Switch
 from bg_switch_tools.switch.conditions import Conditions
-from bg_switch_tools.switch.connection import Unreachable
+from bg_switch_tools.switch.connection import UnreachableError
+from bg_switch_tools.switch.lines import AnalysisKind, VerdictResult
 from bg_switch_tools.switch.wait import NEVER, REACHED, TOO_LATE, wait_for
 from tests.fake_port import ENDS, REPORT, FakePort, free_port
 from tests.tool_runs import WithBook
 
 # by the line that is sent: the call
-CALLS: dict[str, Callable[[Switch], Reply]] = {
+CALLS: dict[str, Callable[[Switch], Answer]] = {
     "deploy web-v2 3 4": lambda switch: switch.deploy("web-v2", (3, 4)),
     "promote": lambda switch: switch.promote(),
     "promote full": lambda switch: switch.promote(full=True),
     "abort": lambda switch: switch.abort(),
     "retry": lambda switch: switch.retry(),
-    "verdict pre successful": lambda switch: switch.verdict("pre", "successful"),
-    "verdict post error": lambda switch: switch.verdict("post", "error"),
+    "verdict pre successful": lambda switch: switch.verdict(
+        AnalysisKind.PRE, VerdictResult.SUCCESSFUL
+    ),
+    "verdict post error": lambda switch: switch.verdict(AnalysisKind.POST, VerdictResult.ERROR),
     "tick 7": lambda switch: switch.send(b"tick 7"),
     "jump 1": lambda switch: switch.send(b"jump 1"),
 }
@@ -47,6 +50,13 @@ class Calls(unittest.TestCase):
                     (False, "out of memory; nothing has changed", None),
                 )
 
+    def test_a_reply_of_a_newer_switch_is_passed_on(self) -> None:
+        with FakePort(lambda told: [*REPORT] if told == "report" else ["later 5"]) as port:
+            answer = Switch(port.port, 5).send(b"postpone 5")
+            self.assertEqual(
+                (answer.lines, answer.carried_out, answer.meaning), (["later 5"], True, None)
+            )
+
     def test_a_shutdown_has_no_reply(self) -> None:
         with FakePort(lambda told: [*REPORT] if told == "report" else ENDS) as port:
             reply = Switch(port.port, 5).shut_down()
@@ -55,7 +65,7 @@ class Calls(unittest.TestCase):
 
     def test_nobody_answers(self) -> None:
         for call in CALLS.values():
-            with self.assertRaisesRegex(Unreachable, "can't be reached"):
+            with self.assertRaisesRegex(UnreachableError, "can't be reached"):
                 call(Switch(free_port(), 0.1))
 
 
@@ -77,7 +87,7 @@ class WithASwitch(WithBook):
         text = "not sent: revision 2 web-v2 is the newest one, and not web-v1"
         self.assertEqual((reply.carried_out, reply.meaning, reply.note), (False, text, text))
         self.assertEqual(self.switch.sent_lines(), [])
-        self.assertEqual(self.client.promote(name="web-v2").lines, ["ok 1"])
+        self.assertEqual(self.client.promote(name="web-v2").lines, ["ok 3"])
 
     def test_a_deploy_says_what_it_has_made(self) -> None:
         self.assertEqual(self.client.deploy("web-v2", [3, 4]).note, "makes revision 2 web-v2")
@@ -94,7 +104,8 @@ class WithASwitch(WithBook):
         self.assertEqual(self.switch.sent_lines(), ["deploy w\u00c3\u00a9b \u00ff 3 4"])
 
     def test_a_tick_far_ahead_needs_somebody_who_is_sure(self) -> None:
-        self.assertFalse(self.client.send(b"tick 999999").carried_out)
+        for line in (b"tick 999999", b"before 5 tick 999999", b" tick  99999999999999999999 \r"):
+            self.assertIn("more than a day ahead", self.client.send(line).note or "", line)
         self.assertEqual([line for line in self.switch.lines if line != "report"], [])
         self.assertTrue(self.client.send(b"tick 999999", is_sure=True).carried_out)
 

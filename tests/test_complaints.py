@@ -60,7 +60,7 @@ class Controlled(unittest.TestCase):
         self.write("web-v1", "web-v2")
         run = self.run_controller()
         self.assertTrue(comes(lambda: self.switch.book.phase == "paused"), run.log)
-        self.assertEqual(operator(self.switch.port, "promote").printed, "ok 1\n")
+        self.assertEqual(operator(self.switch.port, "promote").printed, "ok 3\n")
         self.write("web-v1", "web-v2", "web-v3")
         self.assertTrue(
             comes(lambda: (self.switch.book.phase, self.switch.book.newest) == ("paused", 3)),
@@ -101,7 +101,7 @@ class ControllerCrashes(Controlled):
     def test_a_controller_started_again_deploys_nothing_that_was_undone(self) -> None:
         run = self.bring_v2_out()
         self.assertEqual(
-            operator(self.switch.port, "deploy", *self.words("web-v2").split()).printed, "ok 0\n"
+            operator(self.switch.port, "deploy", *self.words("web-v2").split()).printed, "ok 1\n"
         )
         run.kill()
         self.switch.lines.clear()

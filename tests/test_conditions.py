@@ -3,7 +3,7 @@ sent."""
 import unittest
 from collections.abc import Sequence
 
-from bg_switch_tools.switch.conditions import Conditions, WrongCondition, read_condition
+from bg_switch_tools.switch.conditions import ConditionError, Conditions, read_condition
 from bg_switch_tools.switch.reports import Report, read_report
 
 HOLDS, MAY_COME = "holds", "may come"
@@ -163,7 +163,7 @@ class Wrong(unittest.TestCase):
             ("settled=yes", "a condition is needed"),
             ("", "a condition is needed"),
         ):
-            with self.subTest(text=text), self.assertRaisesRegex(WrongCondition, expected):
+            with self.subTest(text=text), self.assertRaisesRegex(ConditionError, expected):
                 read_condition(text)
 
 

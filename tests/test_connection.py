@@ -10,7 +10,10 @@ import unittest.mock
 from collections.abc import Sequence
 
 from bg_switch_tools.switch import connection
-from bg_switch_tools.switch.connection import Connection, Unreachable, ask, words_of
+from bg_switch_tools.switch.connection import Connection, UnreachableError, ask, ask_report
+from bg_switch_tools.switch.lines import Abort, Tick, words_of
+from bg_switch_tools.switch.replies import Done
+from bg_switch_tools.switch.reports import read_report
 from tests.fake_port import ENDS, REPORT, FakePort, free_port
 
 
@@ -46,7 +49,7 @@ class Ask(unittest.TestCase):
             self.assertEqual(port.lines, ["report", "quit"])
 
     def test_nothing_listens(self) -> None:
-        with self.assertRaisesRegex(Unreachable, "can't be reached"):
+        with self.assertRaisesRegex(UnreachableError, "can't be reached"):
             ask(free_port(), b"report", 0.2)
 
     def test_a_switch_that_starts_is_waited_for(self) -> None:
@@ -62,7 +65,7 @@ class Ask(unittest.TestCase):
     def test_a_port_that_gives_no_answer(self) -> None:
         with FakePort(usual) as port, Connection(port.port, 5) as holder:
             self.assertEqual(holder.answer(b"tick 1"), ["ok 0"])
-            with self.assertRaisesRegex(Unreachable, "gave no answer in time"):
+            with self.assertRaisesRegex(UnreachableError, "gave no answer in time"):
                 ask(port.port, b"tick 2", 0.2)
             holder.close()
             self.assertEqual(ask(port.port, b"tick 3", 5), ["ok 0"])
@@ -70,7 +73,9 @@ class Ask(unittest.TestCase):
 
     def test_no_reply_after_the_line_was_sent(self) -> None:
         with FakePort(lambda line: REPORT if line == "report" else ENDS) as port:
-            with self.assertRaisesRegex(Unreachable, "a report tells whether it was carried out"):
+            with self.assertRaisesRegex(
+                UnreachableError, "a report tells whether it was carried out"
+            ):
                 ask(port.port, b"promote", 5)
 
     def test_the_wait_is_for_the_whole_of_a_reply(self) -> None:
@@ -79,7 +84,7 @@ class Ask(unittest.TestCase):
             return ["ok 0"]
 
         with FakePort(slowly) as port, Connection(port.port, 0.4) as connection:
-            with self.assertRaises(Unreachable):
+            with self.assertRaises(UnreachableError):
                 connection.answers([b"tick 1"] * 6)
 
     def test_a_peer_that_is_no_switch(self) -> None:
@@ -90,9 +95,31 @@ class Ask(unittest.TestCase):
         ]
         for reply in wrong_ones:
             with FakePort(lambda line: reply) as port, self.assertRaisesRegex(
-                Unreachable, "is not a switch"
+                UnreachableError, "is not a switch"
             ):
                 ask(port.port, b"report", 5)
+
+
+class Values(unittest.TestCase):
+    """Lines and replies as values."""
+
+    def test_each_line_has_its_reply(self) -> None:
+        with FakePort(usual) as port, Connection(port.port, 5) as connection:
+            self.assertEqual(connection.carry_out(Tick(1)), Done(0))
+            self.assertEqual(connection.carry_out_all([Tick(2), Abort()]), [Done(0), Done(0)])
+            self.assertEqual(port.lines, ["tick 1", "tick 2", "abort"])
+
+    def test_a_report(self) -> None:
+        with FakePort(usual) as port, Connection(port.port, 5) as connection:
+            self.assertEqual(connection.ask_report(), read_report(REPORT))
+        with FakePort(lambda line: ["refused NotOpen"]) as port:
+            self.assertIsNone(ask_report(port.port, 5))
+
+    def test_a_reply_that_is_none(self) -> None:
+        for reply in ("", "done", "ok", "ok x", "refused", "HTTP/1.1 400 Bad Request"):
+            with FakePort(lambda line: [reply]) as port, Connection(port.port, 5) as connection:
+                with self.assertRaisesRegex(UnreachableError, "is not a switch"):
+                    connection.carry_out(Tick(1))
 
 
 class Sockets(unittest.TestCase):
@@ -114,15 +141,19 @@ class Sockets(unittest.TestCase):
             (["x"], f"what answers at socket {self.path} is not a switch"),
         ):
             with FakePort(lambda line: reply, path=self.path) as port:
-                with self.assertRaisesRegex(Unreachable, told):
+                with self.assertRaisesRegex(UnreachableError, told):
                     ask(port.control, b"report", 5)
             os.unlink(self.path)
 
     def test_no_socket_and_one_at_which_nobody_listens(self) -> None:
-        with self.assertRaisesRegex(Unreachable, f"^socket {self.path} can't be reached: No such"):
+        with self.assertRaisesRegex(
+            UnreachableError, f"^socket {self.path} can't be reached: No such"
+        ):
             ask(self.path, b"report", 0.2)
         FakePort(usual, path=self.path).close()
-        with self.assertRaisesRegex(Unreachable, f"^socket {self.path} can't be reached: Conn"):
+        with self.assertRaisesRegex(
+            UnreachableError, f"^socket {self.path} can't be reached: Conn"
+        ):
             ask(self.path, b"report", 0.2)
 
     def test_a_switch_that_starts_is_waited_for(self) -> None:
@@ -137,7 +168,9 @@ class Sockets(unittest.TestCase):
         refused = PermissionError(errno.EACCES, "Permission denied")
         with unittest.mock.patch.object(connection, "connected", side_effect=refused):
             start = time.monotonic()
-            with self.assertRaisesRegex(Unreachable, "can't be opened by this user: Permission"):
+            with self.assertRaisesRegex(
+                UnreachableError, "can't be opened by this user: Permission"
+            ):
                 ask(self.path, b"report", 5)
             self.assertLess(time.monotonic() - start, 1)
 
@@ -145,7 +178,7 @@ class Sockets(unittest.TestCase):
         with socket.create_server(self.path, family=socket.AF_UNIX, backlog=0):
             with socket.socket(socket.AF_UNIX) as first:
                 first.connect(self.path)
-                with self.assertRaisesRegex(Unreachable, "others wait there already"):
+                with self.assertRaisesRegex(UnreachableError, "others wait there already"):
                     ask(self.path, b"report", 0.3)
 
 
@@ -166,18 +199,18 @@ class Lines(unittest.TestCase):
     def test_orders_of_this_user_are_not_taken(self) -> None:
         for line in ("report", "abort", "quit"):
             with FakePort(lambda line: ["refused NotAllowed"]) as port, self.assertRaisesRegex(
-                Unreachable, "no lines of this user"
+                UnreachableError, "no lines of this user"
             ):
                 ask(port.port, line.encode("ascii"), 5)
         with FakePort(lambda line: ["refused NotAllowed"]) as port, Connection(
             port.port, 1
         ) as connection:
-            with self.assertRaisesRegex(Unreachable, "no lines of this user"):
+            with self.assertRaisesRegex(UnreachableError, "no lines of this user"):
                 connection.quit()
 
     def test_the_switch_ends_the_connection(self) -> None:
         with FakePort(lambda line: ENDS) as port, Connection(port.port, 5) as connection:
-            with self.assertRaisesRegex(Unreachable, "ended the connection"):
+            with self.assertRaisesRegex(UnreachableError, "ended the connection"):
                 connection.answer_to("tick 1")
 
 

@@ -11,12 +11,15 @@ import unittest
 from collections.abc import Sequence
 from unittest import mock
 
-from bg_switch_tools.controller import book, cli as controller_cli, controller, memory
+from bg_switch_tools.controller import cli as controller_cli
 from bg_switch_tools.controller.cli import Runner
-from bg_switch_tools.controller.former_switches import is_gone
+from bg_switch_tools.controller.endpoints.former_switches import is_gone
+from bg_switch_tools.controller.history import memory
+from bg_switch_tools.controller.lines import book
 from bg_switch_tools.controller.log import Log
-from bg_switch_tools.controller.plan_file import PlanFile
-from bg_switch_tools.controller.state_file import StateFile, StateLock
+from bg_switch_tools.controller.plan.plan_file import PlanFile
+from bg_switch_tools.controller.rounds import controller
+from bg_switch_tools.controller.state.state_file import StateFile, StateLock
 from support.pace import is_within
 from tests.fake_port import REPORT, FakePort
 from tests.fake_switch import FakeBook, FakeSwitch

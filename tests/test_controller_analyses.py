@@ -11,15 +11,21 @@ import unittest
 from collections.abc import Mapping
 from unittest import mock
 
-from bg_switch_tools.controller import analysis_runner, printed_lines
-from bg_switch_tools.controller.analysis_process import (
+from bg_switch_tools.controller.analyses import analysis_runner, printed_lines
+from bg_switch_tools.controller.analyses.analysis_process import (
     SETTLE,
     AnalysesOfPhase,
     Analysis,
     AnalysisCommand,
     Judged,
 )
-from bg_switch_tools.controller.analysis_results import (
+from bg_switch_tools.controller.analyses.printed_lines import PIECE, PrintedLines, shown
+from bg_switch_tools.controller.history.history_file import HistoryFile
+from bg_switch_tools.controller.history.history_recorder import HistoryRecorder
+from bg_switch_tools.controller.log import Log
+from bg_switch_tools.controller.plan.plan import PlannedAnalysis, PlannedRevision
+from bg_switch_tools.controller.process_groups import identity
+from bg_switch_tools.controller.state.analysis_results import (
     LONGEST_LINE,
     PAUSE,
     AnalysisResult,
@@ -27,21 +33,16 @@ from bg_switch_tools.controller.analysis_results import (
     AttemptResults,
     ResultsFile,
 )
-from bg_switch_tools.controller.history_file import HistoryFile
-from bg_switch_tools.controller.history_recorder import HistoryRecorder
-from bg_switch_tools.controller.log import Log
-from bg_switch_tools.controller.pause import PauseFile
-from bg_switch_tools.controller.plan import PlannedAnalysis, PlannedRevision
-from bg_switch_tools.controller.printed_lines import PIECE, PrintedLines, shown
-from bg_switch_tools.controller.process_groups import identity
-from bg_switch_tools.controller.state_file import StateFile
+from bg_switch_tools.controller.state.pause import PauseFile
+from bg_switch_tools.controller.state.state_file import StateFile
+from bg_switch_tools.switch.lines import AnalysisKind
 from support.pace import is_within
 from tests.test_bgctl import run
 from tests.test_bgctl_history import KNOWN, report
 from tests.test_controller import NAMES, ControllerCase
 from tests.tool_runs import comes
 
-JUDGED = Judged("post", 2, PlannedRevision("web-v2", (1, 2)), 8082)
+JUDGED = Judged(AnalysisKind.POST, 2, PlannedRevision("web-v2", (1, 2)), 8082)
 SLEEPS = "echo $$ > {}; exec sleep 60"
 STUBBORN = "trap '' TERM; echo $$ > {}; while :; do sleep 0.05; done"
 

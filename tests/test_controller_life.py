@@ -10,9 +10,9 @@ import time
 import unittest
 from unittest import mock
 
-from bg_switch_tools.controller import controller_life
-from bg_switch_tools.controller.controller_life import Life, life_of
-from bg_switch_tools.controller.state_file import IsLocked, StateLock
+from bg_switch_tools.controller.state import controller_life
+from bg_switch_tools.controller.state.controller_life import Life, life_of
+from bg_switch_tools.controller.state.state_file import StateLock, StateLockedError
 from bg_switch_tools.dashboard.local_controller import LocalController
 from support.processes import Run
 from tests.fake_switch import FakeSwitch
@@ -82,7 +82,7 @@ class Locks(unittest.TestCase):
         self.lock().release()
         self.assertEqual(life_of(self.plan).life, Life.DOWN)
         self.lock()
-        with self.assertRaises(IsLocked):
+        with self.assertRaises(StateLockedError):
             StateLock(self.plan)
 
 

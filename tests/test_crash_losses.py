@@ -8,9 +8,10 @@ import time
 import unittest
 from unittest import mock
 
-from bg_switch_tools.controller import analysis_runner, controller
-from bg_switch_tools.controller.controller import ROUND as OWN_ROUND
-from bg_switch_tools.controller.state_file import StateFile
+from bg_switch_tools.controller.analyses import analysis_runner
+from bg_switch_tools.controller.rounds import controller
+from bg_switch_tools.controller.rounds.controller import ROUND as OWN_ROUND
+from bg_switch_tools.controller.state.state_file import StateFile
 from bg_switch_tools.switch.moments import DAY, believed
 from tests.test_complaints import Controlled
 from tests.test_controller import NAMES, ControllerCase
@@ -120,6 +121,8 @@ class LostSteps(ControllerCase):
         self.write(*NAMES[:2])
         self.start()
         self.await_book("paused", 2)
+        # an open request keeps the revision from its scale-down
+        self.assertRegex((self.switch.book.answer("enter 0 preview") or [""])[0], "^entered ")
         self.by_hand("abort")
         self.by_hand("deploy hotfix 1 2")
         self.some_rounds()

@@ -4,12 +4,12 @@ import re
 import unittest
 
 from crate_list import crates_in
-from crate_map import DRAWING, PAGE, drawing, layers_of, map_of, nearest
 from tests.tool_runs import TOP
+from tools.crate_map import DRAWING, PAGE, drawing, layers_of, map_of, nearest
 
 CRATES = crates_in((TOP / "crates.txt").read_text(encoding="utf-8"))
-MEND = "run scripts/crate_map.py --write"
-MOST_LINES_DRAWN = 62
+MEND = "run tools/crate_map.py --write"
+MOST_LINES_DRAWN = 69
 SMALL = crates_in(
     "bg_low: std\nbg_beside:\nbg_middle: bg_low std\nbg_top: bg_low bg_middle bg_beside\n"
 )

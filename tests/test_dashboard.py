@@ -14,13 +14,13 @@ import zipapp
 from collections.abc import Sequence
 
 from bg_switch_tools import VERSION
-from bg_switch_tools.controller.plan import PlannedRevision
-from bg_switch_tools.controller.analysis_results import (
+from bg_switch_tools.controller.plan.plan import PlannedRevision
+from bg_switch_tools.controller.state.analysis_results import (
     AnalysisResult,
     AttemptResults,
     ResultsFile,
 )
-from bg_switch_tools.controller.state_file import HeldBack, State, StateFile, StateLock
+from bg_switch_tools.controller.state.state_file import HeldBack, State, StateFile, StateLock
 from bg_switch_tools.switch.access_log import LogEntry
 from support.pace import is_within
 from tests.dashboard_runs import HAS_LIBRARIES, MISSING, PYTHON, Answer, WithDashboard
@@ -539,13 +539,13 @@ class Commanded(Dashboard):
         answer = self.send_command()
         self.assertEqual(
             (answer.status, answer.told()),
-            (200, {"line": "promote", "reply": "ok 1", "carried_out": True, "meaning": None}),
+            (200, {"line": "promote", "reply": "ok 2", "carried_out": True, "meaning": None}),
         )
         again = self.send_command().told()
         self.assertEqual(
             (again["carried_out"], again["meaning"]), (False, "the rollout is not paused")
         )
-        self.assertTrue(comes(lambda: "promote => ok 1" in self.get("/api/state").body))
+        self.assertTrue(comes(lambda: "promote => ok 2" in self.get("/api/state").body))
         self.assertEqual(self.switch.sent_lines(), ["promote", "promote"])
 
     def test_what_is_refused(self) -> None:

@@ -11,13 +11,13 @@ import time
 import unittest
 from collections.abc import Mapping
 
-from bg_switch_tools.controller.analysis_results import (
+from bg_switch_tools.controller.state.analysis_results import (
     AnalysisResult,
     AttemptResults,
     ResultsFile,
 )
-from bg_switch_tools.fleet.agent_status import AgentStatus
-from bg_switch_tools.fleet.record import (
+from bg_switch_tools.fleet.agent.agent_status import AgentStatus
+from bg_switch_tools.fleet.record.record import (
     ABORT,
     ABORTED,
     FAILED,

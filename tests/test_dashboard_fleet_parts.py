@@ -7,7 +7,7 @@ from bg_switch_tools.dashboard import fleet_json
 from bg_switch_tools.dashboard.fleet_board import LONGEST_TEXT, MOST_HAPPENED, FleetBoard
 from bg_switch_tools.dashboard.fleet_json import MOST_SHOWN
 from bg_switch_tools.dashboard.fleet_state import steps_of
-from bg_switch_tools.fleet.record import (
+from bg_switch_tools.fleet.record.record import (
     ABORT,
     ABORTED,
     ATTEMPT,
@@ -27,8 +27,8 @@ from bg_switch_tools.fleet.record import (
     WORKING,
     Record,
 )
-from bg_switch_tools.fleet.status import status_of
-from bg_switch_tools.fleet.store import StoreFault
+from bg_switch_tools.fleet.record.status import status_of
+from bg_switch_tools.fleet.store.store import StoreError
 from tests.memory_store import MemoryStore
 from tests.synthetic_fleet import HOSTS, V1, V2, SyntheticFleet
 
@@ -51,7 +51,7 @@ class Looked(unittest.TestCase):
         self.at += seconds
         try:
             self.board.take_read(self.store.read())
-        except StoreFault as fault:
+        except StoreError as fault:
             self.board.take_silence(str(fault))
 
     def said(self, act: Callable[[], object]) -> list[tuple[str, str]]:

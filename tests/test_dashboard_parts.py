@@ -10,9 +10,9 @@ from bg_switch_tools.dashboard.alarms import without_endpoint
 from bg_switch_tools.dashboard.board import MOST_HAPPENED, Board
 from bg_switch_tools.dashboard.guard import fault_of, is_token
 from bg_switch_tools.dashboard.page_commands import (
-    NewestHasChanged,
+    NewestChangedError,
     PageCommand,
-    WrongPageCommand,
+    PageCommandError,
     read_page_command,
     send_page_command,
 )
@@ -20,8 +20,11 @@ from bg_switch_tools.dashboard.steps import NAMES, SeenPhases, possible_commands
 from bg_switch_tools.dashboard.totals import DurationTally, Labels, Totals, reasons
 from bg_switch_tools.dashboard.traffic import Durations, Traffic
 from bg_switch_tools.switch.access_log import Batch, LogEntry, written
+from bg_switch_tools.switch.lines import Abort, Promote
+from bg_switch_tools.switch.phases import PHASES, RUNNING, Phase
+from bg_switch_tools.switch.replies import Done, Refused
 from bg_switch_tools.switch.report_text import in_one_line
-from bg_switch_tools.switch.reports import PHASES, RUNNING, Report, read_report
+from bg_switch_tools.switch.reports import Report, read_report
 from tests.costs import processor_seconds_of, steps_of
 from tests.fake_switch import FakeBook, FakeSwitch
 from tests.synthetic_log import ANSWERED, BEGIN, Part, entries, refused
@@ -216,11 +219,13 @@ class Counted(unittest.TestCase):
 
 
 class Steps(unittest.TestCase):
-    def states(self, phase: str, failed_at: str = "", seen: Sequence[str] = PHASES) -> list[str]:
+    def states(
+        self, phase: Phase, failed_at: Phase | None = None, seen: Sequence[Phase] = PHASES
+    ) -> list[str]:
         book = FakeBook()
         book.answer("open web-v1 1 2")
-        book.phase = phase
-        report = read_report(book.answer("report") or [])
+        lines = book.answer("report") or []
+        report = read_report([line.replace("phase steady", f"phase {phase}") for line in lines])
         assert report is not None
         return [step["state"] for step in steps(report, seen, failed_at)]
 
@@ -229,25 +234,29 @@ class Steps(unittest.TestCase):
 
     def test_each_phase(self) -> None:
         for phase, place in (
-            ("scaling", 0),
-            ("preAnalysis", 1),
-            ("paused", 2),
-            ("sizing", 3),
-            ("postAnalysis", 5),
+            (Phase.SCALING, 0),
+            (Phase.PRE_ANALYSIS, 1),
+            (Phase.PAUSED, 2),
+            (Phase.SIZING, 3),
+            (Phase.POST_ANALYSIS, 5),
         ):
             self.assertEqual(
                 self.states(phase), ["done"] * place + ["current"] + ["ahead"] * (6 - place)
             )
-        self.assertEqual(self.states("steady"), ["done"] * 7)
-        self.assertEqual(self.states("aborted", "postAnalysis"), ["done"] * 5 + ["failed", "ahead"])
-        self.assertEqual(self.states("aborted"), ["ahead"] * 7)
+        self.assertEqual(self.states(Phase.STEADY), ["done"] * 7)
+        self.assertEqual(
+            self.states(Phase.ABORTED, Phase.POST_ANALYSIS), ["done"] * 5 + ["failed", "ahead"]
+        )
+        self.assertEqual(self.states(Phase.ABORTED), ["ahead"] * 7)
 
     def test_a_step_that_was_not_seen(self) -> None:
         self.assertEqual(
-            self.states("postAnalysis", "", ["scaling", "postAnalysis"]),
+            self.states(Phase.POST_ANALYSIS, None, [Phase.SCALING, Phase.POST_ANALYSIS]),
             ["done", "passed", "passed", "passed", "done", "current", "ahead"],
         )
-        self.assertEqual(self.states("steady", "", []), ["passed"] * 4 + ["done", "passed", "done"])
+        self.assertEqual(
+            self.states(Phase.STEADY, None, []), ["passed"] * 4 + ["done", "passed", "done"]
+        )
 
     def test_what_is_seen_of_an_attempt(self) -> None:
         attempt = SeenPhases()
@@ -258,21 +267,21 @@ class Steps(unittest.TestCase):
             (["scaling", "paused", "postAnalysis"], "postAnalysis"),
         )
         attempt.take(reports(*PAUSED, "abort", "retry")[-1])
-        self.assertEqual((attempt.seen, attempt.failed_at), (["paused"], ""))
+        self.assertEqual((attempt.seen, attempt.failed_at), (["paused"], None))
         attempt.take(reports(*PAUSED, "deploy web-v3 5 6")[-1])
         self.assertEqual(attempt.seen, ["scaling"])
         attempt.take(reports(*PAUSED, "deploy web-v3 5 6", "abort")[-1])
         self.assertEqual(attempt.failed_at, "scaling")
         late = SeenPhases()
         late.take(reports(*PAUSED, "abort")[-1])
-        self.assertEqual(late.failed_at, "")
+        self.assertIsNone(late.failed_at)
 
     def test_orders(self) -> None:
         told = reports(*PAUSED, "promote", "abort")
         running = ["promote full", "abort"]
         self.assertEqual(
             [
-                [name for name, can in possible_commands(report).items() if can]
+                [str(line) for line, can in possible_commands(report).items() if can]
                 for report in told[1:]
             ],
             [[], running, ["promote", *running], running, ["retry"]],
@@ -390,7 +399,7 @@ class Boards(unittest.TestCase):
 
     def test_no_list_grows_without_end(self) -> None:
         for _ in range(300):
-            self.board.note_line("promote", "refused NotPaused")
+            self.board.note_line(Promote(), Refused("NotPaused"))
             self.board.take_batch(Batch([refused("connect_failed")] * 30, 0, 0), "")
         self.assertEqual((len(self.board.happened), len(self.board.failed)), (MOST_HAPPENED, 50))
         self.assertEqual(
@@ -551,7 +560,7 @@ class PageCommands(unittest.TestCase):
     def test_what_is_an_order(self) -> None:
         self.assertEqual(
             read_page_command(b'{"order": "promote full", "revision": 2}'),
-            PageCommand("promote full", 2),
+            PageCommand(Promote(is_full=True), 2),
         )
         for wrong in (
             b"",
@@ -567,22 +576,22 @@ class PageCommands(unittest.TestCase):
             b'{"order": ["abort"], "revision": 2}',
             b'{"order": "abort", "order": "promote", "revision": 2}',
         ):
-            with self.subTest(text=wrong), self.assertRaises(WrongPageCommand):
+            with self.subTest(text=wrong), self.assertRaises(PageCommandError):
                 read_page_command(wrong)
 
     def test_an_order_for_another_revision_is_not_sent(self) -> None:
         switch = FakeSwitch("pause")
         self.addCleanup(switch.kill)
-        with self.assertRaises(NewestHasChanged):
-            send_page_command(switch.port, PageCommand("abort", 1))
+        with self.assertRaises(NewestChangedError):
+            send_page_command(switch.port, PageCommand(Abort(), 1))
         for line in PAUSED:
             switch.book.answer(line)
-        with self.assertRaises(NewestHasChanged):
-            send_page_command(switch.port, PageCommand("promote", 1))
+        with self.assertRaises(NewestChangedError):
+            send_page_command(switch.port, PageCommand(Promote(), 1))
         self.assertEqual(switch.sent_lines(), [])
         self.assertEqual(
-            (send_page_command(switch.port, PageCommand("promote", 2)), switch.sent_lines()),
-            ("ok 1", ["promote"]),
+            (send_page_command(switch.port, PageCommand(Promote(), 2)), switch.sent_lines()),
+            (Done(3), ["promote"]),
         )
 
 

@@ -7,7 +7,7 @@ import tempfile
 import unittest
 import zipapp
 
-from bg_switch_tools.controller.plan_reader import read_plan
+from bg_switch_tools.controller.plan.plan_reader import read_plan
 from tests.fake_switch import FakeSwitch
 from tests.tool_runs import TOP, WAIT, Endpoint, comes, controlling, plan_of
 

@@ -5,14 +5,14 @@ import unittest
 from collections.abc import Callable
 from unittest import mock
 
-from bg_switch_tools.controller.plan import PlannedRevision
-from bg_switch_tools.fleet.agent import FleetAgent
-from bg_switch_tools.fleet.candidate import Candidate, Clocks, Pending
-from bg_switch_tools.fleet.fleet_plan import MachineSettings, read_stored_plan
-from bg_switch_tools.fleet.machine import FRESH, RETRY, Machine
-from bg_switch_tools.fleet.machine_state import MachineState
-from bg_switch_tools.fleet.next_line import Joined
-from bg_switch_tools.fleet.record import (
+from bg_switch_tools.controller.plan.plan import PlannedRevision
+from bg_switch_tools.fleet.agent.agent import FleetAgent
+from bg_switch_tools.fleet.agent.candidate import Candidate, Clocks, Pending
+from bg_switch_tools.fleet.machine.line_table import Joined
+from bg_switch_tools.fleet.machine.machine import FRESH, RETRY, Machine
+from bg_switch_tools.fleet.machine.machine_state import MachineState
+from bg_switch_tools.fleet.plan.fleet_plan import MachineSettings, read_stored_plan
+from bg_switch_tools.fleet.record.record import (
     ABORTED,
     DEPLOYING,
     FAILED,
@@ -25,13 +25,15 @@ from bg_switch_tools.fleet.record import (
     View,
     read_machine_report,
 )
-from bg_switch_tools.fleet.store import Compare, Snapshot, StoreFault
+from bg_switch_tools.fleet.store.store import Compare, Snapshot, StoreError
+from bg_switch_tools.switch.lines import Abort, Deploy, Line, Promote, Retry
 from bg_switch_tools.switch.reports import Report
 from tests.memory_store import Keys, MemoryStore
-from tests.test_fleet_next_line import report
+from tests.test_fleet_line_table import report
 
 V1, V2 = PlannedRevision("web-v1", (9101,)), PlannedRevision("web-v2", (9201,))
 SETTINGS = MachineSettings(8082, {"errors": ("./errors.sh",)})
+DEPLOY = Deploy(V2.name, V2.ports)
 PAUSED = report("paused", "web-v1", "web-v2")
 
 
@@ -93,9 +95,8 @@ class FleetCase(unittest.TestCase):
     def join(self, agent: FleetAgent) -> None:
         """The switch has carried out the deploy of the record's revision."""
         agent.read()
-        agent.machine.take_reply(
-            "deploy web-v2 9201", True, "ok 0", report("steady", "web-v1", "web-v1"), self.time
-        )
+        steady = report("steady", "web-v1", "web-v1")
+        agent.machine.take_reply(DEPLOY, True, "ok 0", steady, self.time)
 
     def told(self) -> MachineReport:
         return read_machine_report(self.keys.keys["machines/a"].value)
@@ -106,18 +107,18 @@ class FleetCase(unittest.TestCase):
 
 
 class Freshness(FleetCase):
-    def line(self, told: Report = PAUSED) -> str | None:
-        return self.agent.machine.next_line(told, self.time)
+    def line(self, told: Report = PAUSED) -> Line | None:
+        return self.agent.machine.permitted_line(told, self.time)
 
     def test_a_promote_rests_on_a_fresh_read(self) -> None:
         self.join(self.agent)
-        self.assertEqual(self.line(), "promote")
+        self.assertEqual(self.line(), Promote())
         self.time += FRESH - 0.01
-        self.assertEqual(self.line(), "promote")
+        self.assertEqual(self.line(), Promote())
         self.time += 0.01
         self.assertIsNone(self.line())
         self.agent.read()
-        self.assertEqual(self.line(), "promote")
+        self.assertEqual(self.line(), Promote())
 
     def test_a_read_counts_from_its_begin(self) -> None:
         self.join(self.agent)
@@ -141,7 +142,7 @@ class Freshness(FleetCase):
         self.cut(self.agent)
         self.time += 60
         self.agent.read()
-        self.assertEqual(self.line(report("postAnalysis", "web-v1", "web-v2")), "abort")
+        self.assertEqual(self.line(report("postAnalysis", "web-v1", "web-v2")), Abort())
         # a person's, who may have no other way
         self.assertIsNone(self.line(report("paused", "web-v1", "web-v3")))
 
@@ -169,29 +170,29 @@ class Kept(FleetCase):
         again = self.new_agent()
         self.assertEqual(again.machine.joined, Joined("c1", self.plan_id, "web-v2"))
         self.assertEqual(again.machine.to_open(), V1)
-        self.assertIsNone(again.machine.next_line(PAUSED, self.time))
+        self.assertIsNone(again.machine.permitted_line(PAUSED, self.time))
         again.read()
-        self.assertEqual(again.machine.next_line(PAUSED, self.time), "promote")
+        self.assertEqual(again.machine.permitted_line(PAUSED, self.time), Promote())
 
     def test_another_etcd_counts_anew(self) -> None:
         self.join(self.agent)
         self.keys.cluster = "c2"
         self.agent.read()
-        self.assertEqual(self.agent.machine.next_line(PAUSED, self.time), "abort")
+        self.assertEqual(self.agent.machine.permitted_line(PAUSED, self.time), Abort())
 
     def test_a_book_that_is_gone_has_joined_nothing(self) -> None:
         self.join(self.agent)
         self.agent.machine.lose_book()
         self.assertEqual(self.kept.joined, Joined())
         self.assertEqual(
-            self.agent.machine.next_line(report("steady", "web-v1", "web-v1"), self.time),
-            "deploy web-v2 9201",
+            self.agent.machine.permitted_line(report("steady", "web-v1", "web-v1"), self.time),
+            DEPLOY,
         )
 
     def test_a_refused_line_joins_nothing(self) -> None:
         self.agent.read()
         self.agent.machine.take_reply(
-            "deploy web-v2 9201",
+            DEPLOY,
             False,
             "refused PortsDiffer",
             report("steady", "web-v1", "web-v1"),
@@ -226,11 +227,11 @@ class Kept(FleetCase):
         self.join(self.agent)
         aborted = report("aborted", "web-v1", "web-v2")
         self.agent.machine.take_report(aborted, self.time)
-        self.assertIsNone(self.agent.machine.next_line(aborted, self.time))
+        self.assertIsNone(self.agent.machine.permitted_line(aborted, self.time))
         self.time += RETRY
         self.agent.read()
         self.agent.machine.take_report(aborted, self.time)
-        self.assertEqual(self.agent.machine.next_line(aborted, self.time), "retry")
+        self.assertEqual(self.agent.machine.permitted_line(aborted, self.time), Retry())
 
     def test_a_wrong_plan_leaves_the_one_before(self) -> None:
         self.agent.read()
@@ -248,7 +249,7 @@ class Kept(FleetCase):
         self.join(self.agent)
         self.person.write([], {"attempt": json.dumps({"version": 2})})
         self.agent.read()
-        self.assertIsNone(self.agent.machine.next_line(PAUSED, self.time))
+        self.assertIsNone(self.agent.machine.permitted_line(PAUSED, self.time))
         self.assertIn("its version is 2", self.said[-1])
 
 
@@ -265,12 +266,13 @@ class KnowsNothing(FleetCase):
             (None, None, None, None),
         )
         self.assertEqual(
-            (machine.next_line(PAUSED, self.time), machine.coming(PAUSED, self.time)), (None, None)
+            (machine.permitted_line(PAUSED, self.time), machine.coming(PAUSED, self.time)),
+            (None, None),
         )
         self.assertEqual(
             machine.why_not_judged(PAUSED, self.time), "the record of the fleet is not known yet"
         )
-        machine.take_reply("retry", True, "ok 0", PAUSED, self.time)
+        machine.take_reply(Retry(), True, "ok 0", PAUSED, self.time)
         self.assertEqual((machine.joined, self.kept), (Joined(), MachineState()))
         told = machine.report(PAUSED, self.time)
         self.assertEqual(
@@ -372,7 +374,7 @@ class Judging(FleetCase):
     def test_what_was_refused_is_told_until_the_record_changes(self) -> None:
         self.agent.read()
         machine, steady = self.agent.machine, report("steady", "web-v1", "web-v1")
-        machine.take_reply("deploy web-v2 9201", False, "refused PortsDiffer", steady, self.time)
+        machine.take_reply(DEPLOY, False, "refused PortsDiffer", steady, self.time)
         self.agent.read()
         self.assertEqual(
             machine.report(steady, self.time).reason, "deploy web-v2 9201: refused PortsDiffer"
@@ -409,7 +411,7 @@ class Judging(FleetCase):
         self.put(SUCCESSFUL)
         self.join(self.agent)
         self.agent.machine.lose_store()
-        self.assertIsNone(self.agent.machine.next_line(PAUSED, self.time))
+        self.assertIsNone(self.agent.machine.permitted_line(PAUSED, self.time))
 
 
 class Telling(FleetCase):
@@ -455,6 +457,47 @@ class Telling(FleetCase):
             self.time += 3
             self.person.read()
             self.assertIn("machines/a", self.keys.keys)
+
+    def test_a_lease_that_the_store_ends_late_is_ended(self) -> None:
+        """A store that ends leases late answers no refresh of one until then."""
+        self.agent.read()
+        self.agent.tell(None)
+        lease = self.agent.lease.number
+        self.keys.late = 1000.0
+        self.time += 11
+        self.agent.read()
+        self.agent.tell(None)
+        self.assertNotEqual(self.agent.lease.number, lease)
+        self.assertNotIn(lease, self.keys.leases)
+        self.assertEqual(self.keys.keys["machines/a"].lease, self.agent.lease.number)
+        self.assertEqual(
+            self.said, ["the lease of the machine had ended: the fleet has taken it as away"]
+        )
+
+    def test_a_lease_is_not_ended_within_a_second_of_its_time(self) -> None:
+        self.agent.read()
+        self.agent.tell(None)
+        lease = self.agent.lease.number
+        self.keys.late = 1000.0
+        self.time += 10.9
+        self.agent.read()
+        self.agent.tell(None)
+        self.assertIn(lease, self.keys.leases)
+        self.time += 0.1
+        self.agent.read()
+        self.agent.tell(None)
+        self.assertNotIn(lease, self.keys.leases)
+
+    def test_a_lease_that_lasts_longer_is_kept(self) -> None:
+        """A store may let a lease last longer, as etcd does once it has another leader."""
+        self.agent.read()
+        self.agent.tell(None)
+        lease = self.agent.lease.number
+        self.keys.leases[lease] = (1000.0, 10)
+        self.time += 11
+        self.agent.read()
+        self.agent.tell(None)
+        self.assertEqual((self.agent.lease.number, self.said), (lease, []))
 
     def test_a_machine_without_a_command_for_an_analysis_fails(self) -> None:
         self.agent = self.new_agent(settings=MachineSettings(8082))
@@ -504,7 +547,7 @@ class Telling(FleetCase):
 
     def test_a_store_that_takes_no_write_is_told_each_minute(self) -> None:
         """As an etcd that is full: it is read, and each write is refused."""
-        with mock.patch.object(self.agent.store, "write", side_effect=StoreFault("etcd is full")):
+        with mock.patch.object(self.agent.store, "write", side_effect=StoreError("etcd is full")):
             for _ in range(400):
                 self.agent.read()
                 self.agent.tell(None)
@@ -546,7 +589,7 @@ class TwoOfOneHost(FleetCase):
         second.read()
         second.tell(PAUSED)
         self.assertEqual(self.told().machine, "m1")
-        self.assertIsNone(second.machine.next_line(PAUSED, self.time))
+        self.assertIsNone(second.machine.permitted_line(PAUSED, self.time))
         self.assertEqual(
             self.said, ["another machine reports as a: machines/a is of the machine m1"]
         )
@@ -709,6 +752,68 @@ class Leading(FleetCase):
         self.assertFalse(first.leads)
         self.assertEqual(self.said[:2], ["a leads", "a leads no longer: its lease has ended"])
 
+    def test_another_one_leads_where_the_store_ends_leases_late(self) -> None:
+        first, second = self.candidate("a"), self.candidate("b")
+        first.do_round()
+        self.keys.late = 1000.0
+        second.do_round()
+        self.time += 11.9  # it looks again 12 seconds after its first look
+        self.assertFalse(second.do_round())
+        self.assertEqual(self.keys.keys["leader"].value, "a")
+        self.time += 0.1
+        self.assertFalse(second.do_round())
+        self.assertTrue(second.do_round())
+        self.assertEqual(self.keys.keys["leader"].value, "b")
+
+    def test_a_lead_is_not_ended_within_a_second_of_its_time(self) -> None:
+        first, second = self.candidate("a"), self.candidate("b")
+        first.do_round()
+        self.keys.late = 1000.0
+        self.time += 10.9
+        self.assertFalse(second.do_round())
+        self.time += 1
+        self.assertFalse(second.do_round())
+        self.assertIn("leader", self.keys.keys)
+        self.time += 1
+        self.assertFalse(second.do_round())
+        self.assertNotIn("leader", self.keys.keys)
+
+    def test_a_candidate_looks_at_the_lease_of_the_leader_once_in_its_time(self) -> None:
+        first, second = self.candidate("a"), self.candidate("b")
+        first.do_round()
+        looks: list[float] = []
+
+        seconds_left = second.store.seconds_left
+
+        def noted(lease: int) -> int:
+            looks.append(self.time)
+            return seconds_left(lease)
+
+        with mock.patch.object(second.store, "seconds_left", noted):
+            for _ in range(40):
+                first.do_round()
+                second.do_round()
+                self.time += 0.75
+        self.assertEqual(looks, [100.0, 112.0, 124.0])
+
+    def test_a_store_that_is_lost_at_that_look(self) -> None:
+        first, second = self.candidate("a"), self.candidate("b")
+        first.do_round()
+        first.look()
+        with mock.patch.object(second.store, "seconds_left", side_effect=StoreError("refused")):
+            self.assertFalse(second.do_round())
+        self.time += 5
+        first.keep()
+        self.time += 7
+        second.do_round()
+        self.assertEqual(
+            self.said[-2:],
+            [
+                "the store does not tell the candidate of the leader's lease: refused",
+                "the store tells the candidate of the leader's lease again, after 12 seconds",
+            ],
+        )
+
     def test_a_leader_of_before_writes_nothing(self) -> None:
         first, second = self.candidate("a"), self.candidate("b")
         first.do_round()
@@ -774,7 +879,7 @@ class Leading(FleetCase):
     def test_a_store_that_takes_no_write_is_told_once(self) -> None:
         first = self.candidate("a")
         first.do_round()
-        with mock.patch.object(first.store, "write", side_effect=StoreFault("etcd is full")):
+        with mock.patch.object(first.store, "write", side_effect=StoreError("etcd is full")):
             for _ in range(20):
                 self.assertFalse(first.do_round())
         self.assertEqual(sum("etcd is full" in text for text in self.said), 1)
@@ -896,11 +1001,23 @@ class InMemory(unittest.TestCase):
         self.assertIn("a", self.store.read().keys)
         self.time = 5
         self.assertEqual((self.store.read().keys, self.store.refresh(lease)), ({}, 0))
-        self.assertRaises(StoreFault, self.store.write, [], {"a": "1"}, (), lease)
+        self.assertRaises(StoreError, self.store.write, [], {"a": "1"}, (), lease)
         other = self.store.grant(3)
         self.store.write([], {"b": "1"}, lease=other)
         self.store.revoke(other)
         self.assertEqual(self.store.read().keys, {})
+
+    def test_leases_that_end_late(self) -> None:
+        lease = self.store.grant(3)
+        self.store.write([], {"a": "1"}, lease=lease)
+        self.keys.late = 5.0
+        for self.time, left in ((0.5, 2), (2.5, 0), (3.9, 0), (4.0, -1), (7.9, -4)):
+            self.assertEqual(self.store.seconds_left(lease), left, self.time)
+            self.assertIn("a", self.store.read().keys)
+        self.assertRaises(StoreError, self.store.refresh, lease)
+        self.time = 8.0
+        self.assertEqual((self.store.read().keys, self.store.refresh(lease)), ({}, 0))
+        self.assertEqual(self.store.seconds_left(lease), -1)
 
 
 class Unchanged(FleetCase):

@@ -7,15 +7,16 @@ import types
 import unittest
 from unittest import mock
 
-from bg_switch_tools.fleet import agent_process, cli
-from bg_switch_tools.fleet.agent_process import AgentArguments
+from bg_switch_tools.fleet import cli
+from bg_switch_tools.fleet.agent import agent_process
+from bg_switch_tools.fleet.agent.agent_process import AgentArguments
+from bg_switch_tools.fleet.agent.candidate import Candidate
 from bg_switch_tools.fleet.argument_parser import parser
 from bg_switch_tools.fleet.commands import FLEET_COMMANDS
-from bg_switch_tools.fleet.candidate import Candidate
 from bg_switch_tools.fleet.exit_statuses import TABLE
-from bg_switch_tools.fleet.fleet_file import FleetFile
-from bg_switch_tools.fleet.person_members import MOST_MEMBERS
-from bg_switch_tools.fleet.record import (
+from bg_switch_tools.fleet.person.person_members import MOST_MEMBERS
+from bg_switch_tools.fleet.plan.fleet_file import FleetFile
+from bg_switch_tools.fleet.record.record import (
     ABORT,
     ATTEMPT,
     LEADER,
@@ -27,7 +28,7 @@ from bg_switch_tools.fleet.record import (
     Record,
     View,
 )
-from bg_switch_tools.fleet.store import StoreFault
+from bg_switch_tools.fleet.store.store import StoreError
 from support.processes import Run, run_to_end
 from tests.fleet_people import HOSTS, V1, V2, WithFleet, plan_text
 from tests.real_etcd import HOST, Cluster, WithCluster, asked, in_base64, port_that_refuses
@@ -166,7 +167,7 @@ class Faults(WithFleet):
             words = (command,) if isinstance(command, str) else command
             self.begin("aborted" if command == "retry" else "deploying", "ready")
             with mock.patch.object(
-                self.store, "write", side_effect=StoreFault("etcd is full: free its space")
+                self.store, "write", side_effect=StoreError("etcd is full: free its space")
             ):
                 self.assertEqual(
                     self.fleet(*words), ("", "fleet: etcd is full: free its space\n", 4)
@@ -468,7 +469,7 @@ class WithoutSpace(WithCluster):
 
     def test_an_etcd_that_is_full(self) -> None:
         person, store = Person(self.cluster), store_at(*self.cluster.endpoints)
-        with self.assertRaises(StoreFault):
+        with self.assertRaises(StoreError):
             for number in range(9):
                 store.write([], {f"waste{number}": "x" * 1000000})
         run = person.run("members", "add", "web-1")

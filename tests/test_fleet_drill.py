@@ -1,6 +1,7 @@
 """What drills of a fleet choose at random, what they read off the keys, and how they judge a run:
 without a fleet."""
 import collections
+import ctypes
 import json
 import os
 import pathlib
@@ -8,21 +9,25 @@ import random
 import subprocess
 import sys
 import tempfile
+import time
 import unittest
 from collections.abc import Sequence
 from typing import cast
 from unittest import mock
 
-from bg_switch_tools.controller.book import Book
-from bg_switch_tools.fleet import fleet_lines, leader, next_line
-from bg_switch_tools.fleet.candidate import Candidate
-from bg_switch_tools.fleet.fleet_lines import FleetLines
-from bg_switch_tools.fleet.leader import Votes
-from bg_switch_tools.fleet.machine import Machine
+from bg_switch_tools.controller.lines.book import Book
+from bg_switch_tools.fleet.agent import fleet_lines
+from bg_switch_tools.fleet.agent.candidate import Candidate
+from bg_switch_tools.fleet.agent.fleet_lines import FleetLines
+from bg_switch_tools.fleet.machine import line_table
+from bg_switch_tools.fleet.machine.machine import Machine
+from bg_switch_tools.fleet.record import leader
+from bg_switch_tools.fleet.record.leader import Votes
 from support.fleet import random_faults
 from support.fleet.aimed_abort import is_promoting
 from support.fleet.analysis import bad_file, hold_file
 from support.fleet.lab import Lab
+from support.fleet.machine_clock import ADJ_NANO, ADJ_SETOFFSET, Timex, step_wall_clock
 from support.fleet.planted import PLANTED
 from support.fleet.random_drill import (
     BAD_AFTER,
@@ -42,6 +47,7 @@ from support.fleet.rules import RULES, Broken, Run
 from support.fleet.seen import Seen
 from support.fleet.stepped_clock import clock_file, stepped
 from support.fleet.verdict import Mix, mix_of, rule_lines, table, verdict
+from support.moments import moment
 from tests.test_fleet_rules import SECOND, good, record
 from tests.tool_runs import TOP, WAIT, comes
 
@@ -174,6 +180,19 @@ class RunningFaults(unittest.TestCase):
             begun, collections.Counter((what, words) for what, words in calls if what not in ends)
         )
 
+    def test_the_machine_s_clock_is_stepped_only_where_the_drill_may(self) -> None:
+        for _ in range(300):
+            self.faults.begin_some("a")
+        self.assertNotIn("step_machine_clock", self.lab.calls)
+        kinds = (*random_faults.KINDS, random_faults.MACHINE_STEPPED)
+        faults = Faults(cast(Lab, self.lab), random.Random(1), kinds)
+        for _ in range(300):
+            faults.begin_some("a")
+        faults.end_all()
+        steps = self.lab.calls.count("step_machine_clock")
+        self.assertEqual((steps > 0, faults.counts[random_faults.MACHINE_STEPPED]), (True, steps))
+        self.assertEqual(self.lab.calls.count("set_machine_clock_right"), steps)
+
     def test_a_switch_that_is_not_up_again_keeps_the_others_up(self) -> None:
         """One that was started again waits for its agent, which may be killed."""
         looks = {host: Look(1.0, 1.1, "" if host == "b" else "steady") for host in HOSTS}
@@ -207,6 +226,49 @@ class Clocks(unittest.TestCase):
             self.assertEqual(clock(), -6200.0)
             path.write_text("", encoding="ascii")  # it is being written
             self.assertEqual(clock(), 1000.0)
+
+
+class MachineClock(unittest.TestCase):
+    def library(self, answer: int) -> mock.Mock:
+        """A C library whose clock_adjtime notes what it is asked for."""
+
+        def clock_adjtime(clock: int, step: object) -> int:
+            found = ctypes.cast(step, ctypes.POINTER(Timex)).contents  # type: ignore[arg-type]
+            self.asked.append((clock, found.modes, found.seconds, found.nanoseconds))
+            return answer
+
+        self.asked: list[tuple[int, int, int, int]] = []
+        return mock.Mock(clock_adjtime=clock_adjtime)
+
+    def test_is_stepped_in_one_call(self) -> None:
+        with mock.patch.object(ctypes, "CDLL", return_value=self.library(0)):
+            step_wall_clock(-120)
+        self.assertEqual(self.asked, [(time.CLOCK_REALTIME, 0x2100, -120, 0)])
+
+    def test_tells_where_it_may_not_be_set(self) -> None:
+        with mock.patch.object(ctypes, "CDLL", return_value=self.library(-1)):
+            with self.assertRaisesRegex(OSError, "the wall clock can't be set"):
+                step_wall_clock(30)
+
+    def test_has_the_fields_of_the_system(self) -> None:
+        source = "#include <sys/timex.h>\n#include <stddef.h>\n" + "".join(
+            f'_Static_assert({of_c} == {ours}, "timex");\n'
+            for of_c, ours in (
+                ("sizeof(struct timex)", ctypes.sizeof(Timex)),
+                ("offsetof(struct timex, time.tv_sec)", Timex.seconds.offset),
+                ("offsetof(struct timex, time.tv_usec)", Timex.nanoseconds.offset),
+                ("ADJ_SETOFFSET | ADJ_NANO", ADJ_SETOFFSET | ADJ_NANO),
+            )
+        )
+        words = ["gcc", "-fsyntax-only", "-x", "c", "-"]
+        made = subprocess.run(words, input=source, capture_output=True, text=True, check=False)
+        self.assertEqual((made.returncode, made.stderr), (0, ""))
+
+    def test_what_is_recorded_does_not_go_by_it(self) -> None:
+        with mock.patch.object(time, "time", lambda: 0.0):
+            before = time.clock_gettime(time.CLOCK_BOOTTIME)
+            self.assertLessEqual(before, moment())
+            self.assertLess(moment(), before + 60)
 
 
 class Plans(unittest.TestCase):
@@ -363,7 +425,8 @@ class Verdicts(unittest.TestCase):
         self.assertIn("| plans good / bad before / bad after | 2 / 0 / 0 |", rows)
         self.assertIn("| settled after the last fault | 1.5 s |", rows)
         self.assertIn(
-            "| requests | 25, 0 failed, 0 of these at a machine whose switch was killed |", rows
+            "| requests | 25, 0 failed, 0 of these at a machine whose switch was killed, and 0 at a step of the wall clock |",
+            rows,
         )
         self.assertIn(
             "| settled after the last fault | no |",
@@ -462,11 +525,11 @@ class PlantedFaults(unittest.TestCase):
                 vars(place)[name]
                 for place, name in (
                     (Votes, "are_enough"),
-                    (Machine, "next_line"),
+                    (Machine, "permitted_line"),
                     (Machine, "is_fresh"),
                     (leader, "compares_of"),
                     (leader, "decision_of"),
-                    (next_line, "_catch_up"),
+                    (line_table, "_catch_up"),
                     (FleetLines, "may_hand_in"),
                     (FleetLines, "next_line"),
                     (fleet_lines, "before"),
@@ -527,7 +590,7 @@ class Failures(unittest.TestCase):
 
 class Scripts(unittest.TestCase):
     def run_script(
-        self, *words: str, path: str = os.environ["PATH"]
+        self, *words: str, path: str = os.environ["PATH"], library: str = ""
     ) -> "subprocess.CompletedProcess[str]":
         return subprocess.run(
             [sys.executable, "-B", *words],
@@ -536,13 +599,13 @@ class Scripts(unittest.TestCase):
             text=True,
             timeout=WAIT,
             check=False,
-            env={"PATH": path},
+            env={"PATH": path, "PYTHONPATH": library},
         )
 
     def test_without_the_programs(self) -> None:
         """The gate says what it has left out, and a person who asks for a drill gets none."""
         with tempfile.TemporaryDirectory() as empty:
-            ran = self.run_script("scripts/live_fleet.py", path=empty)
+            ran = self.run_script("tests/live/live_fleet.py", path=empty, library="scripts")
             self.assertEqual(
                 (ran.returncode, ran.stdout),
                 (

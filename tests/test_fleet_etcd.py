@@ -6,7 +6,7 @@ import unittest
 import urllib.request
 from collections.abc import Callable
 
-from bg_switch_tools.fleet.store import Compare, Key, Store, StoreFault
+from bg_switch_tools.fleet.store.store import Compare, Key, Store, StoreError
 from support.pace import is_within
 from tests.real_etcd import (
     MISSING,
@@ -224,9 +224,11 @@ class Leases(OnOne):
 
     def test_a_lease_that_is_gone(self) -> None:
         lease = self.store.grant(60)
+        self.assertIn(self.store.seconds_left(lease), range(50, 61))
         self.store.revoke(lease)
         self.store.revoke(lease)
         self.assertEqual(self.store.refresh(lease), 0)
+        self.assertEqual(self.store.seconds_left(lease), -1)
         self.assertEqual(
             fault_of(lambda: self.store.write([], {"a": ""}, (), lease)),
             "etcd refuses this: etcdserver: requested lease not found",
@@ -417,7 +419,7 @@ def write_in_time(store: Store, value: str) -> bool:
     def is_written() -> bool:
         try:
             return store.write([], {"a": value}) is not None
-        except StoreFault:
+        except StoreError:
             return False
 
     return comes(is_written)

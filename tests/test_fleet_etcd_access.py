@@ -9,10 +9,10 @@ import threading
 import time
 import unittest
 
-from bg_switch_tools.fleet.etcd import EtcdStore
-from bg_switch_tools.fleet.store import Compare
-from bg_switch_tools.fleet.store_endpoints import StoreEndpoint
-from bg_switch_tools.fleet.tls_files import TlsFiles
+from bg_switch_tools.fleet.store.etcd import EtcdStore
+from bg_switch_tools.fleet.store.store import Compare
+from bg_switch_tools.fleet.store.store_endpoints import StoreEndpoint
+from bg_switch_tools.fleet.store.tls_files import TlsFiles
 from support.clients import reset
 from support.pace import is_within
 from tests.real_etcd import (
@@ -89,6 +89,7 @@ class WithUsers(WithCluster):
         snapshot = self.store.read()
         self.assertEqual((snapshot.keys["leader"].value, snapshot.revision), ("a", revision))
         self.assertGreater(self.store.refresh(lease), 0)
+        self.assertIn(self.store.seconds_left(lease), range(50, 61))
         self.store.wait(snapshot.revision - 1, LONG)
         self.assertGreaterEqual(seconds_of(lambda: self.store.wait(snapshot.revision, 0.5)), 0.5)
         self.store.revoke(lease)

@@ -8,9 +8,9 @@ import unittest
 from collections.abc import Callable
 from unittest import mock
 
-from bg_switch_tools.fleet.etcd import EtcdStore
-from bg_switch_tools.fleet.etcd_gateway import Gateway, Way
-from bg_switch_tools.fleet.timed_post import KeptConnections, PostConnection
+from bg_switch_tools.fleet.store.etcd import EtcdStore
+from bg_switch_tools.fleet.store.etcd_gateway import Gateway, Way
+from bg_switch_tools.fleet.store.timed_post import KeptConnections, PostConnection
 from support.clients import received
 from support.endpoints import read_request
 from support.pace import is_within

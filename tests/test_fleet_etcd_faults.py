@@ -9,11 +9,13 @@ import unittest
 from collections.abc import Callable
 from unittest import mock
 
-from bg_switch_tools.fleet.etcd import EtcdStore
-from bg_switch_tools.fleet.store import Compare
-from bg_switch_tools.fleet.store_endpoints import Lookups, StoreEndpoint, store_endpoint_of
-from bg_switch_tools.fleet.time_limit import TimeLimit
-from bg_switch_tools.fleet.timed_post import LARGEST
+from bg_switch_tools.fleet.store.etcd import EtcdStore
+from bg_switch_tools.fleet.store.etcd_answers import signed_number
+from bg_switch_tools.fleet.store.store import Compare
+from bg_switch_tools.fleet.store.store_endpoints import Lookups, StoreEndpoint, store_endpoint_of
+from bg_switch_tools.fleet.store.time_limit import TimeLimit
+from bg_switch_tools.fleet.store.timed_post import LARGEST, NoAnswerError
+from bg_switch_tools.switch.json_values import JsonObject
 from support.clients import received, reset, send_in_pieces
 from support.endpoints import full_backlog
 from support.messages import response
@@ -243,6 +245,18 @@ class WithServers(unittest.TestCase):
         """The call ends within its time limit."""
         seconds = seconds_of(call)
         self.assertTrue(is_within(seconds, limit + LATER), seconds)
+
+
+class SignedNumbers(unittest.TestCase):
+    def test_each(self) -> None:
+        for text, number in (("0", 0), ("7", 7), ("-1", -1), ("-120", -120)):
+            self.assertEqual(signed_number(JsonObject([("TTL", text)]), "TTL"), number)
+        self.assertEqual(signed_number(JsonObject([]), "TTL"), 0)
+
+    def test_what_is_none(self) -> None:
+        for value in ("", "-", "--1", "+1", "- 1", "1-", "x", 1, -1, None):
+            with self.subTest(value), self.assertRaisesRegex(NoAnswerError, "has no number TTL"):
+                signed_number(JsonObject([("TTL", value)]), "TTL")
 
 
 class Good(WithServers):

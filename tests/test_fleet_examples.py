@@ -14,19 +14,18 @@ import unittest
 from typing import Any
 from unittest import mock
 
-import fleet_schema
-from bg_switch_tools.controller.plan_edit import with_last
-from bg_switch_tools.fleet.etcd import EtcdStore
-from bg_switch_tools.fleet.fleet_file import FleetFile, read_whole_fleet_file
-from bg_switch_tools.fleet.fleet_plan import (
+from bg_switch_tools.controller.edits.plan_edit import with_last
+from bg_switch_tools.fleet.person.plan_change import plan_problems
+from bg_switch_tools.fleet.plan.fleet_file import FleetFile, read_whole_fleet_file
+from bg_switch_tools.fleet.plan.fleet_plan import (
     FleetPlan,
     machine_plan,
     missing_analyses,
     read_fleet_plan,
 )
-from bg_switch_tools.fleet.plan_change import plan_problems
-from bg_switch_tools.fleet.rollout_settings import rollout_faults
-from bg_switch_tools.fleet.store import StoreFault
+from bg_switch_tools.fleet.plan.rollout_settings import rollout_faults
+from bg_switch_tools.fleet.store.etcd import EtcdStore
+from bg_switch_tools.fleet.store.store import StoreError
 from support.fleet.demonstration import (
     ACTIVE,
     MACHINES,
@@ -45,6 +44,7 @@ from tests.real_etcd import MISSING as NO_ETCD
 from tests.real_etcd import PROGRAM as ETCD
 from tests.test_plan_schema import library
 from tests.tool_runs import TOP, WAIT, comes
+from tools import fleet_schema
 
 EXAMPLE = TOP / "examples" / "fleet"
 PRODUCTION = TOP / "examples" / "production"
@@ -52,7 +52,7 @@ PLANS = ("plan-v1.json", "plan-v2.json", "plan-v3.json")
 NAME = "web.example"
 # Debian has these outside the path of users.
 PLACES = os.pathsep.join((os.environ.get("PATH", ""), "/usr/sbin", "/sbin"))
-MOST_EXPOSED = 1.9  # as scripts/live_production.py has it for the other units
+MOST_EXPOSED = 1.9  # as tests/live/live_production.py has it for the other units
 
 
 def text(name: str, folder: pathlib.Path = EXAMPLE) -> str:
@@ -282,7 +282,7 @@ class Programs(unittest.TestCase):
         store = EtcdStore(read_whole_fleet_file(str(path)).etcd, "web")
 
         def answers() -> bool:
-            with contextlib.suppress(StoreFault):
+            with contextlib.suppress(StoreError):
                 return store.read().revision > 0
             return False
 
@@ -294,7 +294,7 @@ class Programs(unittest.TestCase):
             json.dumps({"fleet": "web", "etcd": [f"127.0.0.1:{client}"], "tls": {"ca": "ca.pem"}}),
             encoding="ascii",
         )
-        with self.assertRaisesRegex(StoreFault, "TLS fails"):
+        with self.assertRaisesRegex(StoreError, "TLS fails"):
             EtcdStore(read_whole_fleet_file(str(path)).etcd, "web").read()
 
 

@@ -9,23 +9,23 @@ import unittest
 from collections.abc import Iterator
 from typing import Any
 
-import fleet_schema
-from bg_switch_tools.controller.plan import Commands
-from bg_switch_tools.fleet.etcd_gateway import EtcdSettings
-from bg_switch_tools.fleet.fleet_file import (
+from bg_switch_tools.controller.plan.plan import Commands
+from bg_switch_tools.fleet.plan.fleet_file import (
     KEYS,
     MOST_ENDPOINTS,
     FleetFile,
-    WrongFleetFile,
+    FleetFileError,
     missing_files,
     read_fleet_file,
     read_whole_fleet_file,
 )
-from bg_switch_tools.fleet.fleet_plan import MachineSettings
-from bg_switch_tools.fleet.store_endpoints import StoreEndpoint
-from bg_switch_tools.fleet.tls_files import TlsFiles
+from bg_switch_tools.fleet.plan.fleet_plan import MachineSettings
+from bg_switch_tools.fleet.store.etcd_gateway import EtcdSettings
+from bg_switch_tools.fleet.store.store_endpoints import StoreEndpoint
+from bg_switch_tools.fleet.store.tls_files import TlsFiles
 from tests.test_plan_schema import library, other_values
 from tests.tool_runs import TOP
+from tools import fleet_schema
 
 GOOD: dict[str, object] = {
     "fleet": "web",
@@ -56,7 +56,7 @@ def problems(told: object) -> list[str]:
     try:
         read_fleet_file(text.encode(), FOLDER)
         return []
-    except WrongFleetFile as wrong:
+    except FleetFileError as wrong:
         return wrong.problems
 
 
@@ -124,7 +124,7 @@ class Good(unittest.TestCase):
                 read_whole_fleet_file(str(path)).etcd.password_file,
                 os.path.join(folder, "password"),
             )
-            with self.assertRaises(WrongFleetFile) as raised:
+            with self.assertRaises(FleetFileError) as raised:
                 read_whole_fleet_file(os.path.join(folder, "absent"))
             self.assertEqual(
                 raised.exception.problems, ["it can't be read: No such file or directory"]
@@ -286,7 +286,7 @@ class Schema(unittest.TestCase):
         self.assertEqual(
             fleet_schema.FILE.read_text(encoding="utf-8"),
             fleet_schema.text(),
-            "run scripts/fleet_schema.py --write",
+            "run tools/fleet_schema.py --write",
         )
 
     def test_each_key_has_a_description(self) -> None:

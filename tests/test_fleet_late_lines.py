@@ -5,11 +5,11 @@ import unittest
 from collections.abc import Callable
 from unittest import mock
 
-from bg_switch_tools.fleet.fleet_lines import FleetLines
-from bg_switch_tools.fleet.machine import FRESH
-from bg_switch_tools.fleet.record import ABORTED, FOLLOWS, PASSED, PROMOTING
-from bg_switch_tools.switch.connection import Connection
+from bg_switch_tools.fleet.agent.fleet_lines import FleetLines
+from bg_switch_tools.fleet.machine.machine import FRESH
+from bg_switch_tools.fleet.record.record import ABORTED, FOLLOWS, PASSED, PROMOTING
 from bg_switch_tools.switch.before import boot_clock
+from bg_switch_tools.switch.connection import Connection
 from tests.fleet_faults import Patch, without_time_limit
 from tests.test_fleet_agent import FleetCase, SlowStore
 from tests.test_fleet_lines import FleetLinesCase

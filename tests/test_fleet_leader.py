@@ -4,9 +4,9 @@ import json
 import unittest
 from collections.abc import Iterator, Mapping
 
-from bg_switch_tools.controller.plan import PlannedRevision
-from bg_switch_tools.fleet.fleet_plan import FleetPlan, read_stored_plan
-from bg_switch_tools.fleet.leader import (
+from bg_switch_tools.controller.plan.plan import PlannedRevision
+from bg_switch_tools.fleet.plan.fleet_plan import FleetPlan, read_stored_plan
+from bg_switch_tools.fleet.record.leader import (
     Decision,
     StageClock,
     Waited,
@@ -16,7 +16,7 @@ from bg_switch_tools.fleet.leader import (
     decision_of,
     votes_of,
 )
-from bg_switch_tools.fleet.record import (
+from bg_switch_tools.fleet.record.record import (
     ABORT,
     ABORTED,
     DEPLOYING,
@@ -33,10 +33,10 @@ from bg_switch_tools.fleet.record import (
     MachineReport,
     PersonOrder,
     Record,
-    Unreadable,
+    UnreadableError,
     View,
 )
-from bg_switch_tools.fleet.store import Compare, Key, Snapshot
+from bg_switch_tools.fleet.store.store import Compare, Key, Snapshot
 
 V1, V2 = PlannedRevision("web-v1", (9101,)), PlannedRevision("web-v2", (9201,))
 PLAN_ID, CREATED = 20, 7
@@ -580,7 +580,7 @@ class Writes(Decisions):
     def test_what_can_not_be_read_decides_nothing(self) -> None:
         snapshot = self.snapshot()
         newer = json.dumps({**json.loads(snapshot.keys["attempt"].value), "version": 2})
-        with self.assertRaisesRegex(Unreadable, "version is 2"):
+        with self.assertRaisesRegex(UnreadableError, "version is 2"):
             decide(
                 snapshot._replace(keys={**snapshot.keys, "attempt": Key(newer, 3, 30, 0)}),
                 CREATED,

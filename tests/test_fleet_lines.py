@@ -11,18 +11,18 @@ import unittest
 from collections.abc import Callable
 from unittest import mock
 
-from bg_switch_tools.controller.controller import Controller, Makers, files_beside
-from bg_switch_tools.controller.history_file import HistoryFile
+from bg_switch_tools.controller.endpoints.probes import Probes
+from bg_switch_tools.controller.history.history_file import HistoryFile
 from bg_switch_tools.controller.log import Log
-from bg_switch_tools.controller.plan import Commands, PlannedRevision
-from bg_switch_tools.controller.probes import Probes
-from bg_switch_tools.fleet.agent import FleetAgent
-from bg_switch_tools.fleet.fleet_lines import FleetLines
-from bg_switch_tools.fleet.fleet_memory import FleetMemory
-from bg_switch_tools.fleet.fleet_plan import MachineSettings
-from bg_switch_tools.fleet.machine import FRESH, Machine
-from bg_switch_tools.fleet.machine_state import MachineStateFile
-from bg_switch_tools.fleet.record import (
+from bg_switch_tools.controller.plan.plan import Commands, PlannedRevision
+from bg_switch_tools.controller.rounds.composition import Makers, files_beside, make_controller
+from bg_switch_tools.fleet.agent.agent import FleetAgent
+from bg_switch_tools.fleet.agent.fleet_lines import FleetLines
+from bg_switch_tools.fleet.machine.fleet_memory import FleetMemory
+from bg_switch_tools.fleet.machine.machine import FRESH, Machine
+from bg_switch_tools.fleet.machine.machine_state import MachineStateFile
+from bg_switch_tools.fleet.plan.fleet_plan import MachineSettings
+from bg_switch_tools.fleet.record.record import (
     ABORTED,
     DEPLOYING,
     FAILED,
@@ -35,11 +35,12 @@ from bg_switch_tools.fleet.record import (
     Record,
     read_machine_report,
 )
+from bg_switch_tools.switch.before import boot_clock
 from bg_switch_tools.switch.connection import Connection
-from bg_switch_tools.switch.before import boot_clock, without_time_limit
 from tests.fake_switch import FakeSwitch
 from tests.memory_store import Keys, MemoryStore
 from tests.tool_runs import WAIT, Endpoint
+from tests.typed_lines import untimed
 
 PAUSE = 0.02  # seconds between two rounds
 
@@ -121,7 +122,7 @@ class FleetLinesCase(unittest.TestCase):
         assert plan is not None
         probes = Probes()
         self.stack.callback(probes.stop)
-        self.controller = Controller(
+        self.controller = make_controller(
             files_beside(str(pathlib.Path(self.folder, "fleet.json"))),
             plan,
             Log(self.out, False),
@@ -173,7 +174,7 @@ class FleetLinesCase(unittest.TestCase):
     def own_lines(self) -> list[str]:
         """The lines that select something, without the moments of lines `before`."""
         sent = [line for line in self.switch.sent_lines() if not line.startswith("available ")]
-        return [without_time_limit(line) for line in sent]
+        return [untimed(line) for line in sent]
 
 
 class Attempts(FleetLinesCase):

@@ -1,9 +1,9 @@
 """bin/fleet members: who is listed, added and removed, what is refused, and races with others."""
 import unittest
 
-from bg_switch_tools.fleet import person_members
-from bg_switch_tools.fleet.person_members import CHANGING, MOST_MEMBERS
-from bg_switch_tools.fleet.record import MACHINES, MEMBERS
+from bg_switch_tools.fleet.person import person_members
+from bg_switch_tools.fleet.person.person_members import CHANGING, MOST_MEMBERS
+from bg_switch_tools.fleet.record.record import MACHINES, MEMBERS
 from tests.fleet_people import HOSTS, V2, V3, WithFleet
 
 LEFT = "nothing was changed: no member would be left for attempt 6 of web-v2, which is not over"

@@ -2,9 +2,9 @@
 races with others."""
 import unittest
 
-from bg_switch_tools.fleet.candidate import Candidate, Clocks
-from bg_switch_tools.fleet.person_orders import MOVED_ON, TRIES
-from bg_switch_tools.fleet.record import ABORT, LEADER, MEMBERS, ORDER, PROMOTE, PersonOrder
+from bg_switch_tools.fleet.agent.candidate import Candidate, Clocks
+from bg_switch_tools.fleet.person.person_orders import MOVED_ON, TRIES
+from bg_switch_tools.fleet.record.record import ABORT, LEADER, MEMBERS, ORDER, PROMOTE, PersonOrder
 from tests.fleet_people import HOSTS, V1, V2, V3, WithFleet
 from tests.memory_store import MemoryStore
 

@@ -5,10 +5,10 @@ import subprocess
 import tempfile
 import unittest
 
-from live_fleet_pages import PAGE, PORTS, TITLE
 from support.endpoints import Endpoint, by_target
 from support.pages import blocks_of, expected_of, with_places
 from tests.fake_port import free_port
+from tests.live.live_fleet_pages import PAGE, PORTS, TITLE
 from tests.tool_runs import WAIT
 
 

@@ -1,10 +1,10 @@
 """What a plan does in place of the one before."""
 import unittest
 
-from bg_switch_tools.controller.plan import PlannedRevision
-from bg_switch_tools.fleet.fleet_plan import FleetPlan
-from bg_switch_tools.fleet.plan_change import plan_effect, plan_problems
-from bg_switch_tools.fleet.record import ABORTED, DEPLOYING, SUCCESSFUL, Record
+from bg_switch_tools.controller.plan.plan import PlannedRevision
+from bg_switch_tools.fleet.person.plan_change import plan_effect, plan_problems
+from bg_switch_tools.fleet.plan.fleet_plan import FleetPlan
+from bg_switch_tools.fleet.record.record import ABORTED, DEPLOYING, SUCCESSFUL, Record
 
 V1, V2, V3 = (
     PlannedRevision(f"web-v{number}", (9001 + 100 * number, 9002 + 100 * number))

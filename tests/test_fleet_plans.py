@@ -3,9 +3,9 @@ import importlib.util
 import json
 import unittest
 
-from bg_switch_tools.controller.plan import PlannedRevision
-from bg_switch_tools.fleet.person_plans import MOVED_ON
-from bg_switch_tools.fleet.record import LEADER, MEMBERS, PLAN
+from bg_switch_tools.controller.plan.plan import PlannedRevision
+from bg_switch_tools.fleet.person.person_plans import MOVED_ON
+from bg_switch_tools.fleet.record.record import LEADER, MEMBERS, PLAN
 from tests.fleet_people import HOSTS, V1, V2, V3, WithFleet, plan_text
 
 OTHER_V2 = PlannedRevision("web-v2", (9301, 9302))

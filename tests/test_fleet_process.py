@@ -9,11 +9,11 @@ import unittest
 from collections.abc import Sequence
 from unittest import mock
 
-from bg_switch_tools.fleet import agent_process
-from bg_switch_tools.fleet.agent_process import PlainLog
-from bg_switch_tools.fleet.agent_rounds import ANSWER, CONNECT
-from bg_switch_tools.fleet.agent_status import STALE, read_agent_status
-from bg_switch_tools.fleet.machine import FRESH
+from bg_switch_tools.fleet.agent import agent_process
+from bg_switch_tools.fleet.agent.agent_process import PlainLog
+from bg_switch_tools.fleet.agent.agent_rounds import ANSWER, CONNECT
+from bg_switch_tools.fleet.agent.agent_status import STALE, read_agent_status
+from bg_switch_tools.fleet.machine.machine import FRESH
 from tests.fleet_processes import LEASE, FleetProcessCase
 from tests.tool_runs import WAIT
 

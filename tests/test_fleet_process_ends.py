@@ -11,22 +11,22 @@ import time
 import unittest
 from unittest import mock
 
-from bg_switch_tools.controller.plan import PlannedRevision
+from bg_switch_tools.controller.plan.plan import PlannedRevision
 from bg_switch_tools.controller.process_groups import identity
-from bg_switch_tools.controller.state_file import State, StateFile
-from bg_switch_tools.fleet.agent_files import StateKeeper, machine_id, path_of
-from bg_switch_tools.fleet.agent_process import (
+from bg_switch_tools.controller.state.state_file import State, StateFile
+from bg_switch_tools.fleet.agent.agent_files import StateKeeper, machine_id, path_of
+from bg_switch_tools.fleet.agent.agent_process import (
     AgentArguments,
     AgentProcess,
     lease_seconds,
     start_faults,
 )
-from bg_switch_tools.fleet.agent_rounds import ANSWER, CONNECT
-from bg_switch_tools.fleet.etcd_gateway import EtcdSettings
-from bg_switch_tools.fleet.fleet_file import FleetFile
-from bg_switch_tools.fleet.fleet_plan import MachineSettings
-from bg_switch_tools.fleet.machine_state import MachineState
-from bg_switch_tools.fleet.store import Snapshot, Store
+from bg_switch_tools.fleet.agent.agent_rounds import ANSWER, CONNECT
+from bg_switch_tools.fleet.machine.machine_state import MachineState
+from bg_switch_tools.fleet.plan.fleet_file import FleetFile
+from bg_switch_tools.fleet.plan.fleet_plan import MachineSettings
+from bg_switch_tools.fleet.store.etcd_gateway import EtcdSettings
+from bg_switch_tools.fleet.store.store import Snapshot, Store
 from bg_switch_tools.switch.before import boot_clock
 from tests.fleet_processes import FIT, LEASE, FleetProcessCase, SharedStore
 from tests.tool_runs import WAIT, comes

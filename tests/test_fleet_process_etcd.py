@@ -13,17 +13,22 @@ from collections.abc import Sequence
 from unittest import mock
 
 from bg_switch_tools.fleet import exit_statuses
-from bg_switch_tools.fleet.etcd import EtcdStore
-from bg_switch_tools.fleet.etcd_gateway import EtcdSettings
-from bg_switch_tools.fleet.record import MachineReport, PersonOrder, View, read_machine_report
-from bg_switch_tools.fleet.store import StoreFault
-from bg_switch_tools.switch.before import without_time_limit
+from bg_switch_tools.fleet.record.record import (
+    MachineReport,
+    PersonOrder,
+    View,
+    read_machine_report,
+)
+from bg_switch_tools.fleet.store.etcd import EtcdStore
+from bg_switch_tools.fleet.store.etcd_gateway import EtcdSettings
+from bg_switch_tools.fleet.store.store import StoreError
 from support import processes
 from support.pace import is_within
 from tests.fake_switch import FakeSwitch
 from tests.fleet_processes import FIT
 from tests.real_etcd import WithCluster
 from tests.tool_runs import TOOLS, TOP, WAIT, ControllerRun, Endpoint, comes
+from tests.typed_lines import line_of, untimed
 
 PROGRAM = (str(TOOLS / "fleet"),)
 
@@ -31,7 +36,8 @@ PROGRAM = (str(TOOLS / "fleet"),)
 def with_lease(seconds: int) -> tuple[str, ...]:
     """A program as bin/fleet, whose leases have so many seconds."""
     code = f"""import sys; sys.path.insert(0, {str(TOP / 'lib')!r})
-from bg_switch_tools.fleet import agent_process, fleet_file
+from bg_switch_tools.fleet.agent import agent_process
+from bg_switch_tools.fleet.plan import fleet_file
 agent_process.lease_seconds = lambda _: {seconds}
 sys.exit(agent_process.run_agent(fleet_file.read_whole_fleet_file(sys.argv[1]), agent_process.AgentArguments()))"""
     return (sys.executable, "-B", "-c", code)
@@ -109,7 +115,7 @@ class AgentCase(WithCluster):
     def told(self) -> MachineReport | None:
         try:
             key = self.store.read().keys.get("machines/a")
-        except StoreFault:
+        except StoreError:
             return None
         return read_machine_report(key.value) if key else None
 
@@ -133,7 +139,7 @@ class AgentCase(WithCluster):
 
     def own_lines(self) -> list[str]:
         return [
-            without_time_limit(line).split(" ")[0]
+            line_of(untimed(line)).word
             for line in self.switch.sent_lines()
             if not line.startswith("available ")
         ]

@@ -8,7 +8,7 @@ import unittest
 from collections.abc import Callable
 from unittest import mock
 
-from bg_switch_tools.controller.plan import (
+from bg_switch_tools.controller.plan.plan import (
     Analyses,
     Commands,
     Health,
@@ -17,9 +17,15 @@ from bg_switch_tools.controller.plan import (
     PlannedRevision,
     Progress,
 )
-from bg_switch_tools.controller.plan_reader import WrongPlan
-from bg_switch_tools.fleet import fleet_plan
-from bg_switch_tools.fleet.fleet_plan import (
+from bg_switch_tools.controller.plan.plan_reader import PlanError
+from bg_switch_tools.fleet.machine.line_table import Joined
+from bg_switch_tools.fleet.machine.machine_state import (
+    MachineState,
+    MachineStateFile,
+    read_machine_state,
+)
+from bg_switch_tools.fleet.plan import fleet_plan
+from bg_switch_tools.fleet.plan.fleet_plan import (
     FleetPlan,
     MachineSettings,
     machine_plan,
@@ -28,9 +34,7 @@ from bg_switch_tools.fleet.fleet_plan import (
     read_fleet_plan,
     read_stored_plan,
 )
-from bg_switch_tools.fleet.machine_state import MachineState, MachineStateFile, read_machine_state
-from bg_switch_tools.fleet.next_line import Joined
-from bg_switch_tools.fleet.record import (
+from bg_switch_tools.fleet.record.record import (
     PROMOTE,
     PROMOTING,
     READY,
@@ -38,13 +42,13 @@ from bg_switch_tools.fleet.record import (
     MachineReport,
     PersonOrder,
     Record,
-    Unreadable,
+    UnreadableError,
     View,
     read_machine_report,
     read_order,
     read_record,
 )
-from bg_switch_tools.fleet.store import Key, Snapshot
+from bg_switch_tools.fleet.store.store import Key, Snapshot
 
 V1, V2 = PlannedRevision("web-v1", (9101, 9102)), PlannedRevision("web-v2", (9201, 9202))
 RECORD = Record(20, V2, V1, PROMOTING, "ordered by ann", ("c",), 7, 1000)
@@ -66,7 +70,7 @@ def changed(text: str, **values: object) -> str:
 
 class Texts(unittest.TestCase):
     def refused(self, read: Callable[[str], object], text: str, why: str) -> None:
-        with self.assertRaisesRegex(Unreadable, why):
+        with self.assertRaisesRegex(UnreadableError, why):
             read(text)
 
     def test_what_is_written_is_read(self) -> None:
@@ -129,13 +133,13 @@ class Texts(unittest.TestCase):
             fleet_plan, "decoded", side_effect=ValueError("it is none")
         ) as of_json:
             for _ in range(3):
-                with self.assertRaisesRegex(WrongPlan, "it is not JSON: it is none"):
+                with self.assertRaisesRegex(PlanError, "it is not JSON: it is none"):
                     read_stored_plan(text)
         self.assertEqual((of_json.call_count, of_yaml.call_count), (1, 0))
 
     def test_a_plan_of_the_store_is_json(self) -> None:
         text = "revisions:\n- {name: web-v1, ports: [9101]}\n"
-        with self.assertRaisesRegex(WrongPlan, "it is not JSON"):
+        with self.assertRaisesRegex(PlanError, "it is not JSON"):
             read_stored_plan(text)
 
     def test_a_report_of_the_version_before(self) -> None:
@@ -219,7 +223,7 @@ GOOD: dict[str, object] = {
 
 class Plans(unittest.TestCase):
     def problems(self, **values: object) -> list[str]:
-        with self.assertRaises(WrongPlan) as raised:
+        with self.assertRaises(PlanError) as raised:
             read_fleet_plan(changed(json.dumps(GOOD), **values))
         return raised.exception.problems
 
@@ -288,7 +292,7 @@ class Plans(unittest.TestCase):
         for values, problem in cases:
             self.assertRegex("\n".join(self.problems(**values)), problem)
         for text in ("{", "[]", "x" * (1 << 21)):
-            self.assertRaises(WrongPlan, read_fleet_plan, text)
+            self.assertRaises(PlanError, read_fleet_plan, text)
 
     def test_the_plan_of_a_machine(self) -> None:
         settings = MachineSettings(
@@ -310,7 +314,7 @@ class Plans(unittest.TestCase):
             ),
         )
         self.assertEqual(missing_analyses(plan, settings), ["errors"])
-        with self.assertRaisesRegex(WrongPlan, "is a port of the switch itself"):
+        with self.assertRaisesRegex(PlanError, "is a port of the switch itself"):
             machine_plan(plan, MachineSettings(9201))
 
 
@@ -342,7 +346,7 @@ class SeveralAnalyses(unittest.TestCase):
             (("a", 7), r"analyses\.post\[1\]: 7 is not a name"),
             (({"name": "a"},), r"analyses\.post\[0\]: .* is not a name"),
         ):
-            with self.assertRaisesRegex(WrongPlan, f"^{problem}"):
+            with self.assertRaisesRegex(PlanError, f"^{problem}"):
                 self.plan(*names)
 
 
@@ -369,13 +373,13 @@ class Files(unittest.TestCase):
             (changed(text, record="{}"), "version"),
             ("", "not JSON"),
         ):
-            with self.assertRaisesRegex(Unreadable, why):
+            with self.assertRaisesRegex(UnreadableError, why):
                 read_machine_state(wrong.encode())
 
     def test_a_file_that_can_not_be_opened(self) -> None:
         with tempfile.TemporaryDirectory() as folder:
             os.mkdir(os.path.join(folder, "f.fleet"))
-            with self.assertRaisesRegex(Unreadable, "can't be read: Is a directory"):
+            with self.assertRaisesRegex(UnreadableError, "can't be read: Is a directory"):
                 MachineStateFile(os.path.join(folder, "f")).read()
 
 

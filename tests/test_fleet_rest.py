@@ -11,10 +11,12 @@ from collections.abc import Callable, Mapping
 from typing import NamedTuple
 from unittest import mock
 
-from bg_switch_tools.fleet import agent, rest
-from bg_switch_tools.fleet.agent import Lease
-from bg_switch_tools.fleet.candidate import Candidate, Clocks
-from bg_switch_tools.fleet.record import (
+from bg_switch_tools.fleet.agent import agent, rest
+from bg_switch_tools.fleet.agent.agent import Lease
+from bg_switch_tools.fleet.agent.candidate import Candidate, Clocks
+from bg_switch_tools.fleet.agent.rest import UNREST, Standing
+from bg_switch_tools.fleet.agent.wake import Wake
+from bg_switch_tools.fleet.record.record import (
     ABORTED,
     ATTEMPT,
     LEADER,
@@ -23,9 +25,7 @@ from bg_switch_tools.fleet.record import (
     View,
     read_machine_report,
 )
-from bg_switch_tools.fleet.rest import UNREST, Standing
-from bg_switch_tools.fleet.store import Store, StoreFault
-from bg_switch_tools.fleet.wake import Wake
+from bg_switch_tools.fleet.store.store import Store, StoreError
 from bg_switch_tools.switch.before import boot_clock
 from tests import rest_faults
 from tests.fleet_faults import Patch
@@ -33,7 +33,7 @@ from tests.fleet_processes import LEASE, LONGEST, FleetProcessCase
 from tests.memory_store import Keys, MemoryStore
 from tests.synthetic_fleet import V1, V2, SyntheticFleet
 from tests.test_fleet_agent import FleetCase
-from tests.test_fleet_next_line import report
+from tests.test_fleet_line_table import report
 
 QUIET = 0.6  # seconds without a read, which an agent that does not rest never has
 PLANTED = 1.0  # seconds for which something is awaited that a planted fault prevents for a minute
@@ -112,7 +112,7 @@ def lost_renewals(store: Store) -> Patch:
 
     def lost(lease: int) -> int:
         refresh(lease)
-        raise StoreFault("it is away")
+        raise StoreError("it is away")
 
     return mock.patch.object(store, "refresh", lost)
 
@@ -147,7 +147,7 @@ def a_read_that_has_failed(case: RestCase) -> None:
     """No renewal was due meanwhile, and the watch hangs since."""
     case.rests()
     case.network.hangs = True
-    away = StoreFault("it is away")
+    away = StoreError("it is away")
     with mock.patch.object(case.process.agent.store, "read", side_effect=away), mock.patch.object(
         case.process.agent.lease, "hold", lambda: True
     ):
@@ -414,17 +414,18 @@ class Gaps(unittest.TestCase):
         self.lease.hold()
 
     def test_renewals_in_time(self) -> None:
-        for _ in range(20):
-            self.time += 2.5
-            self.assertEqual(self.lease.due(), 0)
-            self.assertTrue(self.lease.hold())
-            self.assertEqual(self.lease.due(), 2.5)
+        with mock.patch.object(self.store, "seconds_left", side_effect=AssertionError):
+            for _ in range(20):
+                self.time += 2.5
+                self.assertEqual(self.lease.due(), 0)
+                self.assertTrue(self.lease.hold())
+                self.assertEqual(self.lease.due(), 2.5)
         self.assertEqual(self.lease.gaps, 0)
 
     def test_the_first_one_after_one_that_has_failed(self) -> None:
         self.time += 2.5
         self.store.is_cut = True
-        with self.assertRaises(StoreFault):
+        with self.assertRaises(StoreError):
             self.lease.hold()
         self.assertTrue(self.lease.has_failed)
         self.store.is_cut = False

@@ -2,7 +2,7 @@
 import json
 import unittest
 
-from bg_switch_tools.fleet.rollout_settings import rollout_faults
+from bg_switch_tools.fleet.plan.rollout_settings import rollout_faults
 
 FIT = {
     "activeService": "web",

@@ -166,6 +166,19 @@ class Good(unittest.TestCase):
             self.assertEqual([rule for rule, _ in found], [5])
             self.assertIn("got 503 from no machine", found[0].text)
 
+    def test_an_answer_of_the_load_balancer_at_a_step_of_the_wall_clock(self) -> None:
+        run = good()
+        for answered, is_excused in (
+            (Answered(35.0, 0.01, 504, stepped=30.0), True),
+            (Answered(35.0, 0.01, 504, stepped=15.0), False),
+            (Answered(35.0, 0.01, 504, stepped=-30.0), False),
+            (Answered(35.0, 0.01, 504), False),
+            (Answered(35.0, 0.01, 504, "", "b", 30.0), False),
+            (Answered(35.0, 0.01, 503, stepped=30.0), False),
+        ):
+            found = broken_rules(run._replace(requests=[*run.requests, answered]))
+            self.assertEqual([rule for rule, _ in found], [] if is_excused else [5], answered)
+
     def test_no_promote_of_a_machine_without_a_vote_is_needed(self) -> None:
         run = good()
         events = with_event(

@@ -10,9 +10,9 @@ import unittest
 from collections.abc import Callable, Iterator
 from unittest import mock
 
-from bg_switch_tools.fleet import machine
-from bg_switch_tools.fleet.record import ATTEMPT, LEADER, MACHINES, MEMBERS, ORDER, PLAN
-from bg_switch_tools.switch.before import TOO_LATE
+from bg_switch_tools.fleet.machine import machine
+from bg_switch_tools.fleet.record.record import ATTEMPT, LEADER, MACHINES, MEMBERS, ORDER, PLAN
+from bg_switch_tools.switch.replies import TOO_LATE
 from tests.fleet_faults import (
     Patch,
     after_the_end,
@@ -22,9 +22,11 @@ from tests.fleet_faults import (
     on_changes,
     on_reads_of_any_age,
     plan_first,
+    refreshing_lapsed_leases,
     silent_about_orders,
     verdict_at_once,
     votes_for_any_leader,
+    waiting_for_lapsed_leads,
     without_compares,
     without_time_limit,
     without_one_member,
@@ -101,7 +103,7 @@ def counts(world: World) -> collections.Counter[str]:
     found["promote"] = len(world.trace.promotes)
     found["store lost"] = sum("cut off from the store" in line for line in world.lines)
     found["stopped"] = sum("is on its way" in line for line in world.lines)
-    found["too late"] = sum(line.endswith(TOO_LATE) for line in world.lines)
+    found["too late"] = sum(line.endswith(str(TOO_LATE)) for line in world.lines)
     found["failed"] = sum("failed => ok" in line or "error => ok" in line for line in world.lines)
     return found
 
@@ -169,6 +171,12 @@ class PlantedFaults(unittest.TestCase):
 
     def test_a_leader_that_decides_nothing_without_a_plan(self) -> None:
         self.check(plan_first, "rule 8")
+
+    def test_an_agent_that_refreshes_its_lapsed_lease(self) -> None:
+        self.check(refreshing_lapsed_leases, "rule 4")
+
+    def test_a_candidate_that_waits_for_a_lapsed_lead(self) -> None:
+        self.check(waiting_for_lapsed_leads, "rule 8")
 
     def test_no_catch_up(self) -> None:
         self.check(no_catch_up, "rule 4")

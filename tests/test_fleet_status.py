@@ -3,10 +3,18 @@ import json
 import unittest
 from unittest import mock
 
-from bg_switch_tools.fleet import watch as watching
-from bg_switch_tools.fleet.record import ATTEMPT, LEADER, MACHINES, MEMBERS, ORDER, PLAN, View
-from bg_switch_tools.fleet.status import status_of
-from bg_switch_tools.fleet.status_text import draw, in_one_line
+from bg_switch_tools.fleet.person import watch as watching
+from bg_switch_tools.fleet.record.record import (
+    ATTEMPT,
+    LEADER,
+    MACHINES,
+    MEMBERS,
+    ORDER,
+    PLAN,
+    View,
+)
+from bg_switch_tools.fleet.record.status import status_of
+from bg_switch_tools.fleet.record.status_text import draw, in_one_line
 from tests.fleet_people import HOSTS, MOMENT, V1, V2, V3, WithFleet
 
 NOT_BEGUN = """\
@@ -355,7 +363,7 @@ class Watched(Status):
 
     def watched(self) -> str:
         self.store.during_waits.append(self.interrupt)
-        with mock.patch("bg_switch_tools.fleet.wait.PAUSE", 0.0), mock.patch.object(
+        with mock.patch("bg_switch_tools.fleet.person.wait.PAUSE", 0.0), mock.patch.object(
             watching, "PAUSE", 0.0
         ):
             run = self.fleet("watch")

@@ -4,10 +4,10 @@ import json
 import unittest
 from unittest import mock
 
-from bg_switch_tools.fleet.conditions import FleetConditions
-from bg_switch_tools.fleet.record import ATTEMPT, MACHINES, MEMBERS, PLAN
-from bg_switch_tools.fleet.store import StoreFault, StoreRefusal
-from bg_switch_tools.fleet.wait import wait_for_change
+from bg_switch_tools.fleet.person.conditions import FleetConditions
+from bg_switch_tools.fleet.person.wait import wait_for_change
+from bg_switch_tools.fleet.record.record import ATTEMPT, MACHINES, MEMBERS, PLAN
+from bg_switch_tools.fleet.store.store import StoreError, StoreRefusedError
 from bg_switch_tools.switch.conditions import HOLDS, MAY_COME, Outlook
 from support.processes import Run
 from tests.fleet_people import HOSTS, V1, V2, V3, WithFleet
@@ -147,7 +147,7 @@ class Outlooks(WithFleet):
 class Waits(WithFleet):
     def setUp(self) -> None:
         super().setUp()
-        pause = mock.patch("bg_switch_tools.fleet.wait.PAUSE", 0.01)
+        pause = mock.patch("bg_switch_tools.fleet.person.wait.PAUSE", 0.01)
         pause.start()
         self.addCleanup(pause.stop)
 
@@ -209,7 +209,7 @@ class Waits(WithFleet):
         self.begin("successful", "follows")
         self.store.is_cut = True
         with mock.patch(
-            "bg_switch_tools.fleet.wait.time.sleep",
+            "bg_switch_tools.fleet.person.wait.time.sleep",
             side_effect=lambda _: setattr(self.store, "is_cut", False),
         ):
             run = self.wait("settled")
@@ -217,7 +217,7 @@ class Waits(WithFleet):
 
     def test_a_store_that_refuses_the_reads(self) -> None:
         with mock.patch.object(
-            self.store, "read", side_effect=StoreRefusal("etcd denies this to the user guest")
+            self.store, "read", side_effect=StoreRefusedError("etcd denies this to the user guest")
         ):
             self.assertEqual(
                 self.wait("settled"), ("", "fleet: etcd denies this to the user guest\n", 4)
@@ -243,15 +243,15 @@ class Waits(WithFleet):
 
         self.store.during_waits = [cut]
         with mock.patch(
-            "bg_switch_tools.fleet.wait.time.sleep",
+            "bg_switch_tools.fleet.person.wait.time.sleep",
             side_effect=lambda _: setattr(self.store, "is_cut", False),
         ):
             self.assertEqual(self.wait("settled").status, 0)
 
     def test_a_store_without_events_is_not_asked_again_and_again(self) -> None:
-        slept, away = list[float](), StoreFault("it gives no events")
+        slept, away = list[float](), StoreError("it gives no events")
         with mock.patch.object(self.store, "wait", side_effect=away), mock.patch(
-            "bg_switch_tools.fleet.wait.time.sleep", slept.append
+            "bg_switch_tools.fleet.person.wait.time.sleep", slept.append
         ):
             wait_for_change(self.store, 5, 2.0)
         self.assertGreater(sum(slept), 1.9)

@@ -24,7 +24,7 @@ from support.smuggling.forwarded import (
     switch,
     worst_of,
 )
-from support.smuggling.forwarded import Malformed as MalformedText
+from support.smuggling.forwarded import MalformedTextError as MalformedTextError
 from support.smuggling.messages import HIDDEN, chunks, head
 from support.smuggling.readings import Read, Reading
 from support.smuggling.servers import KINDS
@@ -153,7 +153,7 @@ class Texts(unittest.TestCase):
             (b"Content-Length: 36", b"Transfer-Encoding: chunked"),
             (b"\r\n\r\n", b"\r\n"),
         ):
-            with self.subTest(right), self.assertRaises(MalformedText):
+            with self.subTest(right), self.assertRaises(MalformedTextError):
                 strictly_read(GOOD.replace(wrong, right))
 
     def test_only_the_field_that_ends_the_connection_is_left_out(self) -> None:

@@ -27,11 +27,11 @@ FRAMES = {
 }
 
 
-class Late(Exception):
+class LateError(Exception):
     """An end of a test."""
 
 
-class Later(Late):
+class LaterError(LateError):
     """A kind of that end."""
 
 
@@ -59,12 +59,12 @@ class Frames(unittest.TestCase):
             self.assertEqual(self.raised(frame, KeyboardInterrupt())[1:], ("", 130))
 
     def test_ends(self) -> None:
-        ends = {Late: End(7), ValueError: End(8, lambda _: list_of("wrong:", ["a", "b"]))}
+        ends = {LateError: End(7), ValueError: End(8, lambda _: list_of("wrong:", ["a", "b"]))}
         frame = Frame("tool", ends)
         self.assertEqual(self.ended(frame, lambda: 3), ("", "", 3))
         for reason, told, status in (
-            (Late("it is late"), "tool: it is late\n", 7),
-            (Later("later"), "tool: later\n", 7),
+            (LateError("it is late"), "tool: it is late\n", 7),
+            (LaterError("later"), "tool: later\n", 7),
             (ValueError(), "tool: wrong:\n  a\n  b\n", 8),
             (FileNotFoundError(2, "No such file", "f"), "tool: f: No such file\n", 1),
             (BrokenPipeError(32, "Broken pipe"), "", 1),

@@ -47,6 +47,16 @@ class Identifiers(unittest.TestCase):
             self.found("a.rt", "use x::{Order, Ordering}; let order = OrderFault;"), ["Order"]
         )
 
+    def test_names_of_the_kit_s_libraries_are_not_looked_at(self) -> None:
+        text = "use Rattle.sqlite.specs.Order.{Order, owner as holder,\n  form as owner}\nowner : Order"
+        self.assertEqual(self.found("a.antt", text), ["owner", "owner", "Order"])
+        self.assertEqual(
+            self.found("a.rt", "ghost use Rattle.bg_book.specs.Order.{owner};"), ["Order", "owner"]
+        )
+        self.assertEqual(
+            [place.line for place in places_in("a.antt", text, words_to_avoid(PAGE))], [2, 3, 3]
+        )
+
     def test_comments_and_texts_are_not_looked_at(self) -> None:
         self.assertEqual(
             self.found(

@@ -9,16 +9,18 @@ import unittest
 from collections.abc import Sequence
 from unittest import mock
 
-from bg_switch_tools.controller import book, cli as controller_cli, controller
-from bg_switch_tools.controller.attempts import Event
-from bg_switch_tools.controller.held_back import HeldRevisions
-from bg_switch_tools.controller.history_file import HistoryFile
+from bg_switch_tools.controller import cli as controller_cli
+from bg_switch_tools.controller.history.attempts import Event
+from bg_switch_tools.controller.history.history_file import HistoryFile
+from bg_switch_tools.controller.lines import book
+from bg_switch_tools.controller.lines.held_back import HeldRevisions
 from bg_switch_tools.controller.log import Log
-from bg_switch_tools.controller.plan import Analyses, Health, Plan, PlannedRevision, Progress
-from bg_switch_tools.controller.state_file import StateFile
-from bg_switch_tools.fleet.fleet_memory import FleetMemory
-from bg_switch_tools.fleet.fleet_plan import MachineSettings
-from bg_switch_tools.fleet.machine import Machine
+from bg_switch_tools.controller.plan.plan import Analyses, Health, Plan, PlannedRevision, Progress
+from bg_switch_tools.controller.rounds import controller
+from bg_switch_tools.controller.state.state_file import StateFile
+from bg_switch_tools.fleet.machine.fleet_memory import FleetMemory
+from bg_switch_tools.fleet.machine.machine import Machine
+from bg_switch_tools.fleet.plan.fleet_plan import MachineSettings
 from bg_switch_tools.switch.reports import read_report
 from support.processes import Run
 from tests.fake_switch import FakeBook, FakeSwitch

@@ -6,12 +6,16 @@ import time
 import unittest
 from unittest import mock
 
-from bg_switch_tools.controller import launcher, notifier
-from bg_switch_tools.controller.launcher import words_for
-from bg_switch_tools.controller.pause import PauseFile
-from bg_switch_tools.controller.plan import PlannedRevision
-from bg_switch_tools.controller.state_file import StateFile
+from bg_switch_tools.controller.endpoints import launcher
+from bg_switch_tools.controller.endpoints.former_switches import needed_names
+from bg_switch_tools.controller.endpoints.launcher import words_for
+from bg_switch_tools.controller.plan.plan import PlannedRevision
+from bg_switch_tools.controller.rounds import notifier
+from bg_switch_tools.controller.state.pause import PauseFile
+from bg_switch_tools.controller.state.state_file import StateFile
+from bg_switch_tools.switch.reports import read_report
 from support.pace import is_within
+from tests.fake_port import REPORT
 from tests.fake_switch import FakeSwitch
 from tests.test_controller import NAMES, ControllerCase
 from tests.tool_runs import comes
@@ -82,6 +86,25 @@ class Launched(ControllerCase):
         self.await_book("paused", 2)
 
 
+class NeededNames(unittest.TestCase):
+    """The revisions whose endpoints a report of a switch needs."""
+
+    def needed(self, state: str) -> bool:
+        """Whether it needs revision 2, which no service selects, in this state."""
+        report = read_report([*REPORT[:-1], f"revision 2 web-v2 {state} deadline none", REPORT[-1]])
+        assert report is not None
+        return needed_names(report) == ["web-v1", "web-v2"]
+
+    def test_a_revision_is_needed_while_it_is_sized_or_has_a_request(self) -> None:
+        for state, expected in (
+            ("desired 2 available 2 open 0", True),
+            ("desired 0 available 0 open 1", True),
+            ("desired 0 available 0 open 0", False),
+        ):
+            with self.subTest(state):
+                self.assertEqual(self.needed(state), expected)
+
+
 class Rollouts(Launched):
     def test_from_no_process_to_the_end_of_the_old_ones(self) -> None:
         self.bring_v1_up()
@@ -94,18 +117,17 @@ class Rollouts(Launched):
         self.come_up("web-v2")
         self.await_book("paused", 2)
         self.assertEqual(self.started(), ["web-v1", "web-v2"])
+        self.switch.book.answer("enter 0 active")
         self.by_hand("promote")
         self.some_rounds()
         self.assertEqual([call for call in self.calls() if call.startswith("stop")], [])
-        self.switch.book.revisions[1].open = 1
         self.by_hand("tick 40")
         self.some_rounds()
-        self.switch.book.revisions[1].desired = self.switch.book.revisions[1].available = 0
-        self.some_rounds()
+        self.assertTrue(self.switch.book.revisions[1].is_draining)
         self.assertEqual(
             [call for call in self.calls() if call.startswith("stop")], [], "a request is open"
         )
-        self.switch.book.revisions[1].open = 0
+        self.switch.book.answer("leave 0")
         self.await_calls(*self.both("stop", "web-v1"))
         self.await_log("web-v1 is stopped")
         self.assertEqual(self.started(), ["web-v2"])
@@ -223,8 +245,8 @@ class Stops(Launched):
         """An upgrade while a request of the old revision is open at the first switch, which ends
         later."""
         self.bring_v2_to_its_pause()
+        self.switch.book.answer("enter 0 active")
         self.by_hand("promote")
-        self.switch.book.revisions[1].open = 1
         self.some_rounds()
         second = FakeSwitch("pause", knows_down=True)
         self.stack.callback(second.kill)
@@ -242,8 +264,7 @@ class Stops(Launched):
         self.by_hand("abort")
         self.some_rounds()
         self.assertEqual([call for call in self.calls() if call.startswith("stop")], [])
-        aborted = self.switch.book.revisions[2]
-        aborted.desired = aborted.available = 0
+        self.by_hand("tick 40")
         self.await_log("web-v2 is stopped")
         self.go_down("web-v2")
         self.some_rounds()
@@ -252,9 +273,10 @@ class Stops(Launched):
     def test_an_aborted_revision_of_a_book_that_is_open_is_not_started(self) -> None:
         """Nothing is known of it, and the switch is not asked for its ports before the pause
         ends."""
-        for line in (f"open {self.words('web-v1')}", f"deploy {self.words('web-v2')}", "abort"):
+        opened, deployed = (f"open {self.words('web-v1')}", f"deploy {self.words('web-v2')}")
+        for line in (opened, deployed, "abort", "tick 40"):
             self.by_hand(line)
-        self.switch.book.revisions[2].desired = 0
+        self.assertEqual(self.switch.book.revisions[2].desired, 0)
         self.write(*NAMES[:2], **self.members)
         PauseFile(self.plan.path).pause()
         probes = self.start().controller.probes

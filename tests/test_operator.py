@@ -98,7 +98,7 @@ class Deploys(Operated):
         )
         self.assertEqual(
             self.operator("deploy", "web-v1", "1", "2"),
-            ("ok 0\n", "operator: takes revision 1 web-v1 again\n", 0),
+            ("ok 1\n", "operator: takes revision 1 web-v1 again\n", 0),
         )
         self.assertEqual(
             self.operator("deploy", "web-v1", "1", "2")[::2], ("refused SameTemplate\n", 1)

@@ -242,8 +242,8 @@ class Files(Staged):
 
     def test_the_pages_have_the_files_that_they_link_to(self) -> None:
         documents = self.root / "usr" / "share" / "doc" / "bg-switch"
-        for page in (TOP / "docs").iterdir():
-            self.assertTrue((documents / "docs" / page.name).exists(), page)
+        for page in (TOP / "docs").rglob("*.*"):
+            self.assertTrue((documents / page.relative_to(TOP)).exists(), page)
         for page in documents.rglob("*.md"):
             for target in LINK.findall(page.read_text(encoding="utf-8")):
                 if target and "://" not in target:

@@ -1,24 +1,27 @@
 """The pages: each relative link leads to a file and to a heading of it, each path and target that
-is named is there, and the map of definitions is that of the files."""
+is named is there, no paragraph and no row of a table of the manual is long, and the map of
+definitions is that of the files."""
 import contextlib
 import io
 import pathlib
 import re
 import tempfile
 import unittest
+from collections.abc import Iterator
 
-import definitions
 from tests.tool_runs import TOP
+from tools import definitions
 
 LEAST_LINKS = 60
 MOST_WORDS_OF_README = 1300
 LINES_OF_A_SCREEN = 12
+MOST_WORDS_OF_A_PARAGRAPH = 90
 
 
 def pages(top: pathlib.Path) -> list[pathlib.Path]:
     return sorted(
         page
-        for place in ("", ".github/", "docs/", "examples/**/", "crates/*/", "model/")
+        for place in ("", ".github/", "docs/**/", "examples/**/", "crates/*/", "model/")
         for page in top.glob(f"{place}*.md")
     )
 
@@ -115,11 +118,96 @@ class Names(unittest.TestCase):
         self.assertRegex(screen, r"`make test` takes .*\bmemory\b")
 
 
+def manual(top: pathlib.Path) -> list[pathlib.Path]:
+    """The pages that explain something."""
+    return [
+        page
+        for place in ("README.md", "CONTRIBUTING.md", "docs/**/*.md")
+        for page in sorted(top.glob(place))
+    ]
+
+
+def paragraphs_of(text: str) -> Iterator[tuple[int, int]]:
+    """The number of the first line and the number of words of each paragraph, quote, item of a
+    list and row of a table. Headings and code blocks are left out."""
+    first, words, is_code = 0, 0, False
+    for number, line in enumerate([*text.splitlines(), ""], 1):
+        told = re.sub(r"^\s*(?:> ?)*\s*", "", line)
+        is_fence = told.startswith("```")
+        is_code ^= is_fence
+        is_row = not is_code and told.startswith("|")
+        is_told = not (is_code or is_fence or is_row or re.match(r"#+ |$", told))
+        if words and (not is_told or re.match(r"(?:[-*+]|\d+[.)]) ", told)):
+            yield first, words
+            words = 0
+        if is_row:
+            yield number, len(told.replace("|", " ").split())
+        if is_told:
+            first = first if words else number
+            words += len(told.split())
+
+
+def long_paragraphs(top: pathlib.Path) -> list[str]:
+    return [
+        f"{page.relative_to(top)}:{line}: {words} words"
+        for page in manual(top)
+        for line, words in paragraphs_of(page.read_text(encoding="utf-8"))
+        if words > MOST_WORDS_OF_A_PARAGRAPH
+    ]
+
+
+class Paragraphs(unittest.TestCase):
+    def test_none_is_long(self) -> None:
+        self.assertEqual(long_paragraphs(TOP), [])
+        self.assertGreater(len(manual(TOP)), 10)
+
+    def test_what_is_long_is_found(self) -> None:
+        most = " ".join(["word"] * MOST_WORDS_OF_A_PARAGRAPH)
+        item, long = most.removesuffix(" word"), f"{most} word"
+        cells, long_cells = (f"| a | {words} |" for words in (item, most))
+        page = [
+            *(f"# {long}", most, "", long, "", most, "word", ""),
+            *(f"- {item}", f"  - {item}", "", f"    {most}", f"1. {item}", f"2. {most}", ""),
+            *(f"> {most}", ">", f"> {long}", f"> - {item}", ""),
+            *("```sh", long, f"# {long}", "```", f"| {long} |", f"| {most} |", most, ""),
+            *("  ```", long, "", long, "  ```", long, ""),
+            *("| a | b |", "|---|---|", cells, long_cells, f"|{item}|word more|"),
+            *(f"> {long_cells}", ""),
+            *(most, cells, most, "", long, long_cells, "", "```", long_cells, "```"),
+        ]
+        with tempfile.TemporaryDirectory() as folder:
+            top = pathlib.Path(folder)
+            (top / "docs" / "decisions").mkdir(parents=True)
+            (top / "docs" / "A.md").write_text("\n".join(page), encoding="ascii")
+            for name in ("README.md", "CONTRIBUTING.md"):
+                (top / name).write_text(long, encoding="ascii")
+            (top / "docs" / "decisions" / "a.md").write_text(long, encoding="ascii")
+            self.assertEqual(
+                long_paragraphs(top),
+                [
+                    "README.md:1: 91 words",
+                    "CONTRIBUTING.md:1: 91 words",
+                    "docs/A.md:4: 91 words",
+                    "docs/A.md:6: 91 words",
+                    "docs/A.md:14: 91 words",
+                    "docs/A.md:18: 91 words",
+                    "docs/A.md:25: 91 words",
+                    "docs/A.md:34: 91 words",
+                    "docs/A.md:39: 91 words",
+                    "docs/A.md:40: 91 words",
+                    "docs/A.md:41: 91 words",
+                    "docs/A.md:47: 91 words",
+                    "docs/A.md:48: 91 words",
+                    "docs/decisions/a.md:1: 91 words",
+                ],
+            )
+
+
 class Definitions(unittest.TestCase):
     def test_the_map_is_that_of_the_files(self) -> None:
         page = definitions.PAGE.read_text(encoding="utf-8")
         self.assertEqual(page.count(definitions.MARK), 1)
-        self.assertEqual(page, definitions.page_of(page, TOP), "run scripts/definitions.py")
+        self.assertEqual(page, definitions.page_of(page, TOP), "run tools/definitions.py")
 
     def test_names_and_crates(self) -> None:
         told, faults = io.StringIO(), io.StringIO()

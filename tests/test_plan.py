@@ -10,19 +10,20 @@ import time
 import unittest
 from unittest import mock
 
-from bg_switch_tools.controller import cli as controller_cli, plan_text
-from bg_switch_tools.controller.plan import (
+from bg_switch_tools.controller import cli as controller_cli
+from bg_switch_tools.controller.edits.plan_check import problems_of
+from bg_switch_tools.controller.edits.plan_edit import deploy_by_plan
+from bg_switch_tools.controller.plan import plan_text
+from bg_switch_tools.controller.plan.plan import (
     Commands,
     Health,
     PlannedAnalysis,
     PlannedRevision,
     Progress,
 )
-from bg_switch_tools.controller.plan_edit import deploy_by_plan
-from bg_switch_tools.controller.plan_file import PlanFile
-from bg_switch_tools.controller.plan_check import problems_of
-from bg_switch_tools.controller.plan_limits import missing_commands
-from bg_switch_tools.controller.plan_reader import WrongPlan, read_plan
+from bg_switch_tools.controller.plan.plan_file import PlanFile
+from bg_switch_tools.controller.plan.plan_limits import missing_commands
+from bg_switch_tools.controller.plan.plan_reader import PlanError, read_plan
 
 GOOD: dict[str, object] = {
     "control": 8082,
@@ -49,7 +50,7 @@ def problems(told: object) -> list[str]:
     try:
         read_plan(text.encode())
         return []
-    except WrongPlan as wrong:
+    except PlanError as wrong:
         return wrong.problems
 
 
@@ -313,7 +314,7 @@ class Judged(unittest.TestCase):
                 [problem] = problems(text)
                 self.assertTrue(problem.startswith("it is not JSON: "), problem)
         self.assertEqual(problems(" " * 2**20 + "{}"), ["it has more than 1048576 bytes"])
-        with self.assertRaisesRegex(WrongPlan, "it is not JSON"):
+        with self.assertRaisesRegex(PlanError, "it is not JSON"):
             read_plan(b'{"control": 1, "\xff": 2}')
 
     def test_a_key_that_stands_twice(self) -> None:
@@ -331,7 +332,7 @@ class Judged(unittest.TestCase):
         self.assertLess(time.process_time() - begun, 10)
 
     def test_a_file_without_end(self) -> None:
-        with self.assertRaisesRegex(WrongPlan, "it has more than 1048576 bytes"):
+        with self.assertRaisesRegex(PlanError, "it has more than 1048576 bytes"):
             PlanFile("/dev/zero").read()
 
     def test_no_problem_holds_more_than_a_line(self) -> None:
@@ -540,7 +541,7 @@ def problem(text: bytes) -> str:
     try:
         read_plan(text)
         return ""
-    except WrongPlan as wrong:
+    except PlanError as wrong:
         return "; ".join(wrong.problems)
 
 
@@ -620,7 +621,7 @@ class Edits(unittest.TestCase):
             ("web-v3", [1]),
             ("web-v3", [0, 1]),
         ):
-            with self.subTest(name=name, ports=ports), self.assertRaises(WrongPlan):
+            with self.subTest(name=name, ports=ports), self.assertRaises(PlanError):
                 deploy_by_plan(self.path, name, ports)
         self.assertEqual(pathlib.Path(self.path).read_bytes(), before)
 
@@ -640,7 +641,7 @@ class Edits(unittest.TestCase):
         if plan_text._yaml() is None:
             self.skipTest("python3-yaml is not installed")
         pathlib.Path(self.path).write_bytes(YAML)
-        with self.assertRaisesRegex(WrongPlan, "it is YAML, whose comments this edit would lose"):
+        with self.assertRaisesRegex(PlanError, "it is YAML, whose comments this edit would lose"):
             deploy_by_plan(self.path, "web-v3", [1, 2])
         self.assertEqual(pathlib.Path(self.path).read_bytes(), YAML)
 

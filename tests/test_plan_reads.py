@@ -9,8 +9,8 @@ from collections.abc import Iterator
 from unittest import mock
 
 from bg_switch_tools.bgctl.commands import BGCTL_COMMANDS
-from bg_switch_tools.controller import plan_edit_lock
-from bg_switch_tools.controller.plan_file import OpenPlan
+from bg_switch_tools.controller.edits import plan_edit_lock
+from bg_switch_tools.controller.plan.plan_file import OpenPlan
 from support.processes import Run
 from tests.bgctl_places import V1, Place, at, plan_text
 from tests.tool_runs import comes

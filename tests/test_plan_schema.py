@@ -8,12 +8,12 @@ import unittest
 from collections.abc import Iterator
 from typing import Any
 
-import plan_schema
-from bg_switch_tools.controller.plan_reader import KEYS, WrongPlan, read_plan
+from bg_switch_tools.controller.plan.plan_reader import KEYS, PlanError, read_plan
 from tests.test_plan import GOOD
 from tests.tool_runs import TOP
+from tools import plan_schema
 
-MEND = "run scripts/plan_schema.py --write"
+MEND = "run tools/plan_schema.py --write"
 LEAST_VALUES = 200
 Value = Any  # of JSON
 
@@ -23,7 +23,7 @@ def is_taken(plan: Value) -> bool:
     try:
         read_plan(json.dumps(plan).encode())
         return True
-    except WrongPlan:
+    except PlanError:
         return False
 
 

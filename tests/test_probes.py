@@ -8,8 +8,8 @@ import time
 import unittest
 from unittest import mock
 
-from bg_switch_tools.controller.plan import Health
-from bg_switch_tools.controller.probes import Probes, is_up
+from bg_switch_tools.controller.endpoints.probes import Probes, is_up
+from bg_switch_tools.controller.plan.plan import Health
 from support import endpoints
 from support.messages import response
 from support.pace import is_within
@@ -155,8 +155,8 @@ class Together(unittest.TestCase):
     def test_the_end_cuts_the_probes_that_run(self) -> None:
         """No thread waits for an endpoint any more, so nothing holds up the end of the process."""
         code = (
-            "import sys, time; from tests.tool_runs import Endpoint; from bg_switch_tools.controller.probes import Probes; "
-            "from bg_switch_tools.controller.plan import Health; endpoint = Endpoint(); endpoint.trickle(); probes = Probes(); "
+            "import sys, time; from tests.tool_runs import Endpoint; from bg_switch_tools.controller.endpoints.probes import Probes; "
+            "from bg_switch_tools.controller.plan.plan import Health; endpoint = Endpoint(); endpoint.trickle(); probes = Probes(); "
             "probes.watch([endpoint.port], Health('/', 1, 600, 2)); time.sleep(0.3); probes.stop()"
         )
         begun = time.monotonic()
@@ -218,7 +218,7 @@ class Together(unittest.TestCase):
 
     def test_an_outage_counts_from_the_first_failure_of_the_last_endpoint(self) -> None:
         probes = self.probes()
-        with mock.patch("bg_switch_tools.controller.probes.time.monotonic") as clock:
+        with mock.patch("bg_switch_tools.controller.endpoints.probes.time.monotonic") as clock:
             for now, port, up in (
                 (10.0, 1, True),
                 (10.0, 2, True),

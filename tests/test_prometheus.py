@@ -13,8 +13,8 @@ from bg_switch_tools.analysis import prometheus_query
 from bg_switch_tools.analysis.cli import main
 from bg_switch_tools.analysis.judged_revision import JudgedRevision
 from bg_switch_tools.analysis.prometheus_analysis import QueryLimits, filled, judged
-from bg_switch_tools.analysis.prometheus_query import NoAnswer, Server, query_values, server_of
-from bg_switch_tools.analysis.verdicts import NotJudged
+from bg_switch_tools.analysis.prometheus_query import QueryError, Server, query_values, server_of
+from bg_switch_tools.analysis.verdicts import NotJudgedError
 from support.pace import is_within
 from support.processes import Run
 from tests.fake_port import free_port
@@ -84,22 +84,22 @@ class Queries(unittest.TestCase):
             (200, b"[" * 99999, "is not JSON"),
             (200, b" " * (prometheus_query.LARGEST + 1), "has more than"),
         ):
-            with self.subTest(body=body[:80]), self.assertRaisesRegex(NoAnswer, why):
+            with self.subTest(body=body[:80]), self.assertRaisesRegex(QueryError, why):
                 self.values(status, body)
 
     def test_a_server_that_is_too_slow(self) -> None:
         begun = time.monotonic()
-        with self.assertRaisesRegex(NoAnswer, "no whole answer within 0.5 seconds"):
+        with self.assertRaisesRegex(QueryError, "no whole answer within 0.5 seconds"):
             self.values(200, vector("1") + b" " * 999, 0.5, 0.1)
         seconds = time.monotonic() - begun
         self.assertTrue(is_within(seconds, 5), seconds)
 
     def test_a_server_that_is_silent_or_gone(self) -> None:
         with socket.create_server(("127.0.0.1", free_port())) as silent, self.assertRaises(
-            NoAnswer
+            QueryError
         ):
             query_values(Server("http", "127.0.0.1", silent.getsockname()[1], ""), "x", 0.3)
-        with self.assertRaisesRegex(NoAnswer, "Connection refused"):
+        with self.assertRaisesRegex(QueryError, "Connection refused"):
             query_values(Server("http", "127.0.0.1", free_port(), ""), "x")
 
     def test_urls(self) -> None:
@@ -158,7 +158,7 @@ class Judged(unittest.TestCase):
             ("{{args.revision}}", JudgedRevision("", 2)),
             ("{{args.revision}}", JudgedRevision('x"} or vector(0', 2)),
         ):
-            with self.subTest(query=query), self.assertRaises(NotJudged):
+            with self.subTest(query=query), self.assertRaises(NotJudgedError):
                 filled(query, subject)
 
 

@@ -11,7 +11,7 @@ from unittest import mock
 from support.clients import received
 from support.reserved import HOST
 from support.smuggling import read_by_gunicorn
-from support.smuggling.echo import Echo, Malformed, request_in
+from support.smuggling.echo import Echo, MalformedRequestError, request_in
 from support.smuggling.messages import HIDDEN, chunks, head
 from support.smuggling.readings import (
     INPUT_HAS_ENDED,
@@ -50,7 +50,7 @@ def answers_all(connection: socket.socket) -> None:
             is_last = b"Connection: close" in begin.partition(b"\r\n\r\n")[0]
             try:
                 connection.sendall(answer_to(request_in(stream, connection.sendall)))
-            except Malformed:
+            except MalformedRequestError:
                 connection.sendall(b"HTTP/1.1 400 Bad Request\r\nContent-Length: 0\r\n\r\n")
                 return
 
@@ -58,7 +58,7 @@ def answers_all(connection: socket.socket) -> None:
 def answers_at_the_end(connection: socket.socket) -> None:
     """Answers the requests of a connection once its input has ended."""
     stream = io.BytesIO(received(connection))
-    with contextlib.suppress(Malformed):
+    with contextlib.suppress(MalformedRequestError):
         while True:
             connection.sendall(answer_to(request_in(stream, connection.sendall)))
 
@@ -160,11 +160,8 @@ class Applications(unittest.TestCase):
             self.assertEqual(told_body, b"READ " + word + b"\n")
 
     def test_its_input_may_end_early(self) -> None:
-        class NoMoreData(Exception):
-            pass
-
         cut = mock.Mock()
-        cut.read.side_effect = NoMoreData
+        cut.read.side_effect = type("NoMoreData", (Exception,), {})  # gunicorn's own name
         for body, length in ((io.BytesIO(b"hell"), "5"), (cut, "")):
             self.assertEqual(self.answer(body, length)[0].split()[0], str(INPUT_HAS_ENDED))
         cut.read.side_effect = ValueError

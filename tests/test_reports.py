@@ -1,7 +1,7 @@
 """Reports, read from their lines."""
 import unittest
 
-from bg_switch_tools.switch.reports import NoReport, Revision, as_json, read_report
+from bg_switch_tools.switch.reports import ReportError, Revision, as_json, read_report
 from tests.fake_port import REPORT
 
 DRAINING = (
@@ -41,7 +41,7 @@ class Reading(unittest.TestCase):
                 line.replace("1", "x").replace("0", "x").replace("steady", "x"),
                 "",
             ):
-                with self.subTest(line=wrong), self.assertRaises(NoReport):
+                with self.subTest(line=wrong), self.assertRaises(ReportError):
                     read_report([*REPORT[:place], wrong, *REPORT[place + 1 :]])
         wrong_ones: list[list[str]] = [
             [],
@@ -52,7 +52,7 @@ class Reading(unittest.TestCase):
             ["moment -1", *REPORT[1:]],
         ]
         for lines in wrong_ones:
-            with self.subTest(lines=lines), self.assertRaises(NoReport):
+            with self.subTest(lines=lines), self.assertRaises(ReportError):
                 read_report(lines)
 
 

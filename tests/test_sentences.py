@@ -8,7 +8,7 @@ import re
 import unittest
 from collections.abc import Iterator, Mapping
 
-from bg_switch_tools.switch.lines import FAULTS, HINTS, REFUSALS
+from bg_switch_tools.switch.meanings import FAULTS, HINTS, REFUSALS
 from tests.tool_runs import TOP
 
 CRATES = (

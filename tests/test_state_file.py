@@ -8,17 +8,17 @@ import tempfile
 import time
 import unittest
 
+from bg_switch_tools.controller.history.memory import Memory
 from bg_switch_tools.controller.log import Log
-from bg_switch_tools.controller.memory import Memory
-from bg_switch_tools.controller.plan import Analyses, Health, Plan, PlannedRevision, Progress
+from bg_switch_tools.controller.plan.plan import Analyses, Health, Plan, PlannedRevision, Progress
 from bg_switch_tools.controller.process_groups import ProcessId
-from bg_switch_tools.controller.state_file import (
+from bg_switch_tools.controller.state.state_file import (
     HeldBack,
-    IsLocked,
-    NoState,
     State,
+    StateError,
     StateFile,
     StateLock,
+    StateLockedError,
     read_state,
     written,
 )
@@ -69,7 +69,7 @@ class Texts(unittest.TestCase):
     def test_every_cut_is_noticed(self) -> None:
         whole = written(STATE)
         for length in range(len(whole) - 1):
-            with self.assertRaises(NoState):
+            with self.assertRaises(StateError):
                 read_state(whole[:length])
 
     def test_what_is_no_state(self) -> None:
@@ -88,7 +88,7 @@ class Texts(unittest.TestCase):
             text.replace("12345", '"x"'),
             text.replace("pid", "process"),
         ):
-            with self.subTest(text=wrong), self.assertRaises(NoState):
+            with self.subTest(text=wrong), self.assertRaises(StateError):
                 read_state(wrong.encode())
 
     def test_a_file_of_an_earlier_controller(self) -> None:
@@ -269,7 +269,8 @@ class Locks(unittest.TestCase):
             plan = os.path.join(folder, "plan.json")
             lock = StateLock(plan)
             with self.assertRaisesRegex(
-                IsLocked, f"another controller runs this plan: process {os.getpid()} has the lock"
+                StateLockedError,
+                f"another controller runs this plan: process {os.getpid()} has the lock",
             ):
                 StateLock(plan)
             lock.release()

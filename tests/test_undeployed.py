@@ -4,10 +4,10 @@ import json
 import threading
 import unittest
 
-from bg_switch_tools.controller.announced_deploy import AnnouncedDeploy
-from bg_switch_tools.controller.plan_author import Author
-from bg_switch_tools.controller.plan_edit import deploy_by_plan
-from bg_switch_tools.controller.state_file import StateFile
+from bg_switch_tools.controller.edits.announced_deploy import AnnouncedDeploy
+from bg_switch_tools.controller.edits.plan_edit import deploy_by_plan
+from bg_switch_tools.controller.state.plan_author import Author
+from bg_switch_tools.controller.state.state_file import StateFile
 from support.processes import Run
 from tests.test_bgctl import run
 from tests.test_controller import ControllerCase

@@ -1,5 +1,5 @@
-"""What the scripts of the gate share: the running switch, endpoints, clients, operators, messages,
-ports and checks."""
+"""What checks over sockets, drills, benches and tests share: the running switch, endpoints, clients,
+operators, messages, ports and checks."""
 import os
 import pathlib
 import sys

@@ -31,11 +31,11 @@ ARGUMENTS = (
 )
 
 
-class NoBrowser(Exception):
+class NoBrowserError(Exception):
     """No browser can be had here. The text says why."""
 
 
-class CallFailed(Exception):
+class WebDriverError(Exception):
     """A call of WebDriver failed."""
 
 
@@ -44,7 +44,7 @@ def first_of(names: tuple[str, ...]) -> str:
     for name in names:
         if (path := shutil.which(name)) is not None:
             return path
-    raise NoBrowser(f"none of {', '.join(names)} is installed")
+    raise NoBrowserError(f"none of {', '.join(names)} is installed")
 
 
 class Browser:
@@ -64,21 +64,21 @@ class Browser:
         )
         try:
             if not comes(lambda: is_open(port)):
-                raise NoBrowser("the driver does not listen")
+                raise NoBrowserError("the driver does not listen")
             arguments = [*ARGUMENTS, *extra, f"--user-data-dir={folder}/profile"]
             expected = {
                 "goog:chromeOptions": {"binary": browser, "args": arguments},
                 "goog:loggingPrefs": {"browser": "ALL"},
             }
             told = self.call("POST", "/session", {"capabilities": {"alwaysMatch": expected}})
-        except (CallFailed, OSError) as error:
+        except (WebDriverError, OSError) as error:
             self.close()
-            raise NoBrowser(f"the browser does not start: {error}") from None
+            raise NoBrowserError(f"the browser does not start: {error}") from None
         assert isinstance(told, dict)
         self.session = f"/session/{told['sessionId']}"
 
     def close(self) -> None:
-        with contextlib.suppress(CallFailed, OSError, http.client.HTTPException):
+        with contextlib.suppress(WebDriverError, OSError, http.client.HTTPException):
             if self.session:
                 self.call("DELETE", "", None)
         self.driver.terminate()
@@ -100,7 +100,7 @@ class Browser:
         finally:
             connection.close()
         if isinstance(value, dict) and "error" in value:
-            raise CallFailed(
+            raise WebDriverError(
                 f"{path}: {value['error']}: {str(value.get('message')).splitlines()[0]}"
             )
         return value
@@ -193,7 +193,7 @@ class Browser:
 
 @contextlib.contextmanager
 def browsing(port: int, extra: tuple[str, ...] = ()) -> Iterator[Browser]:
-    """A browser, which is ended whatever happens. `NoBrowser` where none can be had."""
+    """A browser, which is ended whatever happens. `NoBrowserError` where none can be had."""
     with tempfile.TemporaryDirectory(ignore_cleanup_errors=True) as folder:
         browser = Browser(port, folder, extra)
         try:

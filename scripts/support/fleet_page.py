@@ -3,7 +3,7 @@ import pathlib
 import tempfile
 from collections.abc import Callable
 
-from bg_switch_tools.fleet.record import (
+from bg_switch_tools.fleet.record.record import (
     ABORTED,
     FAILED,
     FOLLOWS,

@@ -13,7 +13,8 @@ import time
 from collections.abc import Iterator, Sequence
 from typing import NamedTuple
 
-from bg_switch_tools.switch.before import TOO_LATE, boot_clock
+from bg_switch_tools.switch.before import boot_clock
+from bg_switch_tools.switch.replies import TOO_LATE
 
 from support import processes
 from support.operators import LONGEST, Operator
@@ -67,11 +68,11 @@ class Sent(NamedTuple):
     def fault(self) -> str:
         """What the switch has done wrong for certain; empty where it has done nothing."""
         told = f"before {self.limit} {self.line} => {self.reply}"
-        if self.is_late and self.reply != TOO_LATE:
+        if self.is_late and self.reply != str(TOO_LATE):
             return (
                 f"carried out late: {told}, and the switch had not judged it before {self.earliest}"
             )
-        if self.is_in_time and self.reply == TOO_LATE:
+        if self.is_in_time and self.reply == str(TOO_LATE):
             return f"refused in time: {told}, and the reply was here at {self.received}"
         return ""
 
@@ -98,7 +99,7 @@ class Sender:
         self.operator.allow(LONGEST)
         waiting, self.waiting = self.waiting, []
         for each in waiting:
-            reply = self.operator.next_line()
+            reply = self.operator.receive_line()
             yield each._replace(reply=reply, received=milliseconds())
 
 

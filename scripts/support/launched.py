@@ -17,7 +17,7 @@ from support.ports import free_ports
 from support.switch import LISTENING, words_of_serve
 
 # isort: split; `support` tells where the tools' package is
-from bg_switch_tools.switch.connection import Unreachable, ask
+from bg_switch_tools.switch.connection import UnreachableError, ask
 from bg_switch_tools.switch.reports import Report, read_report
 
 WAIT = 40.0  # seconds for which anything is awaited
@@ -214,7 +214,7 @@ class Launched:
     def report(self) -> Report | None:
         try:
             return read_report(ask(self.control, b"report", WAIT))
-        except Unreachable:
+        except UnreachableError:
             return None
 
     def is_settled(self, name: str) -> bool:

@@ -3,7 +3,7 @@ import json
 import os
 from collections.abc import Iterable, Sequence
 
-from bg_switch_tools.controller.state_file import write_whole
+from bg_switch_tools.controller.state.state_file import write_whole
 
 
 class Plan:

@@ -39,8 +39,9 @@ SCRIPTS = (
     "live_fleet_pages",
     "live_memory",
     "live_error_pages",
+    "live_event_loop",
 )
-FIRST_PORT, PORTS_EACH = 19500, 500
+FIRST_PORT, PORTS_EACH = 19500, 490
 # The system's table of sockets, its columns, and the state of a socket that listens.
 TABLE = pathlib.Path("/proc/net/tcp")
 LOCAL, STATE, QUEUES, INODE, LISTENS = 1, 3, 4, 9, "0A"

@@ -10,6 +10,7 @@ import time
 
 from support.fleet.client import ask
 from support.fleet.recording import VERDICTS, Verdict
+from support.moments import moment
 
 SECONDS, PAUSE = 0.6, 0.1
 LONGEST_HOLD = 15.0  # seconds: shorter than the plan allows for an analysis
@@ -51,7 +52,7 @@ def main(words: list[str]) -> int:
     )
     verdict = verdict_of(folder, host, step, port, revision)
     with open(folder / VERDICTS, "a", encoding="utf-8") as file:
-        file.write(json.dumps(Verdict(time.time(), host, step, revision, verdict)._asdict()) + "\n")
+        file.write(json.dumps(Verdict(moment(), host, step, revision, verdict)._asdict()) + "\n")
     return STATUSES[verdict]
 
 

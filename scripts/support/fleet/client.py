@@ -7,13 +7,19 @@ import threading
 import time
 
 from support.fleet.recording import Answered
+from support.moments import moment
 
 PAUSE, LONGEST = 0.04, 10.0  # seconds
 
 
+def wall_clock_lead() -> float:
+    """By how many seconds the wall clock is ahead of the boot clock. Only a step changes it much."""
+    return time.time() - moment()
+
+
 def ask(host: str, port: int) -> Answered:
     """One request. The first word of the body is the revision, and the field X-Host the machine."""
-    begun, status, revision, machine = time.time(), 0, "", ""
+    begun, lead, status, revision, machine = moment(), wall_clock_lead(), 0, "", ""
     connection = http.client.HTTPConnection(host, port, timeout=LONGEST)
     try:
         connection.request("GET", "/")
@@ -25,7 +31,8 @@ def ask(host: str, port: int) -> Answered:
         pass
     finally:
         connection.close()
-    return Answered(begun, time.time() - begun, status, revision, machine)
+    stepped = round(wall_clock_lead() - lead, 1)
+    return Answered(begun, moment() - begun, status, revision, machine, stepped)
 
 
 def main(host: str, port: int, threads: int) -> None:

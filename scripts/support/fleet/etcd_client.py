@@ -12,6 +12,7 @@ from typing import Any
 
 from support.fleet.hosts import Address, Network
 from support.fleet.recording import HISTORY, POLLS, Event, Poll
+from support.moments import moment
 
 TIMEOUT = 1.0  # seconds for a call
 PERIOD = 0.05  # seconds between two polls
@@ -21,7 +22,7 @@ LONGEST_END = 30.0  # seconds in which the last changes come
 FIELDS = {"Grpc-Metadata-hasleader": "true"}  # a member without a leader says so, and is not silent
 
 
-class NoAnswer(Exception):
+class EtcdClientError(Exception):
     """No member of etcd has answered."""
 
 
@@ -64,13 +65,13 @@ class EtcdClient:
             except (OSError, ValueError, http.client.HTTPException) as error:
                 faults.append(f"{endpoint}: {type(error).__name__} {error}")
             self.endpoints.append(self.endpoints.pop(0))
-        raise NoAnswer("; ".join(faults))
+        raise EtcdClientError("; ".join(faults))
 
     def poll(self) -> Poll:
         """The revision of the store and the term of its leader, by a linearizable read."""
-        begun = time.time()
+        begun = moment()
         header = self._call("/v3/kv/range", {"key": coded("/"), "count_only": True})["header"]
-        return Poll(begun, time.time(), int(header["revision"]), int(header["raft_term"]))
+        return Poll(begun, moment(), int(header["revision"]), int(header["raft_term"]))
 
     def revision(self) -> int:
         """The revision of the store, by a linearizable read."""
@@ -111,8 +112,8 @@ class EtcdClient:
         )
 
     def compact(self, revision: int) -> None:
-        """Lets the store drop the values before those of this revision. `NoAnswer` also where it
-        has done so before."""
+        """Lets the store drop the values before those of this revision. `EtcdClientError` also
+        where it has done so before."""
         self._call("/v3/kv/compaction", {"revision": str(revision)})
 
     def changes(self, first: int) -> Iterator[Event]:
@@ -123,8 +124,8 @@ class EtcdClient:
         self.endpoints.append(self.endpoints.pop(0))
 
     def follow(self, seconds: float) -> Iterator[Event]:
-        """The changes of the keys from now on, as they come, for so many seconds. `NoAnswer` where
-        no member answers at first."""
+        """The changes of the keys from now on, as they come, for so many seconds. `EtcdClientError`
+        where no member answers at first."""
         after, end = self.revision(), time.monotonic() + seconds
         while (left := end - time.monotonic()) > 0:
             with contextlib.suppress(OSError, ValueError, http.client.HTTPException):
@@ -176,19 +177,19 @@ class Recorder:
     def _poll(self) -> None:
         with open(self.folder / POLLS, "a", encoding="ascii") as file:
             while not self.ending.wait(PERIOD):
-                with contextlib.suppress(NoAnswer):
+                with contextlib.suppress(EtcdClientError):
                     file.write(json.dumps(self.client.poll()._asdict()) + "\n")
 
     def end(self) -> None:
-        """Writes the history. `NoAnswer` where etcd does not give it in time."""
+        """Writes the history. `EtcdClientError` where etcd does not give it in time."""
         self.ending.set()
         self.thread.join()
         end = time.monotonic() + LONGEST_END
         while not self.has_all.is_set():
-            with contextlib.suppress(NoAnswer):
+            with contextlib.suppress(EtcdClientError):
                 self.client.put(END_OF_HISTORY, "")
             if time.monotonic() > end:
-                raise NoAnswer("the history of the keys did not come in time")
+                raise EtcdClientError("the history of the keys did not come in time")
             self.has_all.wait(SILENCE)
         rows = [each for each in self.events if not each.name.startswith("drill/")]
         write_rows(self.folder / HISTORY, rows)

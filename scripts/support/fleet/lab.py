@@ -15,8 +15,9 @@ from support import PROGRAM, TOP
 from support.checks import comes
 from support.fleet.analysis import bad_file, hold_file
 from support.fleet.client import ask
-from support.fleet.etcd_client import EtcdClient, NoAnswer, Recorder, write_rows
+from support.fleet.etcd_client import EtcdClient, EtcdClientError, Recorder, write_rows
 from support.fleet.hosts import Network, free_block, network_of
+from support.fleet.machine_clock import step_wall_clock
 from support.fleet.programs import Programs
 from support.fleet.recording import (
     OUTAGES,
@@ -30,6 +31,7 @@ from support.fleet.recording import (
 from support.fleet.seen import Seen
 from support.fleet.servers import etcd_words, haproxy_words, nginx_words
 from support.fleet.stepped_clock import clock_file
+from support.moments import moment
 from support.processes import Run, run_to_end
 from support.switch import words_of_serve
 
@@ -122,6 +124,7 @@ class Lab:
         self.first_port = free_block(2 * revisions) if self.network.shares_loopback else FIRST_PORT
         self.broken: dict[tuple[str, str], float] = {}  # by fault and host: since when
         self.outages: list[Outage] = []
+        self.machine_clock_off = 0  # seconds by which this drill has stepped the machine's clock
         self.recorder: Recorder | None = None
         # of programs, up to the recording: what has ended by itself, or has told of an exception
         self.failures: list[str] = []
@@ -136,7 +139,11 @@ class Lab:
         return self
 
     def __exit__(self, *_: object) -> None:
-        self._down()
+        try:
+            if self.machine_clock_off:
+                self.set_machine_clock_right()
+        finally:
+            self._down()
 
     def _interrupt(self, number: int, _: FrameType | None) -> None:
         raise SystemExit(128 + number)
@@ -146,7 +153,7 @@ class Lab:
         if not self.is_quiet:
             print(f"{time.strftime('%H:%M:%S')} {text}", flush=True)
         with open(self.folder / "drill.log", "a", encoding="utf-8") as file:
-            file.write(f"{time.time():.3f} {text}\n")
+            file.write(f"{moment():.3f} {text}\n")
 
     def ports_of(self, number: int) -> list[int]:
         """The ports of the endpoints of web-NUMBER, which are the same on each host: NUMBER is from
@@ -203,7 +210,7 @@ class Lab:
             raise TimeoutError(f"in {LONGEST:g} seconds it did not come that {what}")
 
     def _has_etcd(self) -> bool:
-        with contextlib.suppress(NoAnswer):
+        with contextlib.suppress(EtcdClientError):
             return self.etcd.revision() > 0
         return False
 
@@ -327,11 +334,11 @@ class Lab:
     # ---- faults ----
 
     def _begin_outage(self, what: str, host: str, text: str) -> None:
-        self.broken.setdefault((what, host), time.time())
+        self.broken.setdefault((what, host), moment())
         self.say(f"{text} {host}")
 
     def _end_outage(self, what: str, host: str, text: str) -> None:
-        self.outages.append(Outage(what, host, self.broken.pop((what, host)), time.time()))
+        self.outages.append(Outage(what, host, self.broken.pop((what, host)), moment()))
         self.say(f"{text} {host}")
 
     def kill(self, what: str, host: str) -> None:
@@ -390,7 +397,7 @@ class Lab:
         revision = self.recorder.followed if self.recorder else 0
         try:
             EtcdClient(self.network, FLEET).compact(revision)
-        except NoAnswer:
+        except EtcdClientError:
             return False
         self.say(f"COMPACT etcd up to revision {revision}")
         return True
@@ -403,6 +410,18 @@ class Lab:
     def set_clock_right(self, host: str) -> None:
         clock_file(self.folder, host).unlink()
         self.say(f"the wall clock is right again: {host}")
+
+    def step_machine_clock(self, seconds: int) -> None:
+        """Steps the wall clock of this machine, which all programs have."""
+        step_wall_clock(seconds)
+        self.machine_clock_off += seconds
+        self.say(f"STEP the wall clock of the machine by {seconds} seconds")
+
+    def set_machine_clock_right(self) -> None:
+        """Takes back all steps of the machine's wall clock."""
+        step_wall_clock(-self.machine_clock_off)
+        self.machine_clock_off = 0
+        self.say("the wall clock of the machine is right again")
 
     # ---- what is seen ----
 
@@ -427,13 +446,13 @@ class Lab:
 
     def seen(self) -> Seen:
         """What the keys of the fleet say; nothing where etcd gives no answer."""
-        with contextlib.suppress(NoAnswer):
+        with contextlib.suppress(EtcdClientError):
             return Seen(self.etcd.entries())
         return Seen({})
 
     def keys(self) -> dict[str, str]:
         """The keys of the fleet; none where etcd gives no answer."""
-        with contextlib.suppress(NoAnswer):
+        with contextlib.suppress(EtcdClientError):
             return self.etcd.keys()
         return {}
 

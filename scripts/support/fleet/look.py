@@ -5,25 +5,26 @@ import sys
 import time
 
 import support  # noqa: F401 - it tells where the tools' package is
-from bg_switch_tools.switch.connection import Unreachable, ask
-from bg_switch_tools.switch.reports import NoReport, read_report
+from bg_switch_tools.switch.connection import UnreachableError, ask
+from bg_switch_tools.switch.reports import ReportError, read_report
 from support.fleet.recording import Look
+from support.moments import moment
 
 PERIOD, WAIT = 0.1, 0.3  # seconds
 
 
 def look_at(control: int) -> Look:
     """One look. It has no phase where the switch gives no answer in time, or no book is open."""
-    begun = time.time()
+    begun = moment()
     try:
         report = read_report(ask(control, b"report", WAIT))
-    except (Unreachable, NoReport):
+    except (UnreachableError, ReportError):
         report = None
     if report is None:
-        return Look(begun, time.time())
+        return Look(begun, moment())
     return Look(
         begun,
-        time.time(),
+        moment(),
         report.phase,
         *(report.service(service).name for service in ("active", "stable", "newest")),
     )

@@ -17,14 +17,17 @@ from support.fleet.session import Session
 
 # isort: split; `support` tells where the packages of the tools and of the tests are
 sys.path.insert(0, str(TOP))
-from bg_switch_tools.controller.book import Book  # noqa: E402
-from bg_switch_tools.controller.plan import Plan  # noqa: E402
-from bg_switch_tools.fleet.agent import LEASE  # noqa: E402
-from bg_switch_tools.fleet.candidate import Candidate, Pending  # noqa: E402
-from bg_switch_tools.fleet.fleet_lines import FleetLines  # noqa: E402
-from bg_switch_tools.fleet.next_line import PROMOTE_LINE  # noqa: E402
-from bg_switch_tools.fleet.record import ORDER, PROMOTING  # noqa: E402
+from bg_switch_tools.controller.lines.book import Book  # noqa: E402
+from bg_switch_tools.controller.plan.plan import Plan  # noqa: E402
+from bg_switch_tools.fleet.agent.agent import LEASE  # noqa: E402
+from bg_switch_tools.fleet.agent.candidate import Candidate, Pending  # noqa: E402
+from bg_switch_tools.fleet.agent.fleet_lines import FleetLines  # noqa: E402
+from bg_switch_tools.fleet.machine.line_table import PROMOTE_LINE  # noqa: E402
+from bg_switch_tools.fleet.record.record import ORDER, PROMOTING  # noqa: E402
 from bg_switch_tools.switch.connection import Connection  # noqa: E402
+from bg_switch_tools.switch.lines import Line  # noqa: E402
+from bg_switch_tools.switch.phases import Phase  # noqa: E402
+from bg_switch_tools.switch.replies import Reply  # noqa: E402
 from bg_switch_tools.switch.reports import Report  # noqa: E402
 from tests.fleet_faults import (  # noqa: E402
     Patch,
@@ -85,9 +88,9 @@ def slow_on_old_reads() -> Iterator[None]:
     """An agent that waits before it decides to promote, and does not ask how old its read is then."""
     line_of = FleetLines.next_line
 
-    def late(self: FleetLines, plan: Plan, report: Report) -> str | None:
+    def late(self: FleetLines, plan: Plan, report: Report) -> Line | None:
         record = self.machine.record
-        if record and record.stage == PROMOTING and report.phase == "paused":
+        if record and record.stage == PROMOTING and report.phase is Phase.PAUSED:
             time.sleep(LATE)
         return line_of(self, plan, report)
 
@@ -101,7 +104,7 @@ def slow_without_time_limit() -> Iterator[None]:
     limit."""
     send = Book.send
 
-    def late(self: Book, connection: Connection, line: str) -> str:
+    def late(self: Book, connection: Connection, line: Line) -> Reply:
         if line == PROMOTE_LINE:
             time.sleep(STOPPED)
         return send(self, connection, line)

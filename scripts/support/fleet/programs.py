@@ -6,11 +6,11 @@ import pathlib
 import signal
 import subprocess
 import threading
-import time
 from collections.abc import Sequence
 from typing import IO
 
 from support import TOP, processes
+from support.moments import moment
 
 LONGEST = 10  # seconds that a program has to end by itself
 # What of the drill runs in processes of its own finds this package and that of the tools.
@@ -72,7 +72,7 @@ class Programs:
                 file.write(
                     json.dumps(
                         {
-                            "moment": time.time(),
+                            "moment": moment(),
                             "line": line.decode("utf-8", "replace").rstrip("\n"),
                         }
                     )

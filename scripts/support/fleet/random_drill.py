@@ -9,9 +9,10 @@ import time
 from typing import NamedTuple
 
 from support.fleet.aimed_abort import promoted_attempt, put_abort
-from support.fleet.etcd_client import EtcdClient, NoAnswer
+from support.fleet.etcd_client import EtcdClient, EtcdClientError
 from support.fleet.lab import FLEET, Lab, name_of, stepped_agent_words
-from support.fleet.random_faults import Faults
+from support.fleet.random_faults import KINDS as KINDS_OF_FAULTS
+from support.fleet.random_faults import MACHINE_STEPPED, Faults
 from support.fleet.recording import Recording
 from support.fleet.seen import Seen
 from support.fleet.session import Session
@@ -106,8 +107,9 @@ class Outcome(NamedTuple):
 class RandomDrill:
     """A drill on a fleet that is up."""
 
-    def __init__(self, lab: Lab, seed: int) -> None:
+    def __init__(self, lab: Lab, seed: int, steps_machine_clock: bool = False) -> None:
         self.lab = lab
+        self.faults_of = (*KINDS_OF_FAULTS, *(MACHINE_STEPPED,) * steps_machine_clock)
         self.session = Session(lab)
         self.chance = random.Random(seed)
         self.counts: collections.Counter[str] = collections.Counter({what: 0 for what in COUNTED})
@@ -118,7 +120,7 @@ class RandomDrill:
 
     def play(self, seconds: float) -> Outcome:
         self.session.begin()
-        self.faults = Faults(self.lab, self.chance)
+        self.faults = Faults(self.lab, self.chance, self.faults_of)
         end = time.monotonic() + seconds
         while time.monotonic() < end:
             seen = self.lab.seen()
@@ -179,7 +181,7 @@ class RandomDrill:
     def _spoil(self) -> None:
         """Somebody puts what is no plan, or deletes the plan, while an attempt runs."""
         client, text = EtcdClient(self.lab.network, FLEET), self.chance.choice(NO_PLANS)
-        with contextlib.suppress(NoAnswer):
+        with contextlib.suppress(EtcdClientError):
             if text:
                 client.put("plan", text)
             else:
@@ -199,7 +201,7 @@ class RandomDrill:
 
     def _abort_when_promoting(self, name: str) -> None:
         client = EtcdClient(self.lab.network, FLEET)
-        with contextlib.suppress(NoAnswer):
+        with contextlib.suppress(EtcdClientError):
             attempt = promoted_attempt(client, name, AIMING)
             if attempt is None or self.has_ended.is_set():
                 return
@@ -232,7 +234,9 @@ def revisions_for(seconds: float) -> int:
     return 5 + int(seconds / EACH_PLAN)
 
 
-def random_drill(folder: pathlib.Path, seed: int, seconds: float) -> Outcome:
+def random_drill(
+    folder: pathlib.Path, seed: int, seconds: float, steps_machine_clock: bool
+) -> Outcome:
     """A whole drill, on a fleet of its own."""
     with Lab(folder, revisions=revisions_for(seconds), agent=stepped_agent_words) as lab:
-        return RandomDrill(lab, seed).play(seconds)
+        return RandomDrill(lab, seed, steps_machine_clock).play(seconds)

@@ -20,6 +20,7 @@ MEMBER_KILLED, MAJORITY_KILLED, SWITCH_KILLED = (
     "switches killed",
 )
 SWITCH_DELAYED, CLOCK_STEPPED = "switches delayed", "wall clocks of agents stepped"
+MACHINE_STEPPED = "wall clock of the machine stepped"  # only where the drill may do so
 COMPACTED = (
     "compactions of etcd while a link is cut"  # which has no end, and so is none of the kinds
 )
@@ -35,8 +36,20 @@ KINDS = (
 )
 # How often a kind comes beside the others. Without a majority or a leader nothing is decided, so
 # those are rare.
-WEIGHTS = (3, 3, 2, 3, 0.5, 3, 2, 1)
-STEPS = (-7200.0, -30.0, 30.0, 7200.0)  # seconds by which a wall clock is stepped
+WEIGHTS: Mapping[str, float] = {
+    AGENT_KILLED: 3,
+    AGENT_STOPPED: 3,
+    LINK_CUT: 2,
+    MEMBER_KILLED: 3,
+    MAJORITY_KILLED: 0.5,
+    SWITCH_KILLED: 3,
+    SWITCH_DELAYED: 2,
+    CLOCK_STEPPED: 1,
+    MACHINE_STEPPED: 1,
+}
+STEPS = (-7200.0, -30.0, 30.0, 7200.0)  # seconds by which the wall clock of an agent is stepped
+# the same of the machine's, which others read too; all are longer than what any rule allows
+MACHINE_STEPS = (-120, -30, 30, 120)
 COMPACTING = 0.8  # how probable it is that etcd is compacted at a look while a link is cut
 RETURNING = 2.0  # seconds until the load balancer has a machine again whose switch is up
 LEADER = 0.1  # how probable it is that a fault of an agent hits the leader
@@ -51,6 +64,7 @@ SECONDS: Mapping[str, tuple[float, float]] = {
     SWITCH_KILLED: (0.3, 2),
     SWITCH_DELAYED: (0.1, 1.4),
     CLOCK_STEPPED: (1, 15),
+    MACHINE_STEPPED: (1, 15),
 }
 PAST_LEASE_SECONDS = (11.0, 15.0)
 PERIOD = 0.02  # seconds between two looks at whether a fault is to end
@@ -64,6 +78,7 @@ BREAKS: Mapping[str, str] = {
     SWITCH_KILLED: "switch",
     SWITCH_DELAYED: "delay",
     CLOCK_STEPPED: "clock",
+    MACHINE_STEPPED: "machine clock",
 }
 EXCLUDED_BY: Mapping[str, tuple[str, ...]] = {
     "agent": (),
@@ -72,6 +87,7 @@ EXCLUDED_BY: Mapping[str, tuple[str, ...]] = {
     "switch": ("switch", "delay"),
     "delay": ("switch", "delay"),
     "clock": (),
+    "machine clock": ("machine clock",),
 }
 Broken = Collection[tuple[str, str]]  # by what and host
 
@@ -98,10 +114,14 @@ def may_come(fault: Fault, broken: Broken) -> bool:
 
 
 def next_fault(
-    chance: random.Random, hosts: Sequence[str], leader: str, broken: Broken
+    chance: random.Random,
+    hosts: Sequence[str],
+    leader: str,
+    broken: Broken,
+    kinds: Sequence[str] = KINDS,
 ) -> Fault | None:
     """A fault at random; None where it may not come now."""
-    kind = chance.choices(KINDS, WEIGHTS)[0]
+    kind = chance.choices(kinds, [WEIGHTS[it] for it in kinds])[0]
     host = chance.choice(hosts)
     seconds = chance.uniform(*SECONDS[kind])
     if BREAKS[kind] == "agent" and leader and chance.random() < LEADER:
@@ -117,10 +137,11 @@ class Faults:
     """The faults of a running fleet. Several threads may use it; one of its own ends each fault in
     time."""
 
-    def __init__(self, lab: Lab, chance: random.Random) -> None:
+    def __init__(self, lab: Lab, chance: random.Random, kinds: Sequence[str] = KINDS) -> None:
         self.lab = lab
         self.chance = chance
-        self.counts: collections.Counter[str] = collections.Counter({kind: 0 for kind in KINDS})
+        self.kinds = kinds
+        self.counts: collections.Counter[str] = collections.Counter({kind: 0 for kind in kinds})
         self.lasting: list[tuple[float, Fault]] = []  # with the moment of the end of each
         self.down_at: dict[str, float] = {}  # by host: when a look at its switch had no answer
         self.lock = threading.Lock()
@@ -140,7 +161,7 @@ class Faults:
             raise self.error
         with self.lock:
             broken = [*self.broken, *self._down()]
-            fault = next_fault(self.chance, self.lab.hosts, leader, broken)
+            fault = next_fault(self.chance, self.lab.hosts, leader, broken, self.kinds)
             if fault:
                 self._begin(fault)
             self._compact()
@@ -178,6 +199,8 @@ class Faults:
                 self.lab.delay_switch(host)
             elif what == "clock":
                 self.lab.step_clock(host, self.chance.choice(STEPS))
+            elif what == "machine clock":
+                self.lab.step_machine_clock(self.chance.choice(MACHINE_STEPS))
             elif fault.kind == AGENT_STOPPED:
                 self.lab.stop(what, host)
             else:
@@ -214,6 +237,8 @@ class Faults:
                 self.lab.let_switch_go_on(host)
             elif what == "clock":
                 self.lab.set_clock_right(host)
+            elif what == "machine clock":
+                self.lab.set_machine_clock_right()
             elif fault.kind == AGENT_STOPPED:
                 self.lab.wake(what, host)
             else:

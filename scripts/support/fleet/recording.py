@@ -2,8 +2,8 @@
 moments at which the store had a revision, looks at each switch, the agents' logs, the verdicts of
 the analyses, the clients, and the faults that the drill made.
 
-Each source is a file of lines of JSON in the folder of a run. All moments are seconds of the clock
-of the one machine.
+Each source is a file of lines of JSON in the folder of a run. All moments are seconds of the boot
+clock of the one machine.
 """
 import json
 import pathlib
@@ -91,13 +91,15 @@ class Verdict(NamedTuple):
 
 class Answered(NamedTuple):
     """A client's request. The status is 0 where no answer came. `revision` is the one that
-    answered, and `host` its machine."""
+    answered, and `host` its machine. `stepped` is by how many seconds the wall clock of the machine
+    was stepped meanwhile."""
 
     begun: float
     seconds: float
     status: int
     revision: str = ""
     host: str = ""
+    stepped: float = 0.0
 
 
 class Outage(NamedTuple):

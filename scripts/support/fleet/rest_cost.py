@@ -24,17 +24,17 @@ from support import TOP
 
 # isort: split; `support` tells where the packages of the tools and of the tests are
 sys.path.insert(0, str(TOP))
-from bg_switch_tools.controller.controller import ROUND  # noqa: E402
 from bg_switch_tools.controller.log import Log  # noqa: E402
-from bg_switch_tools.fleet.agent_process import AgentArguments, AgentProcess  # noqa: E402
-from bg_switch_tools.fleet.etcd import EtcdStore  # noqa: E402
-from bg_switch_tools.fleet.etcd_gateway import EtcdSettings  # noqa: E402
-from bg_switch_tools.fleet.fleet_file import FleetFile  # noqa: E402
-from bg_switch_tools.fleet.fleet_plan import MachineSettings  # noqa: E402
-from bg_switch_tools.fleet.record import FOLLOWS, View  # noqa: E402
-from bg_switch_tools.fleet.store import StoreFault  # noqa: E402
-from bg_switch_tools.fleet.store_endpoints import store_endpoint_of  # noqa: E402
-from bg_switch_tools.fleet.tls_files import TlsFiles  # noqa: E402
+from bg_switch_tools.controller.rounds.controller import ROUND  # noqa: E402
+from bg_switch_tools.fleet.agent.agent_process import AgentArguments, make_agent  # noqa: E402
+from bg_switch_tools.fleet.plan.fleet_file import FleetFile  # noqa: E402
+from bg_switch_tools.fleet.plan.fleet_plan import MachineSettings  # noqa: E402
+from bg_switch_tools.fleet.record.record import FOLLOWS, View  # noqa: E402
+from bg_switch_tools.fleet.store.etcd import EtcdStore  # noqa: E402
+from bg_switch_tools.fleet.store.etcd_gateway import EtcdSettings  # noqa: E402
+from bg_switch_tools.fleet.store.store import StoreError  # noqa: E402
+from bg_switch_tools.fleet.store.store_endpoints import store_endpoint_of  # noqa: E402
+from bg_switch_tools.fleet.store.tls_files import TlsFiles  # noqa: E402
 from tests.fleet_simulation import SimulatedSwitch  # noqa: E402
 from tests.real_etcd import Certificates, Cluster  # noqa: E402
 
@@ -63,7 +63,7 @@ class Member:
         self.switch.open(REVISION)
         state, machine = folder / host, MachineSettings(8082)
         state.mkdir()
-        self.process = AgentProcess(
+        self.process = make_agent(
             FleetFile(FLEET, settings, str(state), host, machine),
             machine,
             AgentArguments(state),
@@ -146,7 +146,7 @@ class Etcd:
         """How many machines report that they follow."""
         try:
             view = View(self.store.read())
-        except StoreFault as fault:
+        except StoreError as fault:
             print(f"rest_cost: {fault}", file=sys.stderr)
             return 0
         reports = [view.machine(host) for host in view.members]

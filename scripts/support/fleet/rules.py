@@ -20,6 +20,7 @@ LEASE = 10.0  # seconds of each lease of an agent
 # ended, and the others read.
 REPLACING = LEASE + 3.0
 SETTLING = 1.5  # seconds after which the load balancer has left out a machine whose switch was killed, or has taken it in again
+BALANCER_TIMEOUT = 15.0  # seconds that the load balancer waits for a machine
 RUNNING = ("deploying", "promoting")
 OVER = ("successful", "aborted")
 # The stages that may follow a stage in one attempt; None before its first one.
@@ -361,6 +362,12 @@ def rule_4(run: Run) -> Iterator[str]:
             yield f"at the end {host} is at {last}, and the fleet at {stable}"
 
 
+def _is_of_a_step(request: Answered) -> bool:
+    """Whether the load balancer ended the request since the wall clock was stepped forward by more
+    than its timeout: HAProxy 2.6 measures its timeouts by the wall clock."""
+    return request.status == 504 and not request.host and request.stepped > BALANCER_TIMEOUT
+
+
 def _is_excused(run: Run, request: Answered) -> bool:
     """Whether the switch of the machine that answered was killed itself. An answer of the load
     balancer names no machine: it is excused where the switches of all machines were killed."""
@@ -382,9 +389,10 @@ def _was_killed(run: Run, host: str, request: Answered) -> bool:
 
 
 def rule_5(run: Run) -> Iterator[str]:
-    """No request fails but those of a machine whose own switch was killed."""
+    """No request fails but those of a machine whose own switch was killed, and those that the load
+    balancer ends since the wall clock was stepped."""
     for request in run.recording.requests:
-        if request.status != 200 and not _is_excused(run, request):
+        if request.status != 200 and not _is_excused(run, request) and not _is_of_a_step(request):
             yield f"a request at {request.begun:.3f} got {request.status or 'no answer'} from {request.host or 'no machine'}"
 
 
@@ -532,6 +540,6 @@ def figures(recording: Recording) -> dict[str, str]:
             sum(1 for looks in recording.looks.values() for _ in selections(looks))
         ),
         "requests": f"{len(recording.requests)}, {len(failed)} failed, {sum(_is_excused(run, each) for each in failed)} of these at a "
-        "machine whose switch was killed",
+        f"machine whose switch was killed, and {sum(map(_is_of_a_step, failed))} at a step of the wall clock",
         "slowest answer": f"{max((request.seconds for request in recording.requests), default=0):.2f} s",
     }

@@ -3,6 +3,7 @@ gets its file in the folder of the run, and gives the words that start it."""
 import pathlib
 
 from support.fleet.hosts import Network
+from support.fleet.rules import BALANCER_TIMEOUT
 
 
 def etcd_words(folder: pathlib.Path, network: Network, host: str) -> list[str]:
@@ -63,7 +64,7 @@ def haproxy_words(folder: pathlib.Path, network: Network) -> list[str]:
         for host in network.hosts
     )
     path.write_text(
-        "global\n maxconn 500\ndefaults\n mode http\n timeout connect 1s\n timeout client 15s\n timeout server 15s\n"
+        f"global\n maxconn 500\ndefaults\n mode http\n timeout connect 1s\n timeout client 15s\n timeout server {BALANCER_TIMEOUT:g}s\n"
         " timeout check 2s\n retries 2\n option redispatch\n"
         f"frontend all\n bind {network.balancer()}\n default_backend machines\n"
         f"backend machines\n balance roundrobin\n option httpchk GET /\n{servers}",

@@ -22,6 +22,7 @@ from support.fleet.random_faults import (
     CLOCK_STEPPED,
     COMPACTED,
     LINK_CUT,
+    MACHINE_STEPPED,
     MAJORITY_KILLED,
     MEMBER_KILLED,
     SWITCH_DELAYED,
@@ -41,7 +42,8 @@ ROWS: Mapping[str, tuple[str, ...]] = {
         MAJORITY_KILLED,
     ),
     "switches killed / delayed": (SWITCH_KILLED, SWITCH_DELAYED),
-    "wall clocks of agents stepped / compactions while a link is cut": (CLOCK_STEPPED, COMPACTED),
+    "wall clocks stepped: of agents / of the machine": (CLOCK_STEPPED, MACHINE_STEPPED),
+    "compactions while a link is cut": (COMPACTED,),
     "plans good / bad before / bad after": (GOOD, BAD_BEFORE, BAD_AFTER),
     "ordered: promotes / aborts / aborts aimed at promoting / retries / undos": (
         PROMOTE,

@@ -15,14 +15,14 @@ MOST_READ = 1 << 24
 CONTINUE = b"HTTP/1.1 100 Continue\r\n\r\n"
 
 
-class Malformed(Exception):
+class MalformedRequestError(Exception):
     """A message that is no request, or one that was cut."""
 
 
 def line_of(stream: BinaryIO) -> bytes:
     line = stream.readline()
     if not line.endswith(b"\r\n"):
-        raise Malformed
+        raise MalformedRequestError
     return line[:-2]
 
 
@@ -30,7 +30,7 @@ def exactly(stream: BinaryIO, count: int) -> bytes:
     # no test sends as much as the limit
     data = stream.read(min(count, MOST_READ))
     if len(data) < count:
-        raise Malformed
+        raise MalformedRequestError
     return data
 
 
@@ -40,7 +40,7 @@ def fields_of(stream: BinaryIO) -> dict[bytes, bytes]:
     while line := line_of(stream):
         name, colon, value = line.partition(b":")
         if not colon:
-            raise Malformed
+            raise MalformedRequestError
         fields[name.lower()] = value.strip(b" \t")
     return fields
 
@@ -51,13 +51,13 @@ def chunked_body(stream: BinaryIO) -> bytes:
         try:
             size = int(line_of(stream).partition(b";")[0], 16)
         except ValueError as error:
-            raise Malformed from error
+            raise MalformedRequestError from error
         if size == 0:
             fields_of(stream)
             return body
         body += exactly(stream, size)
         if line_of(stream):
-            raise Malformed
+            raise MalformedRequestError
 
 
 def request_in(stream: BinaryIO, tell: Callable[[bytes], object]) -> Read:
@@ -65,7 +65,7 @@ def request_in(stream: BinaryIO, tell: Callable[[bytes], object]) -> Read:
     server."""
     words = line_of(stream).split(b" ", 2)
     if len(words) != 3:
-        raise Malformed
+        raise MalformedRequestError
     fields = fields_of(stream)
     if fields.get(b"expect", b"").lower() == b"100-continue":
         tell(CONTINUE)
@@ -91,7 +91,7 @@ class Echo:
                 threading.Thread(target=self.serve, args=(connection,), daemon=True).start()
 
     def serve(self, connection: socket.socket) -> None:
-        with connection, contextlib.suppress(OSError, Malformed, ValueError):
+        with connection, contextlib.suppress(OSError, MalformedRequestError, ValueError):
             connection.settimeout(LONGEST)
             with connection.makefile("rb") as stream:
                 connection.sendall(answer_to(request_in(stream, connection.sendall)))

@@ -161,33 +161,33 @@ def streams_of(message: Message, number: int) -> list[bytes]:
     return [message.text, *(case_of(message.text, number, count).stream for count in COUNTS)]
 
 
-class Malformed(Exception):
+class MalformedTextError(Exception):
     """Why a text is not one request with an end that every reader finds."""
 
 
 def strictly_read(text: bytes) -> Request:
-    """The request that a text is, by the strictest reading. All else is `Malformed`."""
+    """The request that a text is, by the strictest reading. All else is `MalformedTextError`."""
     before, end, body = text.partition(END_OF_HEAD)
     line, *lines = before.split(b"\r\n")
     words = line.split(b" ")
     if not end or len(words) != 3 or words[2] != b"HTTP/1.1":
-        raise Malformed("it has no request line of three words, or no end of its head")
+        raise MalformedTextError("it has no request line of three words, or no end of its head")
     if any(byte in before.replace(b"\r\n", b"") for byte in b"\r\n\0"):
-        raise Malformed("its head has CR, LF or NUL that ends no line")
+        raise MalformedTextError("its head has CR, LF or NUL that ends no line")
     fields = tuple(map(field_of, lines))
     request = Request(Read(words[0], words[1], body), fields)
     if request.values(b"transfer-encoding"):
-        raise Malformed("it has a Transfer-Encoding")
+        raise MalformedTextError("it has a Transfer-Encoding")
     lengths = request.values(b"content-length")
     if lengths != [b"%d" % len(body)] and (lengths or body):
-        raise Malformed(f"its body has {len(body)} bytes, and its lengths are {lengths}")
+        raise MalformedTextError(f"its body has {len(body)} bytes, and its lengths are {lengths}")
     return request
 
 
 def field_of(line: bytes) -> tuple[bytes, bytes]:
     name, colon, value = line.partition(b":")
     if not colon or not TOKEN.fullmatch(name):
-        raise Malformed(f"{line!r} is no field")
+        raise MalformedTextError(f"{line!r} is no field")
     return name, value.strip(b" \t")
 
 
@@ -242,7 +242,7 @@ def judged(forwarded: Forwarded, reader: Reader, number: int) -> Judged:
     text = forwarded.text
     try:
         request = strictly_read(text)
-    except Malformed as error:
+    except MalformedTextError as error:
         return Judged(forwarded, Verdict.FAILED, str(error))
     its = Read(*map(shortened, request.read))
     case = case_of(kept_alive(text), number, 1)

@@ -16,7 +16,7 @@ from collections.abc import Iterator
 from typing import NamedTuple
 
 from support import TOP, checks, looks
-from support.browser import Browser, NoBrowser, browsing
+from support.browser import Browser, NoBrowserError, browsing
 from support.checks import check, comes
 from support.dashboards import failing, missing, showing
 from support.endpoints import Endpoint
@@ -529,7 +529,7 @@ def in_a_browser() -> None:
             for part in (rollout, tricks, hostile_names, without_rights, outage, crowded, fleet):
                 part(browser)
             print(f"pictures of the page are in {PICTURES}")
-    except NoBrowser as reason:
+    except NoBrowserError as reason:
         print(
             f"live_dashboard: no browser can be had, so the page is not looked at: {reason}. "
             "On Debian: apt-get install chromium chromium-driver"

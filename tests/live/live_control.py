@@ -139,7 +139,7 @@ def lasting_connections(path: str = "") -> None:
     with book(path=path) as switch, contextlib.closing(switch.operator()) as silent:
         silent.check("tick 1", "ok 0")
         silent.socket.sendall(b"tick 2\ntick 30")
-        check("a line before a part of a line", silent.next_line(), "ok 0")
+        check("a line before a part of a line", silent.receive_line(), "ok 0")
         for _ in range(3):
             check_line("a silent connection", switch, "tick 2", PROMPT)
             time.sleep(1)
@@ -290,7 +290,7 @@ def lines_take_turns(path: str = "") -> None:
         # a tick to a moment before the present one is refused
         check(
             "lines that wait are carried out in the order in which they came",
-            [operator.next_line() for operator in operators],
+            [operator.receive_line() for operator in operators],
             ["ok 0"] * 4,
         )
         first, second, third, fourth = operators
@@ -305,7 +305,7 @@ def lines_take_turns(path: str = "") -> None:
                 operator.socket.sendall(line)
         check(
             "an abort and a failed verdict are carried out before all that waits",
-            [operator.next_line() for operator in (first, fourth, second, third)],
+            [operator.receive_line() for operator in (first, fourth, second, third)],
             ["refused NoAnalysis", "ok 0", "refused Aborted", "ok 0"],
         )
         first.socket.sendall(b"tick 6\n" + b"report\n" * 5000 + b"tick 7\n")
@@ -340,7 +340,7 @@ def time_limits(path: str = "") -> None:
         with stopped(switch):
             limit = milliseconds() + round(BETWEEN_LINES * 500)
             operator.socket.sendall(b"before %d tick 7\n" % limit)
-        check("a line whose time limit was over", operator.next_line(), "refused TooLate")
+        check("a line whose time limit was over", operator.receive_line(), "refused TooLate")
         check("the state after lines that were too late", operator.report(), state)
         for line, reply in LIMITED.items():
             operator.check(f"before {NEVER_OVER} {line}", reply)
@@ -361,7 +361,7 @@ def sequence_within_a_connection(path: str = "") -> None:
             other.socket.sendall(b"tick 2\ntick 4\ntick 6\n")
         check(
             "lines of two connections",
-            [operator.next_line() for _ in range(3) for operator in (one, other)],
+            [operator.receive_line() for _ in range(3) for operator in (one, other)],
             ["ok 0"] * 6,
         )
         with stopped(switch):
@@ -369,10 +369,10 @@ def sequence_within_a_connection(path: str = "") -> None:
             other.socket.sendall(b"tick 7\n" * 9)
         check(
             "an abort behind a line of its own connection",
-            [one.next_line() for _ in range(5)],
+            [one.receive_line() for _ in range(5)],
             ["ok 0"] * 4 + ["fault UnknownWord"],
         )
-        check("lines beside an abort", [other.next_line() for _ in range(9)], ["ok 0"] * 9)
+        check("lines beside an abort", [other.receive_line() for _ in range(9)], ["ok 0"] * 9)
 
 
 def replies_not_taken_hold_nobody() -> None:
@@ -719,7 +719,7 @@ def port_and_socket() -> None:
                 time.sleep(BETWEEN_LINES)
         check(
             "lines of the port and of the socket, in the order in which they came",
-            [operator.next_line() for operator in (at_port, at_path)],
+            [operator.receive_line() for operator in (at_port, at_path)],
             ["ok 0"] * 2,
         )
         with stopped(switch):
@@ -727,7 +727,7 @@ def port_and_socket() -> None:
                 operator.socket.sendall(line)
         check(
             "an abort of the socket before a line of the port",
-            [operator.next_line() for operator in (at_path, at_port)],
+            [operator.receive_line() for operator in (at_path, at_port)],
             ["ok 0", "refused Aborted"],
         )
         at_path.send_quit()

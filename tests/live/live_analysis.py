@@ -14,7 +14,7 @@ import time
 from collections.abc import Callable, Iterator
 
 from support import TOP, checks
-from support.browser import NoBrowser, browsing
+from support.browser import NoBrowserError, browsing
 from support.checks import check, comes
 from support.clients import connect, reset
 from support.dashboards import failing, missing, showing
@@ -321,7 +321,7 @@ def page_shows(port: int, plan: Plan) -> None:
             check("the page shows each result", shown or browser.text("#analyses"), True)
             check("it names no other one", browser.text("#analyses").count("analysis post "), 2)
             check("it has no complaint", browser.complaints(), [])
-    except NoBrowser as reason:
+    except NoBrowserError as reason:
         print(f"live_analysis: the page is not looked at: {reason}")
 
 

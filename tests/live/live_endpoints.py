@@ -294,9 +294,16 @@ def killed_one(place: int) -> None:
     each is prompt."""
     both = two_processes()
     name = f"{('the first', 'the second')[place]} of two endpoints is killed"
+    killed_at: list[float] = []
+
+    def kill() -> None:
+        both[place].kill()
+        killed_at.append(time.monotonic())
+
     with serving_two([one.port for one in both]) as switch:
-        all_sent = traffic(switch.active, both[place].kill, 4.0)
-    late = [one for one in failed(all_sent) if one.begun > SICK_AFTER + 0.2]
+        start = time.monotonic()
+        all_sent = traffic(switch.active, kill, 4.0)
+    late = [one for one in failed(all_sent) if start + one.begun > killed_at[0]]
     check(f"{name}: no later request fails", late, [])
     check(f"{name}: few fail that were there", len(failed(all_sent)) <= RATE // 5, True)
     check_prompt(f"{name}: each is prompt", all_sent, all_sent)

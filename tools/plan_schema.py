@@ -2,8 +2,8 @@
 """Makes the JSON schema of a controller's plan, which editors use, from the limits and defaults of
 its reader; and the table of the keys in docs/PLAN.md from the schema.
 
-usage: scripts/plan_schema.py             prints the schema
-       scripts/plan_schema.py --write     writes it into share/plan.schema.json, and the table into the page
+usage: tools/plan_schema.py             prints the schema
+       tools/plan_schema.py --write     writes it into share/plan.schema.json, and the table into the page
 
 The schema says what one value can be. That names and ports stand once, that revisions have equally
 many ports, and that the limits of an analysis fit together, only `bin/controller check` judges.
@@ -18,13 +18,13 @@ from typing import Any
 TOP = pathlib.Path(__file__).resolve().parents[1]
 sys.path.insert(0, str(TOP / "lib"))
 
-from bg_switch_tools.controller.plan import (  # noqa: E402  (the path stands above)
+from bg_switch_tools.controller.plan.plan import (  # noqa: E402  (the path stands above)
     Analyses,
     Commands,
     Health,
     Progress,
 )
-from bg_switch_tools.controller.plan_reader import (  # noqa: E402
+from bg_switch_tools.controller.plan.plan_reader import (  # noqa: E402
     LEAST_SECONDS,
     LONGEST,
     MOST_AT_ONCE,

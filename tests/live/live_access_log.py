@@ -1,6 +1,7 @@
 """The access log of `bg_switch serve`: what each line says, clients that have gone and connections
 that send nothing, a file that is renamed, one that takes nothing, one that takes nothing for a
-while, one that takes a part of a line, and one that can't be opened."""
+while, one that takes a part of a line or of the count of lost lines, and one that can't be
+opened."""
 import contextlib
 import os
 import pathlib
@@ -52,6 +53,11 @@ WIDE = b"M" * 1024 + b" /" + b'"' * 1023 + b" HTTP/1.1\r\n\r\n"
 FIRST_REQUESTS, WIDE_REQUESTS = 32, 5600
 # How many bytes the file of a full disk takes, and how many lines are for it.
 ROOM, LINES_FOR_ROOM = 1000, 20
+# The room for a part of the first line, so that no line is taken before the queue is full; requests
+# whose short lines fill what the long ones leave of the queue; by how much the room grows, which is
+# less than the line with the count of lost lines has.
+FIRST_ROOM, SHORT_REQUESTS, MORE_ROOM = 100, 20, 40
+SHORTEST, LONGEST = 200, 300  # how many bytes a line of a short request has at least and at most
 STILL = 3  # seconds for which a reader of the log stands still
 
 
@@ -450,17 +456,60 @@ def slow_disk() -> None:
         )
 
 
-def leave_room() -> None:
-    """The process that calls this may write `ROOM` bytes to a file. A write beyond that fails, as
+def leave_room(room: int = ROOM) -> None:
+    """The process that calls this may write so many bytes to a file. A write beyond that fails, as
     on a full disk."""
     signal.signal(signal.SIGXFSZ, signal.SIG_IGN)
-    resource.setrlimit(resource.RLIMIT_FSIZE, (ROOM, resource.RLIM_INFINITY))
+    resource.setrlimit(resource.RLIMIT_FSIZE, (room, resource.RLIM_INFINITY))
 
 
-def make_room(switch: Switch) -> None:
-    resource.prlimit(
-        switch.process.pid, resource.RLIMIT_FSIZE, (resource.RLIM_INFINITY, resource.RLIM_INFINITY)
-    )
+def make_room(switch: Switch, room: int = resource.RLIM_INFINITY) -> None:
+    resource.prlimit(switch.process.pid, resource.RLIMIT_FSIZE, (room, resource.RLIM_INFINITY))
+
+
+def last_line(path: pathlib.Path) -> bytes:
+    """The last line of a file, if it is whole; else nothing."""
+    with path.open("rb") as file:
+        file.seek(max(path.stat().st_size - LONGEST, 0))
+        end = file.read()
+    return end.splitlines()[-1] if end.endswith(b"\n") else b""
+
+
+def count_in_parts() -> None:
+    """A disk that becomes full within the line with the count of lost lines gets its rest, and the
+    count once."""
+    with folder() as there, logging(
+        there / "log", workers=CLIENTS - 1, prepare=partial(leave_room, FIRST_ROOM)
+    ) as (switch, _):
+        path = there / "log"
+
+        def has_count() -> bool:
+            return b'"lost":' in last_line(path)
+
+        def is_full(room: int) -> bool:
+            return path.stat().st_size == room
+
+        get(switch.active)
+        check("the first line is cut", comes(partial(is_full, FIRST_ROOM)), True)
+        at_once([lambda: longest_wait(switch.active, WIDE_REQUESTS // CLIENTS)] * CLIENTS)
+        for _ in range(SHORT_REQUESTS):
+            get(switch.active)
+        rooms = range(QUEUE + SHORTEST - LONGEST, QUEUE + 2 * LONGEST, MORE_ROOM)
+        for room in rooms:
+            make_room(switch, room)
+            comes(lambda: is_full(room) or has_count())
+            if has_count():
+                break
+        make_room(switch)
+        time.sleep(WRITTEN)
+        lines = path.read_bytes().splitlines()
+        check_lost_lines(lines, 1 + WIDE_REQUESTS + SHORT_REQUESTS)
+        before = sum(len(line) + 1 for line in lines[:-1])
+        check(
+            "the line with the count was cut",
+            any(before < room <= before + len(lines[-1]) for room in rooms),
+            True,
+        )
 
 
 def line_over_rotation() -> None:
@@ -633,6 +682,7 @@ if __name__ == "__main__":
             renamed_file,
             full_disk,
             slow_disk,
+            count_in_parts,
             line_over_rotation,
             full_disk_ends_whole_lines,
             starts_after_a_part,

@@ -1,6 +1,6 @@
 #!/usr/bin/python3 -B
 """Makes the completions of bgctl and the manual pages of all commands of the package from their
-parsers, as they are placed below /usr/share: scripts/bgctl_share.py FOLDER. It needs
+parsers, as they are placed below /usr/share: tools/bgctl_share.py FOLDER. It needs
 python3-argcomplete and help2man of Debian. The page of the switch itself is packaging/bg_switch.1.
 
 The completions ask bgctl itself by the protocol of argcomplete, and need python3-argcomplete also
@@ -35,16 +35,16 @@ DOCUMENTS = "/usr/share/doc/bg-switch"
 COLUMNS = "500"  # so that no line of a help is wrapped: man(1) fills the lines
 
 
-class Missing(Exception):
+class MissingProgramError(Exception):
     """A tool is not installed. The text says how to install it."""
 
 
 def completions() -> dict[str, str]:
-    """The completions, by their paths. `Missing` where argcomplete is not installed."""
+    """The completions, by their paths. `MissingProgramError` where argcomplete is not installed."""
     try:
         argcomplete: Any = importlib.import_module("argcomplete")
     except ImportError:
-        raise Missing(
+        raise MissingProgramError(
             f"{sys.executable} has no argcomplete: apt-get install python3-argcomplete"
         ) from None
     return {
@@ -74,7 +74,7 @@ BG_SWITCH_DOCUMENTS={DOCUMENTS} COLUMNS={COLUMNS} '{TOP}'/bin/{command} --help |
 def pages() -> dict[str, str]:
     """The manual pages, by their paths."""
     if shutil.which("help2man") is None:
-        raise Missing("there is no help2man: apt-get install help2man")
+        raise MissingProgramError("there is no help2man: apt-get install help2man")
     about = DESCRIPTION[0].lower() + DESCRIPTION[1:].rstrip(".")
     with tempfile.TemporaryDirectory() as folder:
         asked = {
@@ -93,12 +93,12 @@ def pages() -> dict[str, str]:
 
 def main() -> int:
     if len(sys.argv) != 2:
-        print("scripts/bgctl_share.py FOLDER: one folder is needed", file=sys.stderr)
+        print("tools/bgctl_share.py FOLDER: one folder is needed", file=sys.stderr)
         return 2
     os.environ["LC_ALL"] = "C.UTF-8"
     try:
         made = {**completions(), **pages()}
-    except Missing as missing:
+    except MissingProgramError as missing:
         print(f"bgctl_share: {missing}", file=sys.stderr)
         return 1
     for place, text in made.items():

@@ -351,13 +351,14 @@ def steady_readers() -> None:
 
 
 def read_steadily(port: int) -> int:
-    """How many bytes come to a client that reads 400,000 bytes each quarter of a second."""
+    """How many bytes come to a client that reads 64,000 bytes each 40 milliseconds. A pause is far
+    below the quarter of a second after which the port may let a silent reader go."""
     count = 0
     with connect(port, 65536) as client:
         client.sendall(request(b"/big"))
-        while piece := client.recv(400000, socket.MSG_WAITALL):
+        while piece := client.recv(64000, socket.MSG_WAITALL):
             count += len(piece)
-            time.sleep(0.25)
+            time.sleep(0.04)
     return count
 
 

@@ -2,17 +2,17 @@
 import unittest
 from collections.abc import Sequence
 
-from bg_switch_tools.controller.plan import PlannedRevision
-from bg_switch_tools.fleet.next_line import (
+from bg_switch_tools.controller.plan.plan import PlannedRevision
+from bg_switch_tools.fleet.machine.line_table import (
     Joined,
     Known,
     is_known_to_be_over,
     is_of_fleet,
     joined_after,
-    next_line,
+    line_by_record,
     state_of,
 )
-from bg_switch_tools.fleet.record import (
+from bg_switch_tools.fleet.record.record import (
     ABORTED,
     DEPLOYING,
     FAILED,
@@ -25,7 +25,10 @@ from bg_switch_tools.fleet.record import (
     WORKING,
     Record,
 )
-from bg_switch_tools.switch.reports import PHASES, RUNNING, Report, Revision
+from bg_switch_tools.switch.lines import Abort, Promote, Retry
+from bg_switch_tools.switch.phases import PHASES, RUNNING, Phase
+from bg_switch_tools.switch.reports import Report, Revision
+from tests.typed_lines import line_of
 
 V1, V2, V3 = (PlannedRevision(f"web-v{number}", (9000 + number,)) for number in (1, 2, 3))
 ID, OTHER = 20, 10  # of the record, and of an attempt before
@@ -47,7 +50,7 @@ def report(phase: str, stable: str, newest: str, active: str = "", available: in
         "stable": numbers[stable],
         "newest": numbers[newest],
     }
-    return Report(5, phase, selected, revisions)
+    return Report(5, Phase(phase), selected, revisions)
 
 
 def record(stage: str) -> Record:
@@ -76,7 +79,8 @@ class Row(unittest.TestCase):
         for phase in phases:
             for each in knowns:
                 with self.subTest(phase=phase, known=each):
-                    self.assertEqual(next_line(report(phase, stable, newest), each), line)
+                    found = line_by_record(report(phase, stable, newest), each)
+                    self.assertEqual(found, line and line_of(line))
 
 
 class OfTheRunningAttempt(Row):
@@ -250,7 +254,7 @@ class Lines(unittest.TestCase):
             for stage in (DEPLOYING, PROMOTING, SUCCESSFUL, ABORTED):
                 for newest in ("web-v1", "web-v2", "web-v3"):
                     for joined in (0, OTHER, ID):
-                        line = next_line(
+                        line = line_by_record(
                             report(phase, "web-v1", newest), known(stage, joined, newest)
                         )
                         is_right = (
@@ -259,7 +263,7 @@ class Lines(unittest.TestCase):
                             and (stage == SUCCESSFUL or stage == PROMOTING and joined == ID)
                         )
                         self.assertEqual(
-                            line == "promote", is_right, (phase, stage, newest, joined)
+                            line == Promote(), is_right, (phase, stage, newest, joined)
                         )
 
 
@@ -267,11 +271,13 @@ class WhatIsJoined(unittest.TestCase):
     def test_a_deploy_and_a_retry_join_the_record(self) -> None:
         before = known(DEPLOYING, OTHER, "web-v3", True, reason="x")
         self.assertEqual(
-            joined_after("deploy web-v2 9002", report("steady", "web-v1", "web-v1"), before),
+            joined_after(
+                line_of("deploy web-v2 9002"), report("steady", "web-v1", "web-v1"), before
+            ),
             Joined(CLUSTER, ID, "web-v2"),
         )
         self.assertEqual(
-            joined_after("retry", report("aborted", "web-v1", "web-v2"), before),
+            joined_after(Retry(), report("aborted", "web-v1", "web-v2"), before),
             Joined(CLUSTER, ID, "web-v2"),
         )
 
@@ -279,19 +285,20 @@ class WhatIsJoined(unittest.TestCase):
         for line in ("promote", "abort", "verdict post successful"):
             each = known(PROMOTING, has_passed=True)
             self.assertEqual(
-                joined_after(line, report("postAnalysis", "web-v1", "web-v2"), each), each.joined
+                joined_after(line_of(line), report("postAnalysis", "web-v1", "web-v2"), each),
+                each.joined,
             )
 
     def test_why_a_promote_on_this_machine_alone_was_taken_back(self) -> None:
         alone = "it was promoted on this machine alone"
         for phase in ("sizing", "postAnalysis"):
             self.assertEqual(
-                joined_after("abort", report(phase, "web-v1", "web-v2"), known(DEPLOYING)).reason,
+                joined_after(Abort(), report(phase, "web-v1", "web-v2"), known(DEPLOYING)).reason,
                 alone,
             )
         self.assertEqual(
             joined_after(
-                "abort", report("postAnalysis", "web-v1", "web-v2"), known(DEPLOYING, reason="x")
+                Abort(), report("postAnalysis", "web-v1", "web-v2"), known(DEPLOYING, reason="x")
             ).reason,
             "x",
         )
@@ -301,10 +308,10 @@ class WhatIsJoined(unittest.TestCase):
             ("postAnalysis", known(DEPLOYING, OTHER)),
         ):
             self.assertEqual(
-                joined_after("abort", report(phase, "web-v1", "web-v2"), each).reason, ""
+                joined_after(Abort(), report(phase, "web-v1", "web-v2"), each).reason, ""
             )
         self.assertEqual(
-            joined_after("promote", report("sizing", "web-v1", "web-v2"), known(DEPLOYING)).reason,
+            joined_after(Promote(), report("sizing", "web-v1", "web-v2"), known(DEPLOYING)).reason,
             "",
         )
 

@@ -23,10 +23,12 @@ from support.processes import Run, run_to_end
 from support.switch import Switch
 
 # isort: split; `support` tells where the tools' package is
-from bg_switch_tools.switch.lines import FAULTS, LINES, REFUSALS
+from bg_switch_tools.switch.line_help import LINES
+from bg_switch_tools.switch.meanings import FAULTS, REFUSALS
 
 OPERATOR = str(TOP / "bin" / "operator")
 WAIT = 20  # seconds for which anything is awaited
+AGAIN = 8  # seconds after which a key is typed again
 MEANING = "the rollout is not paused"
 
 
@@ -184,14 +186,15 @@ class Terminal:
     def interrupted(self) -> int:
         """Types ctrl-C up to the end of the process, and gives its status. `input` of Python misses
         a signal that comes after it has written the prompt and before it waits for a key, so the
-        first ctrl-C may need a second.
+        first ctrl-C may need a second. It comes late, since a second one would end a process that
+        is already about to end.
         """
         latest = time.monotonic() + WAIT
         while self.process.poll() is None and time.monotonic() < latest:
             with contextlib.suppress(OSError):  # it ended meanwhile
                 self.type("\x03")
             with contextlib.suppress(subprocess.TimeoutExpired):
-                self.process.wait(1)
+                self.process.wait(AGAIN)
         return self.status()
 
 

@@ -2,15 +2,18 @@
 """Makes the JSON schema of fleet files, which editors use, from the limits and defaults of their
 reader.
 
-usage: scripts/fleet_schema.py             prints the schema
-       scripts/fleet_schema.py --write     writes it into share/fleet.schema.json
+usage: tools/fleet_schema.py             prints the schema
+       tools/fleet_schema.py --write     writes it into share/fleet.schema.json
 
 The schema says what one value can be. That ports stand once, and that the port of an endpoint of
 etcd is at most 65535, only the reader judges.
 """
+import pathlib
 import sys
 
-from plan_schema import (
+sys.path.insert(0, str(pathlib.Path(__file__).resolve().parents[1]))
+
+from tools.plan_schema import (  # noqa: E402  (the path stands above)
     DRAFT,
     TOP,
     WORD,
@@ -26,9 +29,8 @@ from plan_schema import (
     told,
 )
 
-from bg_switch_tools.controller.plan import Commands
-from bg_switch_tools.fleet.etcd_gateway import EtcdSettings
-from bg_switch_tools.fleet.fleet_file import (
+from bg_switch_tools.controller.plan.plan import Commands  # noqa: E402
+from bg_switch_tools.fleet.plan.fleet_file import (  # noqa: E402
     LEAST_TIMEOUT,
     LONGEST_TIMEOUT,
     MACHINE_KEYS,
@@ -37,8 +39,9 @@ from bg_switch_tools.fleet.fleet_file import (
     TOGETHER,
     USER,
 )
-from bg_switch_tools.fleet.store_endpoints import TEXT
-from bg_switch_tools.switch.json_values import NAME
+from bg_switch_tools.fleet.store.etcd_gateway import EtcdSettings  # noqa: E402
+from bg_switch_tools.fleet.store.store_endpoints import TEXT  # noqa: E402
+from bg_switch_tools.switch.json_values import NAME  # noqa: E402
 
 FILE = TOP / "share" / "fleet.schema.json"
 PATH: Schema = {**WORD, "minLength": 1}

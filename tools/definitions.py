@@ -14,7 +14,7 @@ from typing import NamedTuple
 
 TOP = pathlib.Path(__file__).resolve().parent.parent
 PAGE = TOP / "docs" / "DEFINITIONS.md"
-MARK = "<!-- scripts/definitions.py writes what follows. -->\n"
+MARK = "<!-- tools/definitions.py writes what follows. -->\n"
 DEFINED = re.compile(r" *(?:pub record|pub data|abbrev pub|abbrev) ([^\s(:]+)")
 COMMENT = re.compile(r" *-- ?(.*)")
 

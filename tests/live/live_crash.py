@@ -20,7 +20,7 @@ from support.ports import free_ports
 from support.switch import LISTENING, words_of_serve
 
 # isort: split; `support` tells where the tools' package is
-from bg_switch_tools.switch.connection import Unreachable, ask
+from bg_switch_tools.switch.connection import UnreachableError, ask
 from bg_switch_tools.switch.reports import Report, read_report
 
 ROLLOUT = """{"spec": {"replicas": 2, "strategy": {"blueGreen": {"activeService": "web",
@@ -105,7 +105,7 @@ class Machine:
     def report(self) -> Report | None:
         try:
             return read_report(ask(self.control, b"report", WAIT))
-        except Unreachable:
+        except UnreachableError:
             return None
 
     def is_at(self, phase: str, stable: str, newest: str) -> bool:

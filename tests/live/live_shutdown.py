@@ -34,11 +34,15 @@ from support.switch import LISTENING, EndedSwitch, Switch, opened
 # or the sixty seconds of a shutdown.
 SOON = 5.0
 TIMEOUT = 40
+# Longer than a machine under load takes to connect some hundred clients, which must all be silent at
+# once.
+STARVED = 600
 BIG = b"x" * 4000000
 # The stack of each thread where few are to be had: what the system lends beside so many stacks is
 # less than one.
 STACK = 512 << 20
-SPARE = 200 << 20
+# Below a stack, and above what the C library reserves for the heaps of threads.
+SPARE = 400 << 20
 REPORT = """moment 0
 phase steady
 active 1
@@ -216,7 +220,7 @@ def sent_before_quit() -> None:
     """Silent clients that have sent whole requests before quit are all answered, though none was
     read by then."""
     for is_stopped in (False, True):
-        switch, operator = opened(Endpoint(by_target(b"one")).port, workers=4)
+        switch, operator = opened(Endpoint(by_target(b"one")).port, workers=4, timeout=STARVED)
         clients = silent_clients(switch, 100)
         if is_stopped:
             processes.pause(switch.process.pid)
@@ -231,7 +235,10 @@ def sent_before_quit() -> None:
 def sent_within_the_grace() -> None:
     """A client that is silent at quit, and sends its request within the grace, is answered."""
     switch, operator = opened(
-        Endpoint(by_target(b"one")).port, workers=4, flags=("--shutdown-grace", "60")
+        Endpoint(by_target(b"one")).port,
+        workers=4,
+        timeout=STARVED,
+        flags=("--shutdown-grace", "60"),
     )
     clients = silent_clients(switch, 50)
     operator.send_quit()
@@ -244,7 +251,10 @@ def silent_for_the_grace() -> None:
     """A client that stays silent is let go after the grace, and not before."""
     grace = 4
     switch, operator = opened(
-        Endpoint(by_target(b"one")).port, workers=4, flags=("--shutdown-grace", str(grace))
+        Endpoint(by_target(b"one")).port,
+        workers=4,
+        timeout=STARVED,
+        flags=("--shutdown-grace", str(grace)),
     )
     clients = silent_clients(switch, 50)
     start = time.monotonic()
@@ -261,7 +271,10 @@ def unread_after_the_grace() -> None:
     read in a turn have come."""
     grace = 6
     switch, operator = opened(
-        Endpoint(by_target(b"one")).port, workers=4, flags=("--shutdown-grace", str(grace))
+        Endpoint(by_target(b"one")).port,
+        workers=4,
+        timeout=STARVED,
+        flags=("--shutdown-grace", str(grace)),
     )
     clients = silent_clients(switch, 200)
     start = time.monotonic()

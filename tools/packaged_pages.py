@@ -1,5 +1,5 @@
 #!/usr/bin/python3 -B
-"""Makes the links of the packaged pages lead somewhere: scripts/packaged_pages.py FOLDER, where
+"""Makes the links of the packaged pages lead somewhere: tools/packaged_pages.py FOLDER, where
 FOLDER has the pages of the package.
 
 A link to a file that the package has elsewhere leads there. One to a file that only the repository
@@ -39,7 +39,7 @@ def packaged(folder: pathlib.Path, page: pathlib.Path, text: str) -> str:
 
 def main() -> int:
     if len(sys.argv) != 2:
-        print("scripts/packaged_pages.py FOLDER: one folder is needed", file=sys.stderr)
+        print("tools/packaged_pages.py FOLDER: one folder is needed", file=sys.stderr)
         return 2
     folder = pathlib.Path(sys.argv[1]).resolve()
     for page in sorted(folder.rglob("*.md")):

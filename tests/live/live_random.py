@@ -24,6 +24,11 @@ from support.messages import (
 )
 from support.ports import connections_at
 from support.processes import descriptors, resident_memory
+from support.rule.book import RuleBook
+from support.rule.entries import Service
+from support.rule.revisions import available, template
+from support.rule.selections import selection
+from support.rule.strategy import strategy_of
 from support.switch import Switch
 
 SEED = 30
@@ -44,17 +49,6 @@ REFUSED = [
     (b"GET / HTTP/1.1\r\n" + b"A: b\r\n" * 65 + b"\r\n", HEAD_TOO_LARGE),
     (request(method=b"CONNECT"), NOT_IMPLEMENTED),
 ]
-LAST_REPORT = """moment 30
-phase steady
-active 3
-preview 3
-stable 3
-newest 3
-revision 1 one desired 0 available 0 open 0 deadline none
-revision 2 two desired 1 available 1 open 0 deadline 60
-revision 3 three desired 1 available 1 open 0 deadline none
-end
-"""
 
 
 class ClientRequest(NamedTuple):
@@ -78,7 +72,7 @@ class ClientRequest(NamedTuple):
 
 class Step(NamedTuple):
     """Lines with their replies, and which endpoints, by their names, the two services have after
-    them."""
+    them, by the rule."""
 
     lines: dict[str, str]
     active: bytes | None
@@ -186,20 +180,36 @@ class RandomRun:
         return Footprint(min(counts), resident_memory(process))
 
 
-def steps_of(one: int, two: int, three: int) -> Sequence[Step]:
+def endpoint_of(book: RuleBook, service: Service) -> bytes | None:
+    """The name of the endpoint to which the requests of a service go."""
+    assert book.history is not None
+    revision = selection(book.history, service)
+    if revision is None or not available(book.history, revision):
+        return None
+    return template(book.history, revision).name.encode()
+
+
+def step_of(book: RuleBook, lines: Sequence[str]) -> Step:
+    """The step that these lines make."""
+    replies = {line: book.reply(line)[0] for line in lines}
+    return Step(replies, endpoint_of(book, "active"), endpoint_of(book, "preview"))
+
+
+def steps_of(book: RuleBook, one: int, two: int, three: int) -> Sequence[Step]:
     """The steps of a rollout whose revisions have an endpoint each at these ports."""
-    return (
-        Step({f"open one {one}": "ok 0", "available 1 1": "ok 0"}, b"one", b"one"),
-        Step({f"deploy two {two}": "ok 0", "available 2 1": "ok 1"}, b"one", b"two"),
-        Step({"promote": "ok 3"}, b"two", b"two"),
-        Step({"tick 30": "ok 1"}, b"two", b"two"),
-        Step({f"deploy three {three}": "ok 0", "available 3 1": "ok 1"}, b"two", b"three"),
-        Step({"abort": "ok 0"}, b"two", b"two"),
-        Step({"available 2 0": "ok 0"}, None, None),
-        Step({"available 2 1": "ok 0"}, b"two", b"two"),
-        Step({"retry": "ok 1"}, b"two", b"three"),
-        Step({"promote": "ok 3"}, b"three", b"three"),
+    each_step = (
+        (f"open one {one}", "available 1 1"),
+        (f"deploy two {two}", "available 2 1"),
+        ("promote",),
+        ("tick 30",),
+        (f"deploy three {three}", "available 3 1"),
+        ("abort",),
+        ("available 2 0",),
+        ("available 2 1",),
+        ("retry",),
+        ("promote",),
     )
+    return [step_of(book, lines) for lines in each_step]
 
 
 def first_marks(run: RandomRun, step: Step) -> tuple[Footprint, Footprint]:
@@ -228,8 +238,8 @@ def check_footprint(end: Footprint, hundred: Footprint, thousand: Footprint) -> 
 
 def ten_thousand_requests() -> None:
     """Of the history each thousand is dropped."""
-    run = RandomRun(count=1251)
-    first, *others = steps_of(*(endpoint.port for endpoint in run.endpoints))
+    run, book = RandomRun(count=1251), RuleBook(strategy_of(BY_HAND))
+    first, *others = steps_of(book, *(endpoint.port for endpoint in run.endpoints))
     hundred, thousand = first_marks(run, first)
     for step in others:
         run.send(step)
@@ -242,7 +252,7 @@ def ten_thousand_requests() -> None:
         run.switch.end(),
         (f"{told}calls {2 * run.entered}\n", 0),
     )
-    check("their last report", told, LAST_REPORT)
+    check("their last report", told.splitlines(), book.reply("report"))
     run.operator.close()
 
 

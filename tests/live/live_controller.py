@@ -22,9 +22,10 @@ from support.processes import run_to_end
 from support.switch import Switch
 
 # isort: split; `support` tells where the tools' package is
-from bg_switch_tools.controller.state_file import write_whole
+from bg_switch_tools.controller.state.state_file import write_whole
 
-# Another seed kills at other moments: SEED=7 scripts/live_controller.py --by-hand
+# Another seed kills at other moments:
+# SEED=7 PYTHONPATH=scripts python3 -B tests/live/live_controller.py --by-hand
 SEED = int(os.environ.get("SEED", "1"))
 CONTROLLER = str(TOP / "bin" / "controller")
 WAIT = 20  # seconds for which anything is awaited

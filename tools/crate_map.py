@@ -2,8 +2,8 @@
 """Draws the crates by layer, from crates.txt and the first sentence of each crate's own
 documentation.
 
-usage: scripts/crate_map.py             prints the drawing
-       scripts/crate_map.py --write     writes it into docs/ARCHITECTURE.md, into the block under `## Crates`
+usage: tools/crate_map.py             prints the drawing
+       tools/crate_map.py --write     writes it into docs/ARCHITECTURE.md, into the block under `## Crates`
 
 A crate's layer is 0 where it stands on no crate of the repository, else one above the highest crate
 that it stands on. crates.txt has the crates in the order of their layers, lowest first. The drawing
@@ -15,9 +15,11 @@ import sys
 import textwrap
 from collections.abc import Iterator, Mapping
 
-from crate_list import Crate, crates_in
-
 TOP = pathlib.Path(__file__).resolve().parents[1]
+sys.path.insert(0, str(TOP / "scripts"))
+
+from crate_list import Crate, crates_in  # noqa: E402  (the path stands above)
+
 PAGE = TOP / "docs" / "ARCHITECTURE.md"
 DRAWING = re.compile(r"(\n## Crates\n.*?\n```text\n)(.*?)(?=```\n)", re.S)
 WIDTH = 120
