@@ -90,7 +90,7 @@ tools:
 
 # Completions and manual pages of bgctl, in out/share.
 share:
-	scripts/bgctl_share.py out/share
+	tools/bgctl_share.py out/share
 
 # A Debian package, and a tar with the same files, of the built program or of the one that BG_SWITCH_PROGRAM names.
 deb: $(if $(BG_SWITCH_PROGRAM),,build)

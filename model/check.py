@@ -237,7 +237,7 @@ class Outcome:
     seconds: float = 0.0
 
 
-class Failed(Exception):
+class SearchError(Exception):
     """A program that was needed for a search has failed."""
 
 
@@ -269,8 +269,8 @@ def is_expected(check: Check, outcome: Outcome) -> bool:
 
 
 def step(words: Sequence[str], folder: str, longest: float) -> "subprocess.CompletedProcess[str]":
-    """Runs a program in a folder. Raises `Failed` if it does not end within so many seconds. What
-    it has started ends with it."""
+    """Runs a program in a folder. Raises `SearchError` if it does not end within so many seconds.
+    What it has started ends with it."""
     with subprocess.Popen(
         words,
         cwd=folder,
@@ -285,7 +285,7 @@ def step(words: Sequence[str], folder: str, longest: float) -> "subprocess.Compl
             os.killpg(process.pid, signal.SIGKILL)
             process.communicate()
             if isinstance(error, subprocess.TimeoutExpired):
-                raise Failed(f"{words[0]} has not ended after {longest:g} seconds") from None
+                raise SearchError(f"{words[0]} has not ended after {longest:g} seconds") from None
             raise
     return subprocess.CompletedProcess(words, process.returncode, printed, told)
 
@@ -313,12 +313,12 @@ def search(
             ):
                 done = step(words, folder, longest)
                 if done.returncode:
-                    raise Failed(f"{words[0]}: {(done.stdout + done.stderr).strip()}")
+                    raise SearchError(f"{words[0]}: {(done.stdout + done.stderr).strip()}")
             begun = time.monotonic()
             done = step(
                 ["./pan", "-a" if check.formula else "-E", f"-m{DEPTH}", "-w22"], folder, longest
             )
-        except Failed as failed:
+        except SearchError as failed:
             return Outcome(f"no answer, {failed}")
         return dataclasses.replace(
             outcome_of(done.stdout, check.formula, done.returncode),

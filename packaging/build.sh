@@ -89,7 +89,7 @@ put_service() {
 
 # The pages keep their folders, so that links between them lead to a file.
 put_documents() {
-    for file in README.md CHANGELOG.md SECURITY.md docs/*; do
+    for file in README.md CHANGELOG.md SECURITY.md docs/*.* docs/decisions/*; do
         put 644 "$file" "$documents/$file"
     done
     # the demonstrations in python need the repository
@@ -98,14 +98,14 @@ put_documents() {
         [ ! -x "$file" ] || mode=755
         put "$mode" "$file" "$documents/$file"
     done
-    scripts/packaged_pages.py "$root/$documents"
+    tools/packaged_pages.py "$root/$documents"
     put 644 packaging/bg_switch.1 usr/share/man/man1/bg_switch.1
 }
 
 # put_share FOLDER: the completions of bgctl, and the manual pages of the tools. They are made by Debian's tools, and left out without
 # them.
 put_share() {
-    scripts/bgctl_share.py "$1/usr/share" > /dev/null ||
+    tools/bgctl_share.py "$1/usr/share" > /dev/null ||
         echo 'packaging: the package has no completions, and no manual pages but that of bg_switch' >&2
 }
 

@@ -24,7 +24,7 @@ TOP = HERE.parents[1]
 sys.dont_write_bytecode = True
 sys.path.insert(0, str(TOP / "scripts"))
 
-from support.browser import NoBrowser, browsing  # noqa: E402 (its folder is known by now)
+from support.browser import NoBrowserError, browsing  # noqa: E402 (its folder is known by now)
 from support.dashboards import failing, missing, showing  # noqa: E402
 from support.endpoints import Endpoint  # noqa: E402
 from support.examples import start_switch  # noqa: E402
@@ -121,7 +121,7 @@ def draw(path: pathlib.Path) -> None:
             browser.fit(WIDTH)
             browser.screenshot(path)
             print(f"the page's picture is {path}")
-    except NoBrowser as reason:
+    except NoBrowserError as reason:
         sys.exit(f"no picture can be drawn: {reason}")
 
 
