@@ -6,11 +6,12 @@ import random
 import re
 import resource
 import shutil
+import signal
 import socket
 import subprocess
 import threading
 import time
-from collections.abc import Iterator
+from collections.abc import Callable, Iterator
 
 from support import checks, clients, processes
 from support.checks import check, check_soon, check_within, comes
@@ -22,10 +23,12 @@ from support.switch import Switch
 
 # How long a worker's thread may keep waiting where it has ended its work, in seconds.
 SOON = 10
-# A line of strace that begins a call of a thread, and the moment.
-CALL = re.compile(r"\[pid +\d+\] (\d+\.\d+) \w+\(")
+# A line of strace that begins a call of a thread.
+CALL = re.compile(r"\[pid +(?P<thread>\d+)\] \w+\(")
 # For how long it is seen what the switch doesn't do, in seconds.
 SEEN = 0.3
+# For how many seconds a switch makes few calls that has nothing to do.
+QUIET = 3
 SEED = 52
 # The descriptors that a switch with a thousand workers needs, by its soft and its hard limit.
 MANY = (8192, 8192)
@@ -132,6 +135,37 @@ def a_slow_route_beside_a_fast_one() -> None:
         check("the slow route", {clients.received(client) for client in pending}, {answer(b"ok")})
 
 
+@contextlib.contextmanager
+def traced(process: int) -> Iterator[Callable[[float], int]]:
+    """Traces a process. Gives how many system calls its threads have begun in the last seconds, of
+    which the argument says how many. `strace` interrupts each thread as it begins, which makes it
+    call again."""
+    calls: list[tuple[float, str]] = []
+    with subprocess.Popen(
+        ["strace", "-f", "-p", str(process)], stderr=subprocess.PIPE, text=True
+    ) as strace:
+
+        def read() -> None:
+            for line in strace.stderr or ():
+                if found := CALL.match(line):
+                    calls.append((time.monotonic(), found["thread"]))
+
+        def count(seconds: float) -> int:
+            return sum(moment > time.monotonic() - seconds for moment, _ in list(calls))
+
+        reader = threading.Thread(target=read)
+        reader.start()
+        # strace ends the line of a call that waits only when another thread calls
+        check(
+            "each thread is traced",
+            comes(lambda: len({thread for _, thread in list(calls)}) >= threads(process) - 1),
+            True,
+        )
+        yield count
+        strace.send_signal(signal.SIGINT)
+        reader.join()
+
+
 def calls_of_idle_workers() -> None:
     """An idle switch with 1,000 workers makes at most ten system calls a second, all threads
     together."""
@@ -141,19 +175,12 @@ def calls_of_idle_workers() -> None:
     gate = Gate()
     with serving(gate, MANY, "--concurrency", "1000") as switch:
         check("a request", clients.asked(switch.active, request()), answer(b"ok"))
-        time.sleep(4)
-        traced = subprocess.run(
-            ["timeout", "--signal=INT", "9", "strace", "-ttt", "-f", "-p", str(switch.process.pid)],
-            capture_output=True,
-            text=True,
-            check=False,
-        ).stderr
-        moments = [float(found[1]) for line in traced.splitlines() if (found := CALL.match(line))]
-        check("system calls were counted", moments != [], True)
-        # strace interrupts each thread as it begins, and so makes each of them call again
-        check_within(
-            "system calls of a second", sum(moment > moments[0] + 3 for moment in moments) / 6, 10
-        )
+        with traced(switch.process.pid) as count:
+            check("each thread waits again", comes(lambda: count(QUIET) <= 10 * QUIET), True)
+            time.sleep(6)
+            idle = count(6)
+            check("calls of event loops are counted", idle > 0, True)
+            check_within("system calls of a second", idle / 6, 10)
         check("a request after it", clients.asked(switch.active, request()), answer(b"ok"))
 
 

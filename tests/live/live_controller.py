@@ -12,7 +12,7 @@ import tempfile
 import time
 
 from support import TOP, checks
-from support.checks import check, check_within, comes
+from support.checks import check, check_soon, comes
 from support.endpoints import Endpoint, by_target
 from support.launched import Launched, Traffic
 from support.operators import Operator
@@ -223,7 +223,7 @@ def outage_after_the_switch() -> None:
                 setup.endpoints[port].stop()
             begun = time.monotonic()
             comes(lambda: "active 1\n" in setup.report(), WAIT)
-            check_within("live traffic is back", time.monotonic() - begun, 10)
+            check_soon("live traffic is back", time.monotonic() - begun, 10)
             setup.check_active("the stable revision answers", (200, b"one"), 4)
         finally:
             controller.send_signal(signal.SIGTERM)
