@@ -4,5 +4,6 @@ pub mod Clients
 pub mod Connections
 pub mod Reasons
 pub mod RefusalPages
+pub mod ResponseReads
 pub mod Routes
 pub mod Seats

@@ -1,5 +1,5 @@
 //! Handles a request that entered, and answers its client.
-ghost use Rattle.std.specs.Prelude.{◌≡◌, ◌<◌, ◌⊎◌, [], false, IfErr, IfOk, IfSome, IsTrue, None, OnOk, Ok};
+ghost use Rattle.std.specs.Prelude.{◌≡◌, ◌<◌, ◌⊎◌, ◌++◌, [], false, length, IfErr, IfOk, IfSome, IsTrue, None, OnOk, Ok};
 ghost use Rattle.std.specs.Io.KnownBytes.{Appends, Keeps};
 ghost use Rattle.bg_http.specs.Statuses.{is_refusal};
 ghost use Rattle.bg_http.specs.Texts.{request_text, response_text};
@@ -10,6 +10,7 @@ ghost use Rattle.bg_forward.specs.Connections.{IsGatewayStatus, MayBeRefused, Ma
 ghost use Rattle.bg_forward.specs.Connections.{WroteLast};
 ghost use Rattle.bg_forward.specs.Reasons.{TellsWhy, reason_status};
 ghost use Rattle.bg_forward.specs.RefusalPages.{refusal_page, refused_text};
+ghost use Rattle.bg_forward.specs.ResponseReads.{IsTaken};
 ghost use Rattle.bg_forward.specs.declared.refusal.RefusalBody.{RefusalBody};
 ghost use Rattle.bg_forward.specs.declared.serving.End.TheVariants as end;
 
@@ -27,8 +28,12 @@ use bg_ledger::{Names, Seat};
 use std::io;
 use std::io::{ErrorKind, Read, Write};
 
-/// The number of bytes of a response that one read asks for.
-const PIECE: usize = 8192;
+/// The number of bytes that the first read of a response asks for. A buffer is zeroed before it is used, so a small one
+/// costs less time, and suffices for a small response.
+const FIRST_PIECE: usize = 2048;
+
+/// The number of bytes that each further read asks for.
+const PIECE: usize = 16_384;
 
 /// The outcome of a request that entered.
 #[derive(Clone, Copy, PartialEq, Eq, Drop)]
@@ -36,6 +41,17 @@ pub(crate) struct ForwardOutcome {
     pub(crate) end: End,
     /// Why the client was refused.
     pub(crate) reason: Option<Reason>,
+}
+
+/// What a read made of a response.
+#[derive(Drop)]
+pub(crate) enum Taken {
+    /// The response is whole.
+    Whole(Response),
+    /// More bytes are needed, or the end of the input.
+    More,
+    /// The input has ended.
+    End,
 }
 
 /// A request that is answered.
@@ -166,32 +182,92 @@ fn receive<N: Names, G: Gate<N>, S: ClientStream, D: Dial, R: Read>(
     ensures seat { seat.new ≡ seat.old }
     ensures client { Keeps (S.contents client.old) (S.contents client.new) }
 {
+    if let Some(reason) = ends_early(worker.gate, seat, client) {
+        return Err(reason);
+    }
     let mut parser = ResponseParser::new(worker.alloc, request);
+    let mut piece = [0; FIRST_PIECE];
+    match take_piece(reader, &mut parser, &mut piece)? {
+        Taken::Whole(response) => Ok(response),
+        Taken::More => receive_rest(worker.gate, seat, client, reader, parser),
+        Taken::End => end_response(parser),
+    }
+}
+
+/// Reads the rest of a response, whose first bytes the parser has seen, as `receive` does.
+fn receive_rest<N: Names, G: Gate<N>, S: ClientStream, R: Read>(
+    gate: &G,
+    seat: &mut Seat<N>,
+    client: &mut S,
+    reader: &mut R,
+    mut parser: ResponseParser,
+) -> Result<Response, Reason>
+    requires number { 0 < seat.old.number }
+    requires is_open { IsTrue parser.is_open }
+    ensures response { IfOk result (λ response. IfSome (R.remaining reader.old)
+        (λ input. ReadsResponse parser.request response (parser.seen ++ input))) }
+    ensures status { IfErr result (λ reason. IsGatewayStatus (reason_status reason)) }
+    ensures found { IfErr result
+        (IsFound (G.gives_up gate.now seat.old) ((s : S) × S.gone s)) }
+    ensures seat { seat.new ≡ seat.old }
+    ensures client { Keeps (S.contents client.old) (S.contents client.new) }
+{
     let mut piece = [0; PIECE];
     for _ in 0..MOST_TURNS {
-        if let Some(reason) = ends_early(worker.gate, seat, client) {
+        if let Some(reason) = ends_early(gate, seat, client) {
             return Err(reason);
         }
-        match reader.read(&mut piece) {
-            Ok(0) => {
-                return match parser.end() {
-                    Ok(response) => Ok(response),
-                    Err(fault) => Err(Reason::of_response(fault)),
-                };
-            }
-            Ok(count) => match parser.feed(&piece[..count.min(PIECE)]) {
-                Ok(Some(response)) => return Ok(response),
-                Ok(None) => {}
-                Err(fault) => return Err(Reason::of_response(fault)),
-            },
-            Err(error) => {
-                if error.kind() != ErrorKind::Interrupted {
-                    return Err(Reason::of_stream(&error));
-                }
-            }
+        match take_piece(reader, &mut parser, &mut piece)? {
+            Taken::Whole(response) => return Ok(response),
+            Taken::More => {}
+            Taken::End => return end_response(parser),
         }
     }
     Err(Reason::ResponseTimeout)
+}
+
+/// Makes one read, and feeds the parser the bytes that came. An interrupted read gives `More`.
+fn take_piece<R: Read>(
+    reader: &mut R,
+    parser: &mut ResponseParser,
+    piece: &mut [u8],
+) -> Result<Taken, Reason>
+    requires is_open { IsTrue parser.old.is_open }
+    requires room { 0 < length piece.old }
+    ensures taken { IfOk result
+        (IsTaken parser.old parser.new (R.remaining reader.old) (R.remaining reader.new)) }
+    ensures status { IfErr result (λ reason. IsGatewayStatus (reason_status reason)) }
+    ensures found { IfErr result (IsFound ⊥ ⊥) }
+    ensures size { length piece.new ≡ length piece.old }
+{
+    match reader.read(piece) {
+        Ok(0) => Ok(Taken::End),
+        Ok(count) => match parser.feed(&piece[..count.min(piece.len())]) {
+            Ok(Some(response)) => Ok(Taken::Whole(response)),
+            Ok(None) => Ok(Taken::More),
+            Err(fault) => Err(Reason::of_response(fault)),
+        },
+        Err(error) => {
+            if error.kind() == ErrorKind::Interrupted {
+                Ok(Taken::More)
+            } else {
+                Err(Reason::of_stream(&error))
+            }
+        }
+    }
+}
+
+/// The response in an input that ended.
+fn end_response(parser: ResponseParser) -> Result<Response, Reason>
+    requires { IsTrue parser.is_open }
+    ensures response { IfOk result (λ response. ReadsResponse parser.request response parser.seen) }
+    ensures status { IfErr result (λ reason. IsGatewayStatus (reason_status reason)) }
+    ensures found { IfErr result (IsFound ⊥ ⊥) }
+{
+    match parser.end() {
+        Ok(response) => Ok(response),
+        Err(fault) => Err(Reason::of_response(fault)),
+    }
 }
 
 /// Answers a client with a response. If the client does not take it, the reason is that it has gone.
