@@ -110,7 +110,7 @@ def running(
 
 
 def measured(proxy: Proxy, clients: int, seconds: int) -> Figures:
-    """A run of so many clients at a proxy. `MeasurementError` if a peer answers none of them
+    """A run of `clients` clients at a proxy. `MeasurementError` if a peer answers none of them
     well."""
     before = thread_times(proxy.process)
     load = wrk.run(proxy.port, clients, seconds, proxy.mode.keeps_clients)

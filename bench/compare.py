@@ -38,7 +38,7 @@ class Ratio(NamedTuple):
     higher_is_better: bool
 
     def worse_by(self, before: float) -> float:
-        """The part of the value before by which this one is worse; below 0 where it is better."""
+        """The part of the value before by which this one is worse; below 0 if it is better."""
         change = self.value / before - 1
         return -change if self.higher_is_better else change
 

@@ -6,9 +6,9 @@ usage: bench/sick_endpoint.py [SECONDS] [RATE]        6 seconds and 100 requests
 For each fault, a client sends requests at a fixed rate, whether or not earlier ones were answered.
 After a third of the time the first endpoint is killed or stopped (SIGSTOP). Prints, for each proxy,
 how many requests failed, how many took as long as a timeout (those were at the sick endpoint), and
-the 99th percentile of the others. Fails where a request fails that was not at the sick endpoint, or
-where the percentile is more than twice nginx's. Needs nginx and a C compiler; without them it says
-so, with status 0.
+the 99th percentile of the others. Fails if a request fails that was not at the sick endpoint, or if
+the percentile is more than twice nginx's. Needs nginx and a C compiler; without them it says so,
+with status 0.
 """
 import asyncio
 import json
@@ -57,7 +57,7 @@ async def ask(port: int) -> Answered:
 async def load(
     port: int, seconds: float, rate: int, sick: subprocess.Popen[bytes], fault: signal.Signals
 ) -> list[Answered]:
-    """Sends so many requests a second, and lets the fault happen after a third of the time."""
+    """Sends `rate` requests a second, and lets the fault happen after a third of the time."""
     tasks, begun, has_failed = [], time.monotonic(), False
     for number in range(int(seconds * rate)):
         due = begun + number / rate

@@ -37,7 +37,7 @@ class Check:
     """A search of the model.
 
     `bounds` are macros without their -D, in one text. `rule` is the rule that a planted fault
-    breaks, e.g. "rule 1"; None where all must hold. `formula` names a formula of linear temporal
+    breaks, e.g. "rule 1"; None if all must hold. `formula` names a formula of linear temporal
     logic, without which the assertions are checked. `where` is a part of the assertion that a
     planted fault violates."""
 
@@ -269,7 +269,7 @@ def is_expected(check: Check, outcome: Outcome) -> bool:
 
 
 def step(words: Sequence[str], folder: str, longest: float) -> "subprocess.CompletedProcess[str]":
-    """Runs a program in a folder. Raises `SearchError` if it does not end within so many seconds.
+    """Runs a program in a folder. Raises `SearchError` if it does not end within `longest` seconds.
     What it has started ends with it."""
     with subprocess.Popen(
         words,
@@ -293,7 +293,8 @@ def step(words: Sequence[str], folder: str, longest: float) -> "subprocess.Compl
 def search(
     check: Check, compiler: str, model: pathlib.Path = MODEL, longest: float = LONGEST
 ) -> Outcome:
-    """Runs spin, the compiler, and the search that they make, each for so many seconds at most."""
+    """Runs spin, the compiler, and the search that they make, each for at most `longest`
+    seconds."""
     with tempfile.TemporaryDirectory() as folder:
         # a planted fault is found in less time than an optimizing compiler takes
         options = ["-O0" if check.rule else "-O1", *([] if check.formula else ["-DSAFETY"])]

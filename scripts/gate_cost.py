@@ -82,7 +82,7 @@ class Costs:
 
 
 def work_of(words: Sequence[str], folder: str) -> Work | None:
-    """What a process with these words does, which runs in this folder; none where it checks no
+    """What a process with these words does, which runs in this folder; None if it checks no
     crate."""
     if not words or os.path.basename(words[0]) != "rattle" or "--crate-name" not in words[:-1]:
         return None

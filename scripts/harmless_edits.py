@@ -6,7 +6,7 @@ usage: scripts/harmless_edits.py [--count N] [--seed N]        20 edits, drawn b
 
 An edit is made harmless by a comment behind its old text in the place of the new one, so that the
 body means what it meant. try_edits.py has to name each such edit as one that is still proved, and
-has to refuse all others. The script prints each verdict on a harmless edit, and fails where one
+has to refuse all others. The script prints each verdict on a harmless edit, and fails if one
 differs. It is no part of the gate.
 """
 import argparse

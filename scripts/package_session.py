@@ -59,7 +59,7 @@ class Unit:
         return [line.partition("=")[2] for line in self.lines if line.startswith(f"{key}=")]
 
     def value(self, key: str) -> str:
-        """The only value of a key, empty where it has none."""
+        """The only value of a key, empty if it has none."""
         return next(iter(self.values(key)), "")
 
     def make_folders(self) -> None:
@@ -277,8 +277,7 @@ def judge_log() -> None:
 
 
 def show_dashboard() -> None:
-    """The dashboard reads the switch and its log. No controller is missed where there is no
-    plan."""
+    """The dashboard reads the switch and its log. No controller is missed if there is no plan."""
     with Unit("bg-dashboard").running():
         check("the page", comes(lambda: answers(PAGE)), True)
         check("the controller on the page", "bg_controller_up" in asked(PAGE, "/metrics")[1], False)

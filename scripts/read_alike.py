@@ -57,8 +57,8 @@ Made = TypeVar("Made")
 def each_at_once(
     make: Callable[[Reader, int, Given], Made], readers: Sequence[Reader], given: Sequence[Given]
 ) -> list[list[Made]]:
-    """What `make` gives for each of these, by its number, with each reader. Each reader has so many
-    connections at once."""
+    """What `make` gives for each of these, by its number, with each reader. Each reader has
+    `AT_ONCE` connections at once."""
     pools = [concurrent.futures.ThreadPoolExecutor(AT_ONCE) for _ in readers]
     futures = [
         [pool.submit(make, reader, number, each) for number, each in enumerate(given)]

@@ -1,4 +1,4 @@
-"""Judges what the built programs do where one of their requests for memory is refused: see
+"""Judges what the built programs do if one of their requests for memory is refused: see
 scripts/refused_memory.sh, which builds what this needs.
 
 usage: scripts/refused_memory.py REFUSER [ROW..]
@@ -171,7 +171,7 @@ def difference(stored: bytes, replies: bytes) -> str:
 
 
 class Row:
-    """A worked row, and how it is judged where a request is refused."""
+    """A worked row, and how it is judged if a request is refused."""
 
     def __init__(self, path: pathlib.Path) -> None:
         self.name = str(path.relative_to(TOP))
@@ -214,8 +214,8 @@ class Row:
         )
 
     def has_refused_a_line(self, run: Run) -> bool:
-        """One line was refused, and all others are answered as in a run without that line, where
-        memory is ample."""
+        """One line was refused, and all others are answered as in a run without that line and with
+        ample memory."""
         place = place_refused(run.replies)
         if place is None or not has_no_complaint(run):
             return False

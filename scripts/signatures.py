@@ -37,7 +37,7 @@ class Signature(NamedTuple):
 
 def end_of_brackets(code: str, start: int) -> int:
     """The place after the bracket that closes the one at `start`. The `>` of `->` and `=>` closes
-    nothing. `ValueError` where no bracket closes it."""
+    nothing. `ValueError` if no bracket closes it."""
     depth = 0
     for place in range(start, len(code)):
         if code[place] in OPENING:

@@ -1,5 +1,5 @@
 #!/usr/bin/env python3
-"""Tries the must-fail edits crates/NAME/wrong-bodies/*.edit, and fails where the prover accepts
+"""Tries the must-fail edits crates/NAME/wrong-bodies/*.edit, and fails if the prover accepts
 one.
 
 usage: scripts/try_edits.py [--alone] [NAME..]        the edits of all crates, or of these
@@ -9,7 +9,7 @@ the contracts of the functions that a body calls, and not their bodies. So one c
 edits of many functions: a round, in which no two edits are in one function. Such a check asks for
 the edited functions alone, and the rounds of a crate share what is proved.
 
-An edit is refused where a function that it changes is not proved and the prover names a place of
+An edit is refused if a function that it changes is not proved and the prover names a place of
 that very function: a line of its text, or of a proof file of its own. That a callee is not proved
 is no such reason, and neither is a proof file that names what the edit took away. An edit for which
 no such reason is told is tried alone, and then, if its functions are not proved, alone with the
@@ -74,7 +74,7 @@ def edits_of(repository: Repository, name: str) -> list[pathlib.Path]:
 def is_built(repository: Repository, name: str) -> bool:
     """Whether the library of a crate stands as its files are now.
 
-    `rt lib` leaves a stamp, and builds a library anew where its files have changed. `rt ci` leaves
+    `rt lib` leaves a stamp, and builds a library anew if its files have changed. `rt ci` leaves
     none; the folder of a library that it has put there is newer than the files.
     """
     library = repository.library(name)

@@ -48,7 +48,7 @@ def numbers_of(words: Sequence[str]) -> Mapping[str, int]:
 
 
 def fault_of_words(words: Sequence[str]) -> str:
-    """The first wrong word of a line that has the right count; empty where none is wrong."""
+    """The first wrong word of a line that has the right count; empty if none is wrong."""
     if not all(is_number(word, greatest) for word, greatest in numbers_of(words).items()):
         return "BadNumber"
     allowed = PLACES.get(words[0], ())
@@ -57,7 +57,7 @@ def fault_of_words(words: Sequence[str]) -> str:
 
 
 def fault_of(words: list[str]) -> str:
-    """The fault of a line; empty where it is well formed."""
+    """The fault of a line; empty if it is well formed."""
     if not words:
         return "Empty"
     if words[0] not in (*LINE_WORDS, *SCRIPT_WORDS, WORD):

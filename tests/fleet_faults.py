@@ -44,7 +44,7 @@ def without_compares(*names: str) -> Patch:
 
 def without_one_member() -> Patch:
     def are_enough(votes: Votes, max_missing: int) -> bool:
-        return bool(votes.given) and len(votes.awaited) <= 1
+        return bool(votes.voters) and len(votes.awaited) <= 1
 
     return mock.patch.object(Votes, "are_enough", are_enough)
 
@@ -113,7 +113,7 @@ def without_the_id() -> Patch:
 
 
 def back_by_permission() -> Patch:
-    """An agent that hands a failed verdict in only where it has a fresh read."""
+    """An agent that hands a failed verdict in only if it has a fresh read."""
     may_hand_in = FleetLines.may_hand_in
 
     def by_permission(self: FleetLines, report: Report, verdict: Verdict, fault: str) -> bool:

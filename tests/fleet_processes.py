@@ -56,7 +56,7 @@ def ended(process: AgentProcess) -> None:
 
 class Network:
     """What the stores of a test share: `silence` is for how many seconds each call waits before it
-    fails; None where none fails. While a call waits, `is_asked` is set. All that wait fail once the
+    fails; None if no call fails. While a call waits, `is_asked` is set. All that wait fail once the
     test has ended. `delay` is for how many seconds each call waits that does not fail.
 
     A watch that stands while `hangs` is set, or while nothing answers, hangs: it tells of nothing
@@ -242,7 +242,7 @@ class FleetProcessCase(unittest.TestCase):
         return View(self.person.read()).record
 
     def stage(self) -> str:
-        """The stage of the record with its revision; empty where there is none."""
+        """The stage of the record with its revision; empty if there is no record."""
         record = self.record()
         return f"{record.revision.name} {record.stage}" if record else ""
 

@@ -33,7 +33,7 @@ class Selection(NamedTuple):
 
 
 class Said(NamedTuple):
-    """A line of an agent's log, after so many changes of the store."""
+    """A line of an agent's log, after `changes` changes of the store."""
 
     changes: int
     text: str
@@ -65,7 +65,7 @@ class Replay:
     def __init__(self, changes: list[Change]) -> None:
         self.changes = changes
         self.keys: dict[str, Change] = {}
-        # by name: the revision of its latest change, also where that was a deletion
+        # by name: the revision of its latest change, also if that was a deletion
         self.newest: dict[str, int] = {}
 
     def go(self) -> Iterator[Change]:
@@ -177,8 +177,8 @@ def title_of(order: Told) -> str:
 
 
 def broken_by_orders(trace: Trace) -> Iterator[str]:
-    """Rule 7: an attempt whose abort stands in the store does not go on, and an order goes only
-    where the record has carried it out, or with a line of a log that names it and says why."""
+    """Rule 7: an attempt whose abort stands in the store does not go on, and an order goes only if
+    the record has carried it out, or with a line of a log that names it and says why."""
     replay, aborts = Replay(trace.changes), set[int]()
     carried_out = {"abort": "aborted", "promote": "promoting"}
     done: dict[int, Told] = {}  # by the revision: the record that was written

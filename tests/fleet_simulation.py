@@ -490,7 +490,7 @@ class World:
         self.lines.append(f"{self.time:8.2f}  {text}")
 
     def record_at(self, revision: int) -> str:
-        """The text of the record at a revision of the store; empty where there was none."""
+        """The text of the record at a revision of the store; empty if there was none."""
         for change in self.keys.changes[self.logged :]:
             if change.name == "attempt" and change.value:
                 self.records.append((change.revision, change.value))
@@ -764,7 +764,7 @@ class World:
 
     @property
     def stage(self) -> str:
-        """The stage of the record; empty where there is none."""
+        """The stage of the record; empty if there is no record."""
         change = self.keys.keys.get("attempt")
         return str(json.loads(change.value)["stage"]) if change else ""
 

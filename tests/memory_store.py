@@ -15,8 +15,8 @@ from bg_switch_tools.fleet.store.store import (
 
 
 class Change(NamedTuple):
-    """A change of one key. `value` is None where the key was deleted; `client` is empty where its
-    lease has ended. `read` is the revision of the client's latest read."""
+    """A change of one key. `value` is None if the key was deleted; `client` is empty if its lease
+    has ended. `read` is the revision of the client's latest read."""
 
     revision: int
     at: float
@@ -28,7 +28,7 @@ class Change(NamedTuple):
 
 
 def revision_of(key: Key | None, what: str) -> int:
-    """What a compare looks at of a key; 0 where there is none."""
+    """What a compare looks at of a key; 0 if there is no such key."""
     if key is None:
         return 0
     return key.created if what == "created" else key.changed

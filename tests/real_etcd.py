@@ -22,7 +22,7 @@ HOST = "127.0.0.1"
 PROGRAM = shutil.which("etcd")
 MISSING = "etcd is not installed: apt-get install etcd-server to run this test"
 SETPRIV = shutil.which("setpriv")
-# A member ends with the process that has started it, also where that is killed.
+# A member ends with the process that has started it, even if that is killed.
 TIED = (SETPRIV, "--pdeathsig", "KILL") if SETPRIV else ()
 # With these, an election takes a fifth of a second.
 FAST = (
@@ -104,7 +104,7 @@ class Member:
             self.process.wait(WAIT)
 
     def end(self) -> None:
-        """Lets it end by itself, also where it is stopped."""
+        """Lets it end by itself, even if it is stopped."""
         if self.process:
             self.process.send_signal(signal.SIGCONT)
             processes.end(self.process, WAIT)
@@ -127,7 +127,7 @@ class Member:
 
 
 class Cluster:
-    """A cluster of so many members in a temporary folder, which all take requests."""
+    """A cluster of `count` members in a temporary folder, which all take requests."""
 
     def __init__(
         self,

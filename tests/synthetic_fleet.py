@@ -158,7 +158,7 @@ class SyntheticEtcd(FakeEtcd):
         return self.calls("/v3/kv/range")
 
     def fleet_file(self, timeout: float = 1.0) -> str:
-        """The text of a fleet file that names this etcd, by which a read takes at most so many
+        """The text of a fleet file that names this etcd, by which a read takes at most `timeout`
         seconds."""
         return json.dumps(
             {"fleet": FLEET, "etcd": [str(self.endpoint)], "timeout_seconds": timeout}

@@ -27,7 +27,7 @@ REFUSALS = (
 
 
 class Part(NamedTuple):
-    """Requests of a revision: so many, the share of errors, and the mean of the duration in
+    """Requests of a revision: their number, the share of errors, and the mean of the duration in
     milliseconds."""
 
     revision: int
@@ -39,7 +39,7 @@ class Part(NamedTuple):
 def entries(
     parts: Sequence[Part], begin: float = BEGIN, seconds: float = 60.0, seed: int = SEED
 ) -> Iterator[LogEntry]:
-    """The entries of these parts, which follow each other; all of them together take so many
+    """The entries of these parts, which follow each other; all of them together take `seconds`
     seconds."""
     chance, count, number = random.Random(seed), sum(part.requests for part in parts), 0
     for part in parts:

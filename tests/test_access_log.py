@@ -210,7 +210,7 @@ class Files(unittest.TestCase):
         self.assertFalse(follower.is_behind)
 
     def test_nothing_is_from_before_once_the_file_is_replaced_or_cut(self) -> None:
-        """Also where the new file is smaller than the one that was followed first."""
+        """Even if the new file is smaller than the one that was followed first."""
 
         def cut() -> None:
             self.log.path.write_bytes(b"")

@@ -30,8 +30,8 @@ LAUNCHERS = ("bin/bg_switch", "../../bin/bg_switch", "bg_switch", "/usr/bin/bg_s
 
 
 def started(launcher: pathlib.Path, variables: Mapping[str, str]) -> list[str]:
-    """What the program prints that a launcher starts, where the user has set these variables of the
-    C library alone."""
+    """What the program prints that a launcher starts, if the user has set these variables of the C
+    library alone."""
     others = {name: value for name, value in os.environ.items() if not name.startswith("MALLOC_")}
     done = subprocess.run(
         [str(launcher), *WORDS],

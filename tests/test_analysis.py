@@ -44,7 +44,7 @@ GONE = refused("client_gone")
 def requests(
     count: int, errors: int = 0, milliseconds: float = 5.0, upstream: float | None = 2.0
 ) -> list[LogEntry]:
-    """So many requests, of which the first ones are errors."""
+    """`count` requests, of which the first `errors` are errors."""
     return [
         ANSWERED._replace(
             status=500 if number < errors else 200, duration_ms=milliseconds, upstream_ms=upstream

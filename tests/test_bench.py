@@ -1,5 +1,5 @@
-"""bench/compare.py fails where a bench or a ratio is worse, and writes the baseline; the benches
-print ratios."""
+"""bench/compare.py fails if a bench or a ratio is worse, and writes the baseline; the benches print
+ratios."""
 import json
 import pathlib
 import shutil

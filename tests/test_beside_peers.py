@@ -443,7 +443,7 @@ class Configurations(unittest.TestCase):
 
 class Words(unittest.TestCase):
     def bench(self, *words: str, path: str = "") -> Run:
-        """A run where no program is installed."""
+        """A run if no program is installed."""
         variables = ["env", f"PATH={path}", "PYTHONDONTWRITEBYTECODE=1"]
         return run_to_end([*variables, sys.executable, str(TOP / "bench/beside_peers.py"), *words])
 

@@ -44,7 +44,7 @@ class Invocation:
 
     @property
     def command(self) -> str:
-        """The command of bgctl that it names; empty where it names none."""
+        """The command of bgctl that it names; empty if it names none."""
         words = self.split()[1]
         return next((word for word in words[1:] if word in NAMES), "")
 
@@ -54,7 +54,7 @@ class Invocation:
 
 
 def rows(text: str) -> Iterator[Invocation]:
-    """The rows of a table. `ValueError` where a line is none of it."""
+    """The rows of a table. `ValueError` if a line is not part of it."""
     place, row = "", None
     for number, line in enumerate(text.splitlines(), 1):
         mark, rest = line[:1], line[2:]

@@ -1,4 +1,4 @@
-"""The completions and the manual pages of bgctl, where the tools of Debian that make them are
+"""The completions and the manual pages of bgctl, if the tools of Debian that make them are
 installed."""
 import os
 import pathlib
@@ -140,7 +140,7 @@ class Share(unittest.TestCase):
         return [each.split("\t")[0] for each in told.splitlines()]
 
     def completed_by_zsh(self, line: str, **variables: str) -> str:
-        """The line of zsh at a terminal, where all words are taken that it completes at its end."""
+        """The line of zsh at a terminal, if all words are taken that it completes at its end."""
         told = pathlib.Path(self.folder / "told")
         told.unlink(missing_ok=True)
         return self.completed("zsh", AT_A_TERMINAL, LINE=line, TOLD=str(told), **variables).rstrip()

@@ -40,7 +40,7 @@ class Parts(unittest.TestCase):
             self.assertEqual(self.run_parts(*words)[::2], (1, ""))
 
     def test_a_part_that_there_is_not(self) -> None:
-        """A run that checks nothing is none that has passed."""
+        """A run that checks nothing has not passed."""
         self.assertEqual(
             self.run_parts("good", "goood"), (2, "", "live: there is no part goood, but good bad\n")
         )

@@ -50,7 +50,7 @@ class Leaves(unittest.TestCase):
         with open("pid", "w") as file:
             file.write(str(subprocess.Popen(["sleep", "1000"]).pid))
 """
-# The limit is short where a class hangs, however slow the machine is.
+# The limit is short if a class hangs, however slow the machine is.
 CODE = """
 import sys
 from tests import __main__ as tests
@@ -98,7 +98,7 @@ class Classes(unittest.TestCase):
             self.assertIn(told, done.printed)
 
     def test_one_whose_process_ends_in_between(self) -> None:
-        """A run that says nothing is none that has passed."""
+        """A run that says nothing has not passed."""
         done = self.run_tests(ENDS)
         self.assertEqual(
             (done.status, done.printed),
@@ -127,7 +127,7 @@ class Classes(unittest.TestCase):
         )
 
     def test_no_tests(self) -> None:
-        """A run without a test is none that has passed."""
+        """A run without a test has not passed."""
         self.assertEqual(
             self.run_tests(classes=""),
             Run("tests of the tools: 0 in 0 classes, of which 0 failed\n", "", 1),

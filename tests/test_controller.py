@@ -501,7 +501,7 @@ class Analyses(ControllerCase):
                     os.remove(os.path.join(self.folder, name))
 
     def test_why_it_is_an_error_is_told_once(self) -> None:
-        """Also where its verdict is refused again and again."""
+        """Even if its verdict is refused again and again."""
         self.write_with("exit 3")
         self.switch.book.refusals["verdict"] = "HistoryFull"
         self.start()

@@ -193,7 +193,7 @@ class Verdicts(SeveralCase):
         self.await_book("aborted", 2)
 
     def test_how_one_ends_that_was_stopped_counts_for_nothing(self) -> None:
-        """Not even where it has the status of a failure then."""
+        """Not even if it has the status of a failure then."""
         fails = "trap 'exit 1' TERM; echo $$ > p1; while :; do sleep 0.05; done"
         self.write_pre(
             {"errors": "until test -e p1; do sleep 0.02; done; exit 3", "latency": fails}
@@ -303,7 +303,7 @@ class Decisions(unittest.TestCase):
             self.assertEqual(self.decided(*scripts), (verdict, reason), scripts)
 
     def test_the_last_line_of_one_that_has_just_ended_is_there(self) -> None:
-        """Also where the thread that reads it is slow."""
+        """Even if the thread that reads it is slow."""
         planned = PlannedAnalysis(("sh", "-c", "echo 9 errors; exit 1"), "errors")
         several = AnalysesOfPhase(JUDGED, (planned,))
 
@@ -319,7 +319,7 @@ class Decisions(unittest.TestCase):
                 time.sleep(0.001)
             several.look()
         only.stop(0, "")
-        self.assertEqual(several.told()[0].last, ("9 errors",))
+        self.assertEqual(several.results()[0].last, ("9 errors",))
 
     def left_behind(self, count: int) -> AnalysesOfPhase:
         """Analyses that have ended, and whose children have not."""
@@ -340,7 +340,7 @@ class Decisions(unittest.TestCase):
         seconds = time.monotonic() - begun
         self.assertTrue(is_within(seconds, 3), seconds)
         several.runs[0].stop(0, "")
-        self.assertEqual(several.told()[0].last, ("up",))
+        self.assertEqual(several.results()[0].last, ("up",))
 
     def test_all_together_wait_no_longer_than_one_for_what_they_leave_behind(self) -> None:
         several, waited = self.left_behind(5), list[float]()
@@ -454,7 +454,7 @@ class Told(SeveralCase):
         )
 
     def test_an_attempt_that_ends_before_its_analyses_has_no_results(self) -> None:
-        """Also where the attempt before, of the same revision, had some."""
+        """Even if the attempt before, of the same revision, had some."""
         results = AnalysisResults(self.plan.path)
         recorder = HistoryRecorder(self.plan.path, Log(self.out, False), None, results)
         recorder.take_in(report("steady", 1, 1, 1), KNOWN)

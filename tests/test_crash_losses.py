@@ -1,5 +1,5 @@
-"""What a crash, a damaged moment or a second controller could undo or poison, and what is told
-where something is lost."""
+"""What a crash, a damaged moment or a second controller could undo or poison, and what is told if
+something is lost."""
 import os
 import pathlib
 import signal

@@ -235,7 +235,7 @@ class Pages(Dashboard):
         self.assertTrue(comes(lambda: '"answers": true' in self.get("/api/state").body))
 
     def starts_again(self) -> bool:
-        """Starts the switch again. False where its port was given to a connection meanwhile."""
+        """Starts the switch again. False if its port was given to a connection meanwhile."""
         try:
             self.switch.start("open web-v1 1 2")
         except OSError:

@@ -367,8 +367,8 @@ class WithAgent(Fleet):
         return [*super().program(), str(switch.port), "--agent-state", str(state)]
 
     def told_of(self, written: float, lost: float) -> Samples:
-        """The metrics where the agent has written its file before so many seconds, and has lost
-        etcd before so many (0: it has not)."""
+        """The metrics if the agent has written its file `written` seconds ago, and has lost etcd
+        `lost` seconds ago (0: it has not)."""
         now = time.time()
         status = dataclasses.replace(
             self.status, written=now - written, read=now - written, lost=now - lost if lost else 0.0

@@ -47,7 +47,7 @@ class Looked(unittest.TestCase):
         self.look()
 
     def look(self, seconds: float = 1.0) -> None:
-        """A read, after so many seconds."""
+        """A read, after `seconds` seconds."""
         self.at += seconds
         try:
             self.board.take_read(self.store.read())

@@ -263,13 +263,13 @@ class Steps(unittest.TestCase):
         for report in reports(*PAUSED, "promote", "verdict post failed"):
             attempt.take(report)
         self.assertEqual(
-            (attempt.seen, attempt.failed_at),
+            (attempt.phases, attempt.failed_at),
             (["scaling", "paused", "postAnalysis"], "postAnalysis"),
         )
         attempt.take(reports(*PAUSED, "abort", "retry")[-1])
-        self.assertEqual((attempt.seen, attempt.failed_at), (["paused"], None))
+        self.assertEqual((attempt.phases, attempt.failed_at), (["paused"], None))
         attempt.take(reports(*PAUSED, "deploy web-v3 5 6")[-1])
-        self.assertEqual(attempt.seen, ["scaling"])
+        self.assertEqual(attempt.phases, ["scaling"])
         attempt.take(reports(*PAUSED, "deploy web-v3 5 6", "abort")[-1])
         self.assertEqual(attempt.failed_at, "scaling")
         late = SeenPhases()

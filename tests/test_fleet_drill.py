@@ -461,7 +461,7 @@ class Verdicts(unittest.TestCase):
         )
 
     def test_what_holds_only_together(self) -> None:
-        """A drill has passed where nothing is wrong with it, and fails by each thing that is."""
+        """A drill has passed if nothing is wrong with it, and fails by each thing that is."""
         outcome = self.outcome()
         with mock.patch("support.fleet.verdict.mix_of", return_value=Mix(30, 20, 1)):
             self.assertTrue(verdict(outcome)[1])

@@ -1,4 +1,4 @@
-"""The store of a fleet on a real etcd: its reads, writes, leases and waits, and what it says where
+"""The store of a fleet on a real etcd: its reads, writes, leases and waits, and what it says if
 etcd has a fault."""
 import shutil
 import threading
@@ -38,7 +38,8 @@ class OnOne(WithCluster):
         self.store: Store = store_at(self.endpoint)
 
     def value(self, key: str) -> str | None:
-        """The value of a whole key, as etcd itself has it in base 64; None where there is none."""
+        """The value of a whole key, as etcd itself has it in base 64; None if there is no such
+        key."""
         found = asked(self.endpoint, "/v3/kv/range", {"key": in_base64(key)}).get("kvs")
         return str(found[0].get("value", "")) if isinstance(found, list) else None
 
@@ -100,7 +101,7 @@ class Reads(OnOne):
 
 class Writes(OnOne):
     def written(self, *compares: Compare) -> bool:
-        """Whether a write with these compares is carried out. It has changed nothing where not."""
+        """Whether a write with these compares is carried out. It has changed nothing if not."""
         before = self.store.read()
         revision = self.store.write(compares, {"result": "v"}, ["gone"])
         after = self.store.read()

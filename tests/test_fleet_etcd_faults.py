@@ -103,7 +103,7 @@ LATE: dict[str, tuple[Answer, str]] = {
     ),
 }
 NUMBERS = "its answer has no number "
-# By its name: an answer to a read that is none, and what is said of it.
+# By its name: an answer to a read that is wrong, and what is said of it.
 WRONG: dict[str, tuple[Answer, str]] = {
     "no answer": (sending(), "it closes the connection without an answer"),
     "a reset": (reset, "it closes the connection without an answer"),

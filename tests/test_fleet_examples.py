@@ -188,7 +188,7 @@ class Programs(unittest.TestCase):
             shutil.copy(cls.folder / "ca.pem", cls.folder / "machines.pem")
 
     def need(self, program: str) -> None:
-        """Skips a test where a program, or openssl, is not installed."""
+        """Skips a test if a program, or openssl, is not installed."""
         if not shutil.which(program, path=PLACES):
             self.skipTest(f"{program} is not installed")
         if not OPENSSL:

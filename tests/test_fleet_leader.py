@@ -369,7 +369,7 @@ class OfAnEarlierLeader(Decisions):
         keys = {name: key for name, key in snapshot.keys.items() if name != "leader"}
         view = View(snapshot._replace(keys=keys))
         assert self.record is not None
-        self.assertEqual(votes_of(view, self.record).given, ("a", "b"))
+        self.assertEqual(votes_of(view, self.record).voters, ("a", "b"))
 
 
 class Succeeds(Decisions):
@@ -548,7 +548,7 @@ class Writes(Decisions):
         )
 
     def test_an_abort_that_comes_after_the_read_is_not_passed_over(self) -> None:
-        """Each write compares the key of the order, also where no order stood."""
+        """Each write compares the key of the order, even if no order stood."""
         self.report(a=READY, b=READY)
         for stage, state in ((DEPLOYING, READY), (PROMOTING, PASSED)):
             self.record = self.put(stage)

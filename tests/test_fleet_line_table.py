@@ -36,7 +36,7 @@ CLUSTER = "c1"
 
 
 def report(phase: str, stable: str, newest: str, active: str = "", available: int = 1) -> Report:
-    """A report. Where it is not given, the active service selects what the phase lets it select."""
+    """A report. If it is not given, the active service selects what the phase lets it select."""
     names = sorted({stable, newest, active or stable})
     live = active or (newest if phase == "postAnalysis" else stable)
     numbers = {name: number for number, name in enumerate(names, 1)}
@@ -142,7 +142,7 @@ class OfTheRunningAttempt(Row):
         self.check("promote", ["paused"], "web-v1", "web-v2", known(PROMOTING))
 
     def test_promoting_waits_in_every_other_phase(self) -> None:
-        """Also with a verdict that is held back, and also where the attempt has failed here."""
+        """Also with a verdict that is held back, and also if the attempt has failed here."""
         self.check(
             None,
             ["scaling", "preAnalysis", "sizing", "postAnalysis", "aborted"],
@@ -248,7 +248,7 @@ class CatchingUp(Row):
 
 class Lines(unittest.TestCase):
     def test_a_promote_needs_the_attempt_of_the_record(self) -> None:
-        """Over all phases and stages: a promote is sent where the switch is paused, and the record
+        """Over all phases and stages: a promote is sent if the switch is paused, and the record
         lets its revision be active."""
         for phase in PHASES:
             for stage in (DEPLOYING, PROMOTING, SUCCESSFUL, ABORTED):

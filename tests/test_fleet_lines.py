@@ -77,7 +77,7 @@ class FleetLinesCase(unittest.TestCase):
 
     def clock(self) -> float:
         """The clock since boot of the agent and of the switch, which goes on by itself, and further
-        where a test sets it ahead."""
+        if a test sets it ahead."""
         return boot_clock() + self.ahead
 
     def put_plan(self) -> None:

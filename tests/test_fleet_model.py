@@ -1,5 +1,5 @@
-"""model/check.py: what it reads from a search, and that it fails where a rule does not hold, and
-where a planted fault is not found."""
+"""model/check.py: what it reads from a search, and that it fails if a rule does not hold, and if a
+planted fault is not found."""
 import contextlib
 import dataclasses
 import io

@@ -20,7 +20,7 @@ class First(unittest.TestCase):
         self.blocks = blocks_of(page, TITLE)
 
     def run_first(self) -> tuple[int, str]:
-        """The first block, and a word after it that comes only where the shell goes on."""
+        """The first block, and a word after it that comes only if the shell goes on."""
         script = f"{self.blocks[0]}\necho goes on"
         ran = subprocess.run(
             ["bash", "-c", script], capture_output=True, text=True, timeout=WAIT, check=False

@@ -142,7 +142,7 @@ class StoreAway(FleetProcessCase):
         self.assertEqual(self.switch.book.active, 1)
 
     def test_a_round_that_took_long_promotes_nothing_by_its_read(self) -> None:
-        """As where the process is stopped, and woken after the attempt was aborted."""
+        """As when the process is stopped, and woken after the attempt was aborted."""
         process = self.begun()
         self.put(self.v1, self.v2, fleet={"by_hand": True})
         self.await_that(lambda: self.told_is("ready"), "the machine is ready")

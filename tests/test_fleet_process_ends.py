@@ -94,7 +94,7 @@ class Ends(FleetProcessCase):
         self.assertEqual(self.own_lines(), lines)
 
     def test_the_analysis_of_one_that_was_killed_is_ended(self) -> None:
-        """Also where the plan names neither the revision that was stable then nor any other one of
+        """Even if the plan names neither the revision that was stable then nor any other one of
         it."""
         left = subprocess.Popen(
             [sys.executable, "-c", "import time; time.sleep(1000)"], start_new_session=True
@@ -344,7 +344,7 @@ class Files(FleetProcessCase):
         )
 
     def test_a_copy_of_the_files_has_another_id(self) -> None:
-        """Also where the copy is used on the same kernel, as by a container."""
+        """Even if the copy is used on the same kernel, as by a container."""
         made = machine_id(str(self.folder / "x"), lambda *_: None)
         copied = pathlib.Path(shutil.copy2(self.folder / "x.id", self.folder / "y.id"))
         self.assertEqual(copied.read_text(), (self.folder / "x.id").read_text())

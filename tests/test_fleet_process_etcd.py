@@ -34,7 +34,7 @@ PROGRAM = (str(TOOLS / "fleet"),)
 
 
 def with_lease(seconds: int) -> tuple[str, ...]:
-    """A program as bin/fleet, whose leases have so many seconds."""
+    """A program as bin/fleet, whose leases have `seconds` seconds."""
     code = f"""import sys; sys.path.insert(0, {str(TOP / 'lib')!r})
 from bg_switch_tools.fleet.agent import agent_process
 from bg_switch_tools.fleet.plan import fleet_file

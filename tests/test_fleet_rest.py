@@ -305,8 +305,8 @@ class Begins(unittest.TestCase):
                 self.assertTrue(self.is_at_rest())
 
     def test_what_cannot_be_read(self) -> None:
-        """A plan that is none ends no rest: nothing follows from it. What follows from a record
-        that is none, nobody knows."""
+        """A plan that can't be read does not end a rest: nothing follows from it. What follows from
+        a record that can't be read, nobody knows."""
         self.fleet.put(**{PLAN: "{"})
         self.assertTrue(self.is_at_rest())
         self.fleet.put(**{ORDER: "{"})

@@ -484,7 +484,7 @@ PLANTED: dict[str, tuple[int, str, Callable[[Recording], Recording]]] = {
 
 
 def drill_of_602(terms: Callable[[float], int], ended: int = 85) -> Recording:
-    """As in a drill by seed 602: web-3 is promoting from 45 on, for 39.9 seconds, where its plan
+    """As in a drill by seed 602: web-3 is promoting from 45 on, for 39.9 seconds, while its plan
     gives it 15. The agent that leads was killed for four seconds, and a member of etcd for two."""
     promoting = record(
         SECOND, "web-3", "web-2", "promoting", plan={"fleet": {"promoting_seconds": 15}}
@@ -502,7 +502,7 @@ def drill_of_602(terms: Callable[[float], int], ended: int = 85) -> Recording:
 
 
 class Elections(unittest.TestCase):
-    """Rule 8, where a leader is lost and etcd elects a leader of its own meanwhile."""
+    """Rule 8, if a leader is lost and etcd elects a leader of its own meanwhile."""
 
     def rule_8(self, run: Recording) -> list[str]:
         return [text for rule, text in broken_rules(run) if rule == 8]

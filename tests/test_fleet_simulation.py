@@ -37,7 +37,7 @@ from tests.fleet_simulation import World, history
 
 SEEDS = 500  # of each class of histories
 MOST_PLANTED = 3000  # histories until a planted fault has to be found
-# What a history has to meet so many times on the average.
+# How often a history has to meet each of these on the average.
 LEAST = {
     "deploying": 1,
     "promoting": 0.5,

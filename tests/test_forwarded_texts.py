@@ -64,7 +64,7 @@ class Texts(unittest.TestCase):
         )
 
     def test_a_text_that_is_ambiguous_is_told_by_name(self) -> None:
-        """Also where both readers take the same end of it."""
+        """Even if both readers take the same end of it."""
         text = head(b"Content-Length: 51", b"Transfer-Encoding: chunked") + chunks()
         _, printed = self.judge(text, BY_CODING, BY_CODING._replace(name="b"))
         self.assertEqual(printed.count("FAILED: length-value/plus ("), 1)

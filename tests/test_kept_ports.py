@@ -711,7 +711,7 @@ class RefusedDeploys(KeptPorts):
 
     def test_a_wait_ends_at_once(self) -> None:
         told = self.bgctl("deploy", "web-v4", "1", "2", "--wait", "--timeout", "40")
-        self.assertEqual(told.status, 1)  # 2 where its time has passed
+        self.assertEqual(told.status, 1)  # 2 if its time has passed
         self.assertIn(
             "stable=web-v4 cannot hold by the plan: the switch refuses to deploy web-v4 1 2: refused TooManyRevisions: 64 ",
             told.told,

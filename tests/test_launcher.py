@@ -26,7 +26,7 @@ FAKE = """echo "$0 $1 $2 $3" >> calls; test ! -e "hang-$0" || exec sleep 60; tes
 
 
 class Launched(ControllerCase):
-    """Endpoints run where the fake commands were called for them: a thread starts and stops them as
+    """Endpoints run if the fake commands were called for them: a thread starts and stops them as
     the calls say."""
 
     knows_down = True

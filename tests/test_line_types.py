@@ -137,7 +137,7 @@ def prints_a_line(node: ast.AST) -> bool:
 
 def is_a_line(node: ast.AST) -> bool:
     """A text such as "verdict post successful" or "refused TooLate". A line of one word may be the
-    name of a command; as bytes it is none."""
+    name of a command; as bytes it is not."""
     if not isinstance(node, ast.Constant):
         return False
     has_words = isinstance(node.value, bytes)

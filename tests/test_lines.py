@@ -1,4 +1,4 @@
-"""The lines, replies and phases of the tools: each is read as it is printed, what is none is
+"""The lines, replies and phases of the tools: each is read as it is printed, what is not one is
 refused, and the words, the help and the meanings are those of docs/LINES.md."""
 import os
 import random
@@ -130,7 +130,7 @@ def page() -> str:
 
 
 def fault_of(text: bytes) -> str:
-    """The fault of a text; empty where it is a line."""
+    """The fault of a text; empty if it is a line."""
     try:
         read_line(text)
     except LineError as error:

@@ -1,5 +1,5 @@
-"""Limits in seconds are wider where the machine is slow, and only there; and a process that is
-paused does nothing more."""
+"""Limits in seconds are wider if the machine is slow, and only then; and a process that is paused
+does nothing more."""
 import contextlib
 import io
 import pathlib

@@ -36,8 +36,8 @@ KINDS_OF_CHANGE = ("Added", "Changed", "Deprecated", "Removed", "Fixed", "Securi
 # what the switch has beside.
 FOR_A_WORKER, FOR_A_PORT, FOR_OPERATORS, OWN = 3, 1024, 1024, 64
 # Memory in MiB: the largest request and response of a worker; requests and responses that a client
-# port buffers, where requests may count twice their bound, and the system's buffers of its sockets
-# where no client reads; and what the switch has beside.
+# port buffers, for which requests may count twice their bound, and the system's buffers of its
+# sockets if no client reads; and what the switch has beside.
 OF_A_WORKER, OF_A_PORT, BESIDE = 1 + 4, 2 * 128 + 512 + 4 * FOR_A_PORT, 512
 
 

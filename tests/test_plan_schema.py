@@ -28,7 +28,7 @@ def is_taken(plan: Value) -> bool:
 
 
 def library() -> Any:
-    """python3-jsonschema, or None where it is not installed."""
+    """python3-jsonschema, or None if it is not installed."""
     try:
         return importlib.import_module("jsonschema")
     except ImportError:

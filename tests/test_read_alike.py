@@ -94,7 +94,7 @@ class Comparing(unittest.TestCase):
         return {each.message.name: each for each in read_alike.compare_all(readers, corpus())}
 
     def test_readers_that_prefer_different_fields_are_found(self) -> None:
-        """They differ exactly where a message has both fields as they know them."""
+        """They differ exactly if a message has both fields as they know them."""
         every = self.compared(BY_LENGTH, BY_CODING)
         found = every["both-framings/cl.te-length-first"]
         self.assertIs(found.kind, Kind.ENDS)

@@ -179,7 +179,7 @@ class Signals(unittest.TestCase):
 
 class Questions(unittest.TestCase):
     def answered(self, words: Sequence[str], typed: bytes) -> int:
-        """The status of an operator at a terminal, where this is typed."""
+        """The status of an operator at a terminal at which this is typed."""
         end, other = pty.openpty()
         process = subprocess.Popen(
             [str(TOOLS / "operator"), *words], stdin=other, stdout=other, stderr=subprocess.PIPE

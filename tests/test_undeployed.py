@@ -56,7 +56,7 @@ class Overtaken(Undeployed):
     def test_who_waits_is_told_at_once(self) -> None:
         self.deploy_later("web-v3")
         told = self.bgctl("deploy", *self.words("web-v2").split(), "--wait", "--timeout", "50")
-        self.assertEqual(told.status, 1, told)  # 2 where its time has passed
+        self.assertEqual(told.status, 1, told)  # 2 if its time has passed
         self.assertIn(
             "stable=web-v2 cannot hold by the plan: web-v2 was overtaken before its deploy: the plan names web-v3 last",
             told.told,

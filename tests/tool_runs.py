@@ -29,7 +29,7 @@ WAIT = 60.0  # seconds for which anything is awaited
 
 
 def comes(holds: Callable[[], object], longest: float = WAIT) -> bool:
-    """Whether this holds within so many seconds."""
+    """Whether this holds within `longest` seconds."""
     return checks.comes(holds, longest)
 
 
@@ -87,8 +87,8 @@ class ControllerRun:
         return sum(all(word in line for word in words) for line in list(self.log))
 
     def signal(self, number: int) -> tuple[int | None, float]:
-        """Sends a signal. Gives the status, None where it doesn't end, and after how many seconds
-        it came."""
+        """Sends a signal. Gives the status, None if it doesn't end, and after how many seconds it
+        came."""
         begun = time.monotonic()
         self.process.send_signal(number)
         try:
@@ -135,7 +135,7 @@ def controlling(plan: Plan, *words: str) -> Iterator[ControllerRun]:
 
 
 def with_fast_clock(factor: int, path: str, *words: str) -> list[str]:
-    """The words of a run of a Python program whose monotonic clock goes so many times faster."""
+    """The words of a run of a Python program whose monotonic clock goes `factor` times faster."""
     code = (
         "import sys, time, runpy; real = time.monotonic; "
         f"time.monotonic = lambda: real() * {factor}; sys.argv = {[path, *words]!r}; "

@@ -4,8 +4,9 @@ parsers, as they are placed below /usr/share: tools/bgctl_share.py FOLDER. It ne
 python3-argcomplete and help2man of Debian. The page of the switch itself is packaging/bg_switch.1.
 
 The completions ask bgctl itself by the protocol of argcomplete, and need python3-argcomplete also
-where they are used. So they know the names of revisions, which bgctl reads from the switch and the
-plan. argcomplete has the code for bash and fish; that for zsh is packaging/_bgctl.
+on the machine on which they are used. So they know the names of revisions, which bgctl reads from
+the switch and the plan. argcomplete has the code for bash and fish; that for zsh is
+packaging/_bgctl.
 """
 import importlib
 import os
@@ -40,7 +41,7 @@ class MissingProgramError(Exception):
 
 
 def completions() -> dict[str, str]:
-    """The completions, by their paths. `MissingProgramError` where argcomplete is not installed."""
+    """The completions, by their paths. `MissingProgramError` if argcomplete is not installed."""
     try:
         argcomplete: Any = importlib.import_module("argcomplete")
     except ImportError:

@@ -256,8 +256,8 @@ def distinct() -> dict[Row, History]:
 
 
 def choose(histories: Mapping[Row, History]) -> list[Judged]:
-    """Changes of these histories. At least a third of them, where so many are found, leave the
-    history legal and settled; the others are spread over what they break."""
+    """Changes of these histories. At least a third of them, if enough are found, leave the history
+    legal and settled; the others are spread over what they break."""
     chance = random.Random(SEED)
     good: list[Change] = []
     by_fault: dict[str, list[Change]] = {}

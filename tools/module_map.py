@@ -76,7 +76,7 @@ def folders(package: str) -> list[str]:
 
 
 def sentence_of(path: pathlib.Path) -> str:
-    """The first sentence of a module's documentation. `ValueError` where the module has none."""
+    """The first sentence of a module's documentation. `ValueError` if the module has none."""
     text = ast.get_docstring(ast.parse(path.read_text(encoding="utf-8")))
     if not text:
         raise ValueError(f"{path} has no documentation")

@@ -4,7 +4,7 @@ and a machine that crashes.
 
 It starts etcd, HAProxy, and for each machine a switch and an agent, by the files beside this
 script, with other ports. Clients ask HAProxy without pause. It needs no root, but etcd, haproxy and
-curl (Debian: etcd-server, haproxy and curl). It ends with status 0 where each step has come and no
+curl (Debian: etcd-server, haproxy and curl). It ends with status 0 if each step has come and no
 request has failed. Nothing is left behind, also after ctrl-C.
 """
 import pathlib

@@ -3,7 +3,7 @@
 requests without pause.
 
 It prints each line of the operator with its reply, and for each part of the story how many requests
-each revision answered. It ends with status 0 where no request failed.
+each revision answered. It ends with status 0 if no request failed.
 """
 import contextlib
 import pathlib
@@ -28,7 +28,7 @@ LONGEST = 30
 
 
 def answered_by(port: int) -> str | None:
-    """The revision that answers a request, or None where none does."""
+    """The revision that answers a request, or None if no revision does."""
     asked = ask(port)
     return asked.revision if asked.status == 200 else None
 

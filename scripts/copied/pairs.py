@@ -56,7 +56,7 @@ def copies(sources: Mapping[str, str], least: Least) -> list[Copy]:
 
 def _named(shares: Mapping[ItemPair, list[tuple[Line, Line]]], least: Least) -> Iterator[ItemPair]:
     """The items after which a run is named: those of which it has enough lines, so that no item
-    hides behind another one; and where it has enough of none, the items of which it has the most.
+    hides behind another one; and if it has enough of none, the items of which it has the most.
     """
     runs_of = {items: Run(lines) for items, lines in shares.items()}
     long = [it for it in runs_of if least.is_reached(len(runs_of[it].lines), runs_of[it].tokens())]

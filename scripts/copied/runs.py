@@ -11,13 +11,14 @@ from itertools import combinations
 
 from copied.code_lines import CodeLine, is_name
 
-# At most one name of so many is replaced.
+# At most one name in each `NAMES_FOR_EACH_REPLACED` names is replaced.
 NAMES_FOR_EACH_REPLACED = 3
 
 
 @dataclass(frozen=True)
 class Least:
-    """How long a run is at the least: so many lines with so many tokens, or so many thin lines."""
+    """How long a run is at the least: `lines` lines with `tokens` tokens, or `thin_lines` thin
+    lines."""
 
     lines: int
     tokens: int
@@ -87,7 +88,7 @@ def runs(files: Mapping[str, Sequence[CodeLine]], least: Least) -> Iterator[Run]
 
 
 def _begins(lines: Sequence[Line], window: int) -> Iterator[tuple[int, int]]:
-    """Where two windows of so many lines begin that are alike, however many names are replaced."""
+    """Where two windows of `window` lines begin that are alike, however many names are replaced."""
     # (two shapes with one hash have patterns that differ)
     shapes = [hash(_shape(line.code)) for line in lines]
     places: dict[tuple[int, ...], list[int]] = defaultdict(list)
@@ -108,8 +109,8 @@ def _shape(line: CodeLine) -> tuple[str, ...]:
 
 
 def _pattern(lines: Sequence[Line]) -> tuple[int | str, ...]:
-    """The tokens of lines, where each name is the count of the other names that come before it. So
-    lines with names that are replaced one to one have the same pattern."""
+    """The tokens of lines, in which each name is the count of the other names that come before it.
+    So lines with names that are replaced one to one have the same pattern."""
     numbers: dict[str, int] = {}
     return tuple(
         numbers.setdefault(token, len(numbers)) if is_name(token) else token

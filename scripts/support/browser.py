@@ -193,7 +193,7 @@ class Browser:
 
 @contextlib.contextmanager
 def browsing(port: int, extra: tuple[str, ...] = ()) -> Iterator[Browser]:
-    """A browser, which is ended whatever happens. `NoBrowserError` where none can be had."""
+    """A browser, which is ended whatever happens. `NoBrowserError` if none can be had."""
     with tempfile.TemporaryDirectory(ignore_cleanup_errors=True) as folder:
         browser = Browser(port, folder, extra)
         try:

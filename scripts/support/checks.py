@@ -50,7 +50,7 @@ def fail(name: str, why: str) -> None:
 
 
 def check(name: str, got: object, expected: object) -> None:
-    """Counts whether this is what was wanted, and prints both where it isn't."""
+    """Counts whether this is what was wanted, and prints both if it isn't."""
     if got == expected:
         COUNTS.add(True)
     else:
@@ -66,7 +66,7 @@ def check_within(name: str, got: float, most: float) -> None:
 
 
 def check_soon(name: str, seconds: float, most: float) -> None:
-    """Counts whether this took at most so many seconds, or as many more as the machine is slower
+    """Counts whether this took at most `most` seconds, or as many more as the machine is slower
     than a free one. It fits a limit that says `not for ever`."""
     if is_within(seconds, most):
         COUNTS.add(True)
@@ -79,7 +79,7 @@ def check_soon(name: str, seconds: float, most: float) -> None:
 def check_beside(
     name: str, seconds: Sequence[float], elsewhere: Sequence[float], most: float
 ) -> None:
-    """Counts whether each of these calls took at most so many seconds; or, on a busy machine, no
+    """Counts whether each of these calls took at most `most` seconds; or, on a busy machine, no
     longer than TIMES as long as the slowest of the same calls that were made in turn with them, but
     not beside what could hold them up.
     """
@@ -95,7 +95,7 @@ def check_beside(
 
 
 def comes(holds: Callable[[], object], longest: float = LONGEST_WAIT) -> bool:
-    """Whether this holds within so many seconds, or as many more as the machine is slower than a
+    """Whether this holds within `longest` seconds, or as many more as the machine is slower than a
     free one. It is asked again and again."""
     begun, limit, is_widened = time.monotonic(), longest, False
     while not holds():
@@ -122,7 +122,7 @@ def run(
     by_hand: Sequence[Part] = (),
     longest: int = LONGEST_RUN,
 ) -> NoReturn:
-    """Runs the parts in turn, or so many at once, and prints the counts; status 0 where no check
+    """Runs the parts in turn, or `at_once` at a time, and prints the counts; status 0 if no check
     has failed. The words name parts that are run alone; with `--by-hand` those are run that take
     too long for the gate. The script may take `longest` seconds."""
     at_the_limit(

@@ -64,7 +64,7 @@ def send_in_pieces(connection: socket.socket, pieces: Iterable[bytes], pause: fl
 
 def answer_of(connection: socket.socket, text: bytes, *later: bytes) -> bytes | None:
     """What a client that sends these bytes, and others later, and ends its side, is answered, or
-    None where the connection is reset."""
+    None if the connection is reset."""
     try:
         connection.sendall(text)
         for piece in later:
@@ -111,8 +111,7 @@ def dripped(port: int, pieces: Iterable[bytes], pause: float) -> Timed:
 def timed_for(
     at: Control, longest: float, pieces: Sequence[bytes] = (request(),), pause: float = 0.0
 ) -> Timed:
-    """The same, where a client may wait for no longer than so many seconds: the answer is none
-    then."""
+    """The same, but a client waits for at most `longest` seconds: the answer is empty then."""
     start = time.monotonic()
     with connect(at) as client:
         client.settimeout(longest)
@@ -129,7 +128,7 @@ def get(
     body: Body = None,
     fields: dict[str, str] | None = None,
 ) -> tuple[int, bytes] | None:
-    """The status and the body that Python's own client is answered, or None where there is no whole
+    """The status and the body that Python's own client is answered, or None if there is no whole
     answer."""
     connection = http.client.HTTPConnection(HOST, port, timeout=LONGEST)
     in_chunks = body is not None and not isinstance(body, bytes)
@@ -218,7 +217,7 @@ def read_a_little(connection: socket.socket) -> bool:
 
 @contextlib.contextmanager
 def dripping(port: int, count: int, first: bytes, pause: float = 0.5) -> Iterator[Crowd]:
-    """So many clients that send this and then a byte now and then."""
+    """`count` clients that send this and then a byte now and then."""
     with Crowd(port, count, first) as crowd:
         crowd.goes_on_with(send_a_byte, pause)
         yield crowd
@@ -226,14 +225,14 @@ def dripping(port: int, count: int, first: bytes, pause: float = 0.5) -> Iterato
 
 @contextlib.contextmanager
 def slow_readers(port: int, count: int, target: bytes) -> Iterator[Crowd]:
-    """So many clients that ask for this and read a kilobyte a second of it."""
+    """`count` clients that ask for this and read a kilobyte a second of it."""
     with Crowd(port, count, request(target), SMALL_BUFFER) as crowd:
         crowd.goes_on_with(read_a_little, 1.0)
         yield crowd
 
 
 def upload(port: int, size: int, piece: int = 65536, pause: float = 0.0) -> bytes:
-    """What a client is answered that uploads so many bytes, a piece at a time."""
+    """What a client is answered that uploads `size` bytes, a piece at a time."""
     return timed(
         port, [head_of(size), *[bytes(piece)] * (size // piece), bytes(size % piece)], pause
     ).answer

@@ -17,7 +17,7 @@ WAIT = 10  # seconds for its end
 
 
 def missing() -> str:
-    """Why no dashboard can be had here; empty where one can."""
+    """Why no dashboard can be had here; empty if one can."""
     with contextlib.suppress(OSError):
         if (
             subprocess.run(
@@ -52,7 +52,7 @@ def showing(control: int, listen: int, *words: str) -> contextlib.AbstractContex
 
 
 def failing(name: bytes, each: int, pause: float = 0.0) -> Answer:
-    """Answers with the name of the revision, each so many-th request with 500; with 0 none but
+    """Answers with the name of the revision, every `each`-th request with 500; with 0 none but
     those whose target says so."""
     numbers = itertools.count(1)
 

@@ -41,7 +41,7 @@ Answer = Callable[[Request, socket.socket], None]
 
 
 def read_head(connection: socket.socket) -> tuple[bytes, bytes] | None:
-    """A head, without its end, and what came behind it; none where the connection ends before."""
+    """A head, without its end, and what came behind it; None if the connection ends before."""
     head = b""
     while END_OF_HEAD not in head:
         piece = connection.recv(65536)
@@ -53,8 +53,8 @@ def read_head(connection: socket.socket) -> tuple[bytes, bytes] | None:
 
 
 def read_request(connection: socket.socket) -> Request | None:
-    """A request whose body comes by length, as the switch sends each; none where the connection
-    ends before."""
+    """A request whose body comes by length, as the switch sends each; None if the connection ends
+    before."""
     read = read_head(connection)
     if read is None:
         return None
@@ -174,7 +174,8 @@ def by_target(name: bytes) -> Answer:
 def in_pieces(
     pieces: Sequence[bytes], pause: float = 0.0, silent_after: int | None = None
 ) -> Answer:
-    """Answers each request with these pieces, but says nothing to those after so many."""
+    """Answers each request with these pieces, but says nothing after the first `silent_after`
+    requests."""
     numbers = itertools.count()
 
     def answer(_: Request, connection: socket.socket) -> None:
@@ -213,7 +214,7 @@ class Held:
             self.closed += 1
 
     def holds(self, count: int) -> bool:
-        """Whether so many requests wait at a time that comes soon."""
+        """Whether at least `count` requests wait at a time that comes soon."""
         return comes(lambda: self.pending - self.closed >= count)
 
 
@@ -265,7 +266,7 @@ def held_at(target: bytes, held: Held, others: Answer) -> Answer:
 
 def has_more(connection: socket.socket) -> bool:
     """Whether something comes before the peer closes or resets the connection. Fails with
-    TimeoutError where it is quiet."""
+    TimeoutError if it is quiet."""
     try:
         return connection.recv(1) != b""
     except ConnectionError:

@@ -66,7 +66,7 @@ class Sent(NamedTuple):
         return self.received < self.limit
 
     def fault(self) -> str:
-        """What the switch has done wrong for certain; empty where it has done nothing."""
+        """What the switch has done wrong for certain; empty if it has done nothing."""
         told = f"before {self.limit} {self.line} => {self.reply}"
         if self.is_late and self.reply != str(TOO_LATE):
             return (
@@ -85,7 +85,8 @@ class Sender:
         self.waiting: list[Sent] = []
 
     def send(self, line: str, ahead: int) -> int:
-        """Sends a line that has to be carried out so many milliseconds from now. Gives its time limit."""
+        """Sends a line that has to be carried out within `ahead` milliseconds from now. Gives its
+        time limit."""
         begun = milliseconds()
         self.waiting.append(Sent(line, begun + ahead, begun))
         self.operator.send(f"before {begun + ahead} {line}".encode("ascii"))
@@ -136,7 +137,7 @@ class LateLines:
         self.stops = 0
 
     def play(self, count: int) -> Outcome:
-        """Sends so many lines at least."""
+        """Sends at least `count` lines."""
         while len(self.lines) < count:
             if self.chance.random() < SHARE_QUIET:
                 self._quiet_stop()
@@ -210,7 +211,7 @@ class LateLines:
 
 
 def seconds_of(operator: Operator, line: bytes, count: int, at_once: int = 50) -> float:
-    """How long a switch takes for a line so many times, so many of them sent at once."""
+    """How long a switch takes for a line `count` times, of which `at_once` are sent together."""
     begun = time.monotonic()
     for _ in range(count // at_once):
         operator.allow(LONGEST)

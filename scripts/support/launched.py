@@ -90,7 +90,7 @@ if kind == "stop" and os.path.exists(path):
 
 
 class Failure(NamedTuple):
-    """An answer that is none of a revision's, and its time."""
+    """An answer that no revision gives, and its time."""
 
     at: float
     answer: tuple[int, bytes] | None
@@ -137,8 +137,8 @@ class Program:
         folder: str,
         longest: float = processes.LONGEST,
     ) -> None:
-        """Starts it with this standard input, and waits for its first line where one is named. Each
-        of its processes runs for so many seconds at most."""
+        """Starts it with this standard input, and waits for its first line if one is named. Each of
+        its processes runs for at most `longest` seconds."""
         self.words, self.given, self.first, self.folder = words, given, first, folder
         self.longest = longest
         self.lines: list[str] = []
@@ -264,7 +264,7 @@ class Launched:
         self.outages.append((begun - SETTLING, time.monotonic() + SETTLING))
 
     def kill_at_random(self, kills: int, *what: Callable[[], None]) -> None:
-        """Kills one of these at a random moment, so many times."""
+        """Kills one of these at a random moment, `kills` times."""
         for _ in range(kills):
             time.sleep(self.random.random() * 1.5)
             self.random.choice(what)()

@@ -1,7 +1,7 @@
 """Connected sockets on this machine, which processes of their own hold: more than a script may have,
 and than one port has peers.
 
-As a program: `many_sockets.py COUNT` holds so many, prints `ready`, and ends with its input.
+As a program: `many_sockets.py COUNT` holds COUNT of them, prints `ready`, and ends with its input.
 """
 import contextlib
 import resource
@@ -17,7 +17,7 @@ FURTHER = 100  # descriptors of a process beside those of its sockets
 
 @contextlib.contextmanager
 def many_sockets(count: int) -> Iterator[None]:
-    """So many further sockets of this machine."""
+    """`count` further sockets of this machine."""
     with contextlib.ExitStack() as stack:
         holders = []
         for begun in range(0, count, OF_A_HOLDER):
@@ -32,7 +32,7 @@ def many_sockets(count: int) -> Iterator[None]:
 
 
 def hold(count: int) -> None:
-    """Holds so many sockets until the input ends."""
+    """Holds `count` sockets until the input ends."""
     most = resource.getrlimit(resource.RLIMIT_NOFILE)[1]
     resource.setrlimit(resource.RLIMIT_NOFILE, (count + FURTHER, most))
     with contextlib.ExitStack() as stack:

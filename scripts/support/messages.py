@@ -19,7 +19,7 @@ def request(
 
 
 def head_of(length: int, method: bytes = b"POST") -> bytes:
-    """The head of a request whose body has so many bytes."""
+    """The head of a request whose body has `length` bytes."""
     return b"%s / HTTP/1.1\r\nHost: x\r\nContent-Length: %d\r\n\r\n" % (method, length)
 
 

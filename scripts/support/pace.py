@@ -1,6 +1,6 @@
-"""The pace of the machine: limits that only say `not for ever` are wider where it is busy or slow.
+"""The pace of the machine: limits that only say `not for ever` are wider if it is busy or slow.
 
-Where a limit is what is checked, a check compares with a control in the same run, or looks at the
+If a limit is what is checked, a check compares with a control in the same run, or looks at the
 order of events.
 """
 import os
@@ -12,7 +12,7 @@ import time
 from collections.abc import Callable
 
 # The work by which the pace is measured: the start of a process, and a little that it computes. It
-# takes so many seconds on a free machine.
+# takes `FREE` seconds on a free machine.
 WORK = (sys.executable, "-I", "-S", "-c", "for _ in range(300_000): pass")
 FREE = 0.025
 RUNS = 5
@@ -38,8 +38,8 @@ def widened(limit: float) -> float:
 
 
 def is_within(seconds: float, limit: float) -> bool:
-    """Whether this took no longer than the limit. The pace is measured only where the limit itself
-    is not kept."""
+    """Whether this took no longer than the limit. The pace is measured only if the limit itself is
+    not kept."""
     return seconds <= limit or seconds <= widened(limit)
 
 

@@ -43,8 +43,8 @@ def as_installed(page: str) -> str:
 
 class Surroundings(NamedTuple):
     """How long a session may take, in seconds; the variables of the environment that it has beside
-    those of the script; the folder in which it runs, the script's own where none is named; and
-    whether the machine is its own, so that it can use the page's ports."""
+    those of the script; the folder in which it runs, the script's own if none is named; and whether
+    the machine is its own, so that it can use the page's ports."""
 
     longest: float = 80.0
     variables: Mapping[str, str] = {}
@@ -56,7 +56,7 @@ def run_script(
     script: str, printed: IO[str], ports: Sequence[str], around: Surroundings
 ) -> list[str]:
     """Runs a script in a shell; what it leaves running is ended. Gives the ports that still listen
-    after it; none where it does not end."""
+    after it; empty if it does not end."""
     shell = subprocess.Popen(
         ["bash", "-c", script],
         stdin=subprocess.DEVNULL,
@@ -89,8 +89,8 @@ class Session(NamedTuple):
     listening: list[str]
 
     def check(self, least: int, first: int = 0) -> None:
-        """Checks that there are so many blocks at least, that each from this one on has printed
-        what it says, and that nothing listens any more."""
+        """Checks that there are at least `least` blocks, that each from `first` on has printed what
+        it says, and that nothing listens any more."""
         check(
             "blocks that were run",
             (len(self.printed), len(self.blocks) >= least),

@@ -128,7 +128,7 @@ def posts(process: int) -> int:
 
 def limit_descriptors(soft: int, hard: int | None = None) -> None:
     """The descriptors that this process may have from now on, by its soft and its hard limit; the
-    hard one stays where none is given."""
+    hard one stays if none is given."""
     most = resource.getrlimit(resource.RLIMIT_NOFILE)[1]
     hard = most if hard is None else hard
     if most != resource.RLIM_INFINITY:
@@ -144,8 +144,8 @@ class DescriptorLimit:
         self.most = resource.prlimit(process, resource.RLIMIT_NOFILE)
 
     def leave(self, count: int) -> None:
-        """No more than so many descriptors can be had beside those that are open, from the highest
-        of them on."""
+        """At most `count` descriptors can be had beside those that are open, from the highest of
+        them on."""
         self.set(1 + descriptors(self.process)[-1] + count)
 
     def refuse(self) -> None:

@@ -10,8 +10,8 @@ KEPT = list[socket.socket]()
 
 
 def named(port: int) -> socket.socket | None:
-    """The socket that has a port's name; None where another process has the name, or something
-    listens at the port."""
+    """The socket that has a port's name; None if another process has the name, or something listens
+    at the port."""
     name = socket.socket(socket.AF_UNIX)
     try:
         name.bind(f"\0bg-test-port-{port}")
@@ -24,7 +24,7 @@ def named(port: int) -> socket.socket | None:
 
 
 def reserved_block(ports: range, count: int) -> int:
-    """The first of so many ports of a range, one after the other, that nothing listens at. They are
+    """The first of `count` ports of a range, one after the other, that nothing listens at. They are
     reserved."""
     while True:
         first = random.choice(ports[: len(ports) - count + 1])

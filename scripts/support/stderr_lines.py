@@ -5,7 +5,7 @@ import re
 from support.checks import check, comes
 from support.switch import Switch
 
-# Why, behind a notice, where the program tells it.
+# Why, behind a notice, if the program tells it.
 REASON = r"[^:]*(: .+)?"
 
 

@@ -66,11 +66,11 @@ class EndedSwitch(NamedTuple):
 class Switch:
     """A running `serve`, whose connections are counted, and whose standard error is kept.
 
-    With a `count` each worker takes exactly so many connections, and `end` takes all that the
-    checks have left over; without one it serves for ever. It may have so many descriptors,
-    `prepare` is called in its process before it starts, and it has these flags beside its other
-    words, and these variables of the environment beside those of the script. With a `path` it takes
-    lines at this control socket, in the place of the control port.
+    With a `count` each worker takes exactly this number of connections, and `end` takes all that
+    the checks have left over; without one it serves for ever. It may have `descriptors`
+    descriptors, `prepare` is called in its process before it starts, and it has these flags beside
+    its other words, and these variables of the environment beside those of the script. With a
+    `path` it takes lines at this control socket, in the place of the control port.
     """
 
     def __init__(
@@ -181,7 +181,7 @@ class Switch:
             return operator.open_requests()
 
     def take(self, port: int, count: int = 1) -> None:
-        """So many of the connections of the port are used."""
+        """`count` of the connections of the port are used."""
         with self.lock:
             self.left[port] -= count
 
@@ -214,7 +214,7 @@ class Switch:
         return clients.get(port, path, method, body, fields)
 
     def wait(self) -> EndedSwitch:
-        """Waits for the end by itself, for a while; the status is the signal's where it doesn't
+        """Waits for the end by itself, for a while; the status is the signal's if it doesn't
         come."""
         assert self.process.stdout is not None
         with self.process.stdout:
@@ -231,7 +231,7 @@ class Switch:
         return self.wait()
 
     def check_end(self, name: str, calls: int) -> None:
-        """A check that the program ends by itself, with so many calls after its last report, and
+        """A check that the program ends by itself, with `calls` calls after its last report, and
         status 0."""
         ended = self.end()
         check(name, (ended.printed.splitlines()[-2:], ended.status), (["end", f"calls {calls}"], 0))
@@ -249,7 +249,7 @@ class Switch:
         self.kill()
 
     def kill(self) -> None:
-        """Ends the program at once, where it hasn't ended by itself."""
+        """Ends the program at once, if it hasn't ended by itself."""
         processes.stop(self.process)
         assert self.process.stdout is not None
         self.process.stdout.close()
@@ -321,7 +321,7 @@ class LaterEnd:
             self.seconds = clients.timed(switch.active, []).seconds
 
     def is_after(self, seconds: float) -> bool:
-        """Whether the client was ended after more than so many seconds."""
+        """Whether the client was ended after more than `seconds` seconds."""
         self.thread.join()
         return seconds < self.seconds
 

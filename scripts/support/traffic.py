@@ -47,7 +47,7 @@ class Traffic:
         self.clients = [threading.Thread(target=self.ask, daemon=True) for _ in range(clients)]
 
     def start(self) -> None:
-        """Starts the clients, where they haven't started yet."""
+        """Starts the clients, if they haven't started yet."""
         for client in self.clients:
             if client.ident is None:
                 client.start()

@@ -92,7 +92,7 @@ def opening(session: Session) -> None:
 
 
 def carried_messages(session: Session) -> None:
-    """Requests of Python's own client, and of curl where it is there."""
+    """Requests of Python's own client, and of curl if it is there."""
     check("GET", session.get(), (200, b"one"))
     check("HEAD", session.get(method="HEAD"), (200, b""))
     check(

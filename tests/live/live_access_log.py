@@ -76,7 +76,7 @@ class Log:
         return batch.entries
 
     def awaited(self, count: int) -> list[LogEntry]:
-        """The entries, once there are so many."""
+        """The entries, once there are `count` of them."""
         comes(lambda: self.path.exists() and self.path.read_bytes().count(b"\n") >= count)
         return self.entries()
 
@@ -272,7 +272,7 @@ def idle_connections() -> None:
         log = Log(there / "log")
 
         def counts(lines: int) -> list[int | None]:
-            """How many connections each of so many lines counts."""
+            """How many connections each of `lines` lines counts."""
             return [entry.idle_connections for entry in log.awaited(lines)]
 
         get(switch.active)
@@ -325,7 +325,7 @@ def each_field() -> None:
 
 
 def as_many_lines() -> None:
-    """Each of many requests has exactly one line, also where the file is renamed in between."""
+    """Each of many requests has exactly one line, even if the file is renamed in between."""
     with folder() as there, logging(there / "log", workers=CLIENTS - 1) as (switch, _):
         renamed = there / "log.1"
 
@@ -419,7 +419,7 @@ class Fifo:
         self.told += len(batch.entries) + batch.lost
 
     def has(self, count: int) -> bool:
-        """Whether so many lines are written or counted, at a time that comes soon."""
+        """Whether `count` lines are written or counted, at a time that comes soon."""
 
         def is_told() -> bool:
             self.read()
@@ -457,7 +457,7 @@ def slow_disk() -> None:
 
 
 def leave_room(room: int = ROOM) -> None:
-    """The process that calls this may write so many bytes to a file. A write beyond that fails, as
+    """The process that calls this may write `room` bytes to a file. A write beyond that fails, as
     on a full disk."""
     signal.signal(signal.SIGXFSZ, signal.SIG_IGN)
     resource.setrlimit(resource.RLIMIT_FSIZE, (room, resource.RLIM_INFINITY))
@@ -583,7 +583,7 @@ def starts_after_a_part() -> None:
 
 
 def check_lost_lines(lines: list[bytes], count: int) -> None:
-    """Checks the lines of so many requests, some of which had no room: the count is behind those
+    """Checks the lines of `count` requests, some of which had no room: the count is behind those
     that had it."""
     batch = read_lines(lines)
     check(

@@ -400,7 +400,7 @@ class LoggedSwitches(NamedTuple):
         return switch.active if asked.service == "active" else switch.preview
 
     def check_idle(self, number: int, count: int) -> None:
-        """A check that the lines of a log count so many connections that sent nothing. A count is
+        """A check that the lines of a log count `count` connections that sent nothing. A count is
         in the next line, so further requests are made."""
 
         def is_told() -> bool:

@@ -37,7 +37,7 @@ ROLLOUT = """{"spec": {"replicas": 1, "strategy": {"blueGreen": {"activeService"
 "postPromotionAnalysis": {}, "scaleDownDelaySeconds": 60}}}}"""
 WORKERS = 7
 CLIENTS, PAUSE = 2, 0.02
-# How long, in seconds, endpoints take where clients leave: those that are asked for this, and the
+# How long, in seconds, endpoints take if clients leave: those that are asked for this, and the
 # others; and the time between two clients that leave.
 LATE_TARGET = b"/late"
 LATE, SOON, BETWEEN_LEAVING = 3.0, 0.1, 0.3

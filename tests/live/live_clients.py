@@ -29,7 +29,7 @@ from support.messages import (
 from support.ports import HOST, connections_at, is_refused, unread_at
 from support.switch import LaterEnd, Switch, opened, serving
 
-# How long, in seconds, a polite client waits at most beside slow ones. Where one of them kept a
+# How long, in seconds, a polite client waits at most beside slow ones. If one of them kept a
 # worker, it would wait for the timeout of the switch or longer.
 POLITE = 8.0
 TIMEOUT = 40
@@ -75,7 +75,7 @@ def in_pieces(text: bytes, size: int) -> list[bytes]:
 
 
 def refusals() -> None:
-    """A faulty request is answered as one that comes at once, also where it comes in pieces."""
+    """A faulty request is answered as one that comes at once, even if it comes in pieces."""
     texts = {
         request().replace(b"Host: x\r\n", b""): BAD_REQUEST,
         head_of(1).replace(b"\r\n\r\n", b"\r\nTransfer-Encoding: chunked\r\n\r\n"): BAD_REQUEST,
@@ -142,13 +142,13 @@ def sent_and_reset(port: int, text: bytes) -> bytes:
 
 
 def answered(port: int, pieces: list[bytes], pause: float) -> bytes:
-    """What a client is answered that sends these pieces, or nothing where that takes too long."""
+    """What a client is answered that sends these pieces, or nothing if that takes too long."""
     return timed_for(port, 2 * POLITE, pieces, pause).answer
 
 
 def ended_early(port: int, text: bytes) -> bytes | None:
-    """What a client is answered that sends this and ends its side; where its connection isn't
-    ended, that is said."""
+    """What a client is answered that sends this and ends its side; if its connection isn't ended,
+    that is said."""
     with connect(port) as client:
         client.settimeout(2 * POLITE)
         try:
@@ -237,7 +237,7 @@ def late_requests() -> None:
 
 
 def continues() -> None:
-    """`100 Continue` is written once where it is owed, and else not at all."""
+    """`100 Continue` is written once if it is owed, and else not at all."""
     body, whole = b"b" * 1000, CONTINUE + answer(b"one" + b"b" * 1000)
     head = head_of(1000).replace(b"\r\n\r\n", b"\r\nExpect: 100-continue\r\n\r\n")
     chunked = HEAD_OF_CHUNKS.replace(b"\r\n\r\n", b"\r\nExpect: 100-continue\r\n\r\n")
@@ -363,7 +363,7 @@ def read_steadily(port: int) -> int:
 
 
 def large_bodies() -> None:
-    """The answer to a body that is too large arrives, also where the client sends all of the body
+    """The answer to a body that is too large arrives, even if the client sends all of the body
     first, and isn't reset."""
     mega = bytes(MEGABYTE)
     cases = {f"{count} MB at once": [head_of(count << 20) + mega * count] for count in (2, 4, 15)}
@@ -443,7 +443,7 @@ def few_descriptors() -> None:
 
 
 def full_port() -> None:
-    """Of 1,130 clients a port keeps 1,024. Silent ones are let go where others come."""
+    """Of 1,130 clients a port keeps 1,024. Silent ones are let go when others come."""
     processes.limit_descriptors(16000)
     with serving(
         Endpoint(by_target(b"one")).port, workers=3, timeout=TIMEOUT, descriptors=4096
@@ -566,7 +566,7 @@ def ten_thousand_left_open() -> None:
 
 @contextlib.contextmanager
 def busy(switch: Switch, held: Held, count: int) -> Iterator[None]:
-    """So many workers wait for an endpoint."""
+    """`count` workers wait for an endpoint."""
     with contextlib.ExitStack() as stack:
         for _ in range(count):
             client = stack.enter_context(connect(switch.active))
@@ -617,7 +617,7 @@ def all_workers_busy() -> None:
 
 @contextlib.contextmanager
 def requests_that_wait(switch: Switch, held: Held, count: int) -> Iterator[list[socket.socket]]:
-    """So many clients whose requests are whole, and wait for the one worker, which waits for its
+    """`count` clients whose requests are whole, and wait for the one worker, which waits for its
     endpoint."""
     waiting = [connect(switch.active) for _ in range(count)]
     for number, client in enumerate(waiting):
@@ -635,7 +635,7 @@ def requests_that_wait(switch: Switch, held: Held, count: int) -> Iterator[list[
 
 
 def has_posts(switch: Switch, count: int) -> bool:
-    """Whether so many signals between the threads of a switch wait to be taken."""
+    """Whether `count` signals between the threads of a switch wait to be taken."""
     return processes.posts(switch.process.pid) == count
 
 

@@ -21,7 +21,7 @@ from support.ports import free_ports
 from support.processes import descriptors, resident_memory, threads
 from support.switch import Switch
 
-# How long a worker's thread may keep waiting where it has ended its work, in seconds.
+# How long a worker's thread may keep waiting if it has ended its work, in seconds.
 SOON = 10
 # A line of strace that begins a call of a thread.
 CALL = re.compile(r"\[pid +(?P<thread>\d+)\] \w+\(")
@@ -54,7 +54,7 @@ class Gate:
 
 @contextlib.contextmanager
 def held(port: int, count: int) -> Iterator[list[socket.socket]]:
-    """So many clients of the port whose requests the endpoint holds."""
+    """`count` clients of the port whose requests the endpoint holds."""
     with contextlib.ExitStack() as stack:
         sockets = [stack.enter_context(clients.connect(port)) for _ in range(count)]
         for client in sockets:
@@ -66,8 +66,8 @@ def held(port: int, count: int) -> Iterator[list[socket.socket]]:
 def serving(
     gate: Gate, descriptors: tuple[int, int], *words: str, preview: bool = True
 ) -> Iterator[Switch]:
-    """A switch with these words in place of `--workers`, that serves the endpoint, and may have so
-    many descriptors by its soft and its hard limit."""
+    """A switch with these words in place of `--workers`, that serves the endpoint. `descriptors`
+    are its soft and its hard limit."""
     switch = Switch(BY_HAND, instead_of_workers=words, preview=preview, descriptors=descriptors)
     try:
         check("opened", switch.answer_to(f"open one {gate.endpoint.port}"), "ok 0")
@@ -197,7 +197,7 @@ def memory_of_idle_workers() -> None:
 
 
 def descriptors_of_many_workers() -> None:
-    """The switch raises its soft limit of descriptors to the hard one, and tells where that is too
+    """The switch raises its soft limit of descriptors to the hard one, and says if that is too
     little."""
     gate = Gate()
     with serving(gate, (256, 4096), "--concurrency", "255") as switch:

@@ -22,8 +22,8 @@ from support.ports import HOST
 from support.stderr_lines import accepts_fail, check_told_once, told
 from support.switch import Switch, book
 
-# How long, in seconds, an order waits at most. Where another connection kept it out, it would wait
-# for as long as that one stays.
+# How long, in seconds, an order waits at most. If another connection kept it out, it would wait for
+# as long as that one stays.
 SOON = 4.0
 # How long an order waits at most beside connections that take turns, and an urgent one.
 PROMPT, AT_ONCE = 1.0, 0.3
@@ -425,7 +425,7 @@ def urgent_lines(path: str = "") -> None:
 
 
 def full_port(path: str = "") -> None:
-    """Where the port is full, the connection goes that is silent for the longest, so a new operator
+    """If the port is full, the connection goes that is silent for the longest, so a new operator
     always gets in."""
     switch = Switch(BY_HAND, descriptors=4 * 16, path=path)
     check("open", switch.answer_to("open one 1"), "ok 0")
@@ -546,7 +546,7 @@ def http_before_open() -> None:
 
 
 def sent_by_browser(switch: Switch, *pieces: bytes) -> bytes:
-    """What a connection that sends this is answered up to its end, or nothing where it isn't ended
+    """What a connection that sends this is answered up to its end, or nothing if it isn't ended
     soon."""
     return timed_for(switch.control, SEEN, pieces, 0.1).answer
 
@@ -576,7 +576,7 @@ def http() -> None:
 
 
 def http_in_pieces() -> None:
-    """The same, where lines came before and others come later."""
+    """The same, but lines came before and others come later."""
     with book() as switch:
         for moment, text in enumerate(BROWSERS.values(), 1):
             got = sent_by_browser(

@@ -88,7 +88,7 @@ class ControlledSwitch:
             operator.check(line, expected)
 
     def check_active(self, name: str, expected: tuple[int, bytes], count: int = 1) -> None:
-        """A check of what the active service answers so many clients."""
+        """A check of what the active service answers `count` clients."""
         check(name, [self.switch.get(self.switch.active) for _ in range(count)], [expected] * count)
 
 

@@ -54,7 +54,7 @@ class Process:
         self.start()
 
     def start(self) -> None:
-        """Starts it, and waits for its first line, where it prints one at once."""
+        """Starts it, and waits for its first line, if it prints one at once."""
         self.process = subprocess.Popen(
             self.words, stdin=subprocess.PIPE, stdout=subprocess.PIPE, text=True
         )
@@ -99,7 +99,7 @@ class Machine:
         self.controller = Process([str(TOP / "bin" / "controller"), self.plan.path], "")
 
     def write_plan(self, count: int) -> None:
-        """Puts a plan in place that names the first so many revisions."""
+        """Puts a plan in place that names the first `count` revisions."""
         self.plan.write([(name, self.ports[name]) for name in NAMES[:count]])
 
     def report(self) -> Report | None:

@@ -43,7 +43,7 @@ DEMONSTRATION = TOP / "examples" / "live" / "bad_revision.py"
 LONGEST_DEMONSTRATION = 100
 # revisions of a page that is full, and switches of the active service among them
 MANY, SWITCHES = (15, 8)
-# of these revisions: those that had no request for so many seconds
+# of these revisions: those that had no request for `SILENT_FOR` seconds
 SILENT, SILENT_FOR = (5, 35)
 OUTLIER = 20_000.0  # milliseconds of one request, of which the others take 4
 

@@ -64,7 +64,7 @@ def connects_that_hang() -> None:
 
 
 def connects_within_the_timeout() -> None:
-    """Where the timeout is shorter than 5 seconds, a connect takes no longer."""
+    """If the timeout is shorter than 5 seconds, a connect takes no longer."""
     with full_backlog() as port, serving(port, timeout=2) as switch, serving(port) as other:
         got, later = at_once([partial(timed, each.active) for each in (switch, other)])
         check_gateway("a connect that hangs for longer than the timeout", got, 1.5, later.seconds)
@@ -129,7 +129,7 @@ def own_ports() -> None:
 
 
 def silent_for(seconds: float) -> Answer:
-    """Answers after so many seconds."""
+    """Answers after `seconds` seconds."""
 
     def answer_late(_: Request, connection: socket.socket) -> None:
         time.sleep(seconds)
@@ -174,7 +174,7 @@ def answered_after(seconds: int, timeout: int) -> None:
 
 
 def silence_within_the_timeout() -> None:
-    """Where the timeout is longer than 30 seconds, an endpoint may be silent for as long."""
+    """If the timeout is longer than 30 seconds, an endpoint may be silent for as long."""
     answered_after(33, 45)
 
 
@@ -235,7 +235,7 @@ def sent(port: int, start: float) -> Sent:
 
 
 def traffic(port: int, become_sick: Callable[[], object], lasts: float = LASTS) -> list[Sent]:
-    """So many requests a second, whatever becomes of those before. An endpoint becomes sick after a
+    """`RATE` requests a second, whatever becomes of those before. An endpoint becomes sick after a
     while."""
     start = time.monotonic()
     with concurrent.futures.ThreadPoolExecutor(4 * CONCURRENCY) as pool:
@@ -257,7 +257,7 @@ def serving_two(
     timeout: int | None = SHORT_TIMEOUT,
     available: int = 2,
 ) -> Iterator[Switch]:
-    """A switch whose first revision has two endpoints, of which so many are available."""
+    """A switch whose first revision has two endpoints, of which `available` are available."""
     switch = Switch(
         TWO,
         instead_of_workers=("--concurrency", str(CONCURRENCY), *options),
@@ -403,7 +403,7 @@ class Switched:
 
 
 def sick_by(sick: Answer, lasts: float = LASTS) -> tuple[list[Sent], Endpoint, Endpoint]:
-    """What is answered where the first of two endpoints becomes sick, and both."""
+    """What is answered if the first of two endpoints becomes sick, and both endpoints."""
     switched = Switched(by_target(b"one"), sick)
     first, second = Endpoint(switched), Endpoint(by_target(b"two"))
     with serving_two([first.port, second.port]) as switch:
@@ -484,7 +484,7 @@ def port_of_two_revisions() -> None:
 
 
 def logged() -> None:
-    """The log has the port that was dialled last, the slot's where it differs, and the number of
+    """The log has the port that was dialled last, the slot's if it differs, and the number of
     tries."""
     first, second = Endpoint(by_target(b"one")), Endpoint(by_target(b"two"))
     first.stop()

@@ -152,8 +152,8 @@ class EventLoop:
         return len(processes.descriptors(self.process.pid))
 
     def has_read(self, clients: int) -> bool:
-        """Whether it has accepted so many clients that are still there, and read all that they have
-        sent, at a time that comes soon."""
+        """Whether it has accepted `clients` clients that are still there, and read all that they
+        have sent, at a time that comes soon."""
         return comes(lambda: connections_at(self.port) == clients and unread_at(self.port) == 0)
 
     def once(self, text: bytes) -> bytes:

@@ -17,12 +17,13 @@ from support.fleet.rules import RULES, broken_rules, figures
 from support.fleet.session import Session
 from support.pace import at_the_limit
 
-LONGEST = 400  # seconds for all of it on a machine that has no other work, where it takes about two minutes
-AWAY = 20.0  # seconds until a lease of 10 seconds has ended, also where etcd has begun it anew
+# seconds for all of it; on a machine that has no other work it takes about two minutes
+LONGEST = 400
+AWAY = 20.0  # seconds until a lease of 10 seconds has ended, even if etcd has begun it anew
 ANSWERED = 20.0  # seconds in which an order is answered, and an attempt of four seconds ends
-NO_ANSWER = 4  # the exit status of bin/fleet where etcd gives no answer
+NO_ANSWER = 4  # the exit status of bin/fleet if etcd gives no answer
 PACKAGES = "apt-get install etcd-server haproxy nginx"
-LAST_LINES = 150  # of a log that is shown where a check has failed
+LAST_LINES = 150  # of a log that is shown if a check has failed
 # of a whole session: fewer are a recording that shows nothing
 LEAST_REQUESTS, LEAST_LOOKS = (1000, 300)
 

@@ -1,6 +1,6 @@
 """The session of docs/FLEET.md, run from its own text with a real etcd, and the demonstration of
 examples/fleet: what it prints, and that it leaves nothing behind, also after ctrl-C. A part is
-skipped where a program that it needs is not installed."""
+skipped if a program that it needs is not installed."""
 import contextlib
 import os
 import pathlib

@@ -15,7 +15,7 @@ from support.stderr_lines import check_told_once, full, nearly_full, told
 from support.switch import LISTENING, Switch
 
 MOST = 1_000_000
-# From so many entries on it is told that the history is nearly full.
+# From this number of entries on, it is told that the history is nearly full.
 NEARLY = MOST // 10 * 9
 # How many places an event has to find, and how many each open request keeps.
 OF_EVENT, OF_REQUEST = 141, 3
@@ -58,7 +58,7 @@ class Filled:
         return int(reply[3:])
 
     def fill(self, entries: int) -> None:
-        """Orders lines that take a place each, on one connection, until there are so many
+        """Orders lines that take a place each, on one connection, until there are `entries`
         entries."""
         count = entries - self.entries
         with clients.connect(self.switch.control) as connection:
@@ -70,7 +70,7 @@ class Filled:
         self.entries = entries
 
     def hold(self, count: int) -> list[socket.socket]:
-        """So many clients whose requests wait at the endpoint."""
+        """`count` clients whose requests wait at the endpoint."""
         before = self.held.pending
         pending = [
             self.stack.enter_context(clients.connect(self.switch.active)) for _ in range(count)

@@ -26,13 +26,13 @@ DESCRIPTORS = (8192, 8192)
 # The timeouts of the switch would only end what the machine is too busy for.
 TIMEOUT = 3600
 # In MiB: the most that the requests at a client port count, by docs/LIMITS.md; the most memory
-# while they come; and what is kept so many seconds after the last one.
+# while they come; and what is kept `SOON` seconds after the last one.
 BOUND = 128
 MOST_OF_UPLOADS, MOST_KEPT, SOON = BOUND * 3 // 2, 64, 10
-# Of so many uploads at least so many are answered: the switch may drop a client that is too slow on
-# a busy machine.
+# Of `UPLOADS` uploads at least `ANSWERED` are answered: the switch may drop a client that is too
+# slow on a busy machine.
 UPLOADS, ANSWERED = 1000, 900
-# The workers of the unit, and clients that send and get messages of mixed sizes, so many each.
+# The workers of the unit, and clients that send and get messages of mixed sizes, `EXCHANGES` each.
 WORKERS, CLIENTS, EXCHANGES = 255, 40, 25
 SEED = 64
 LARGEST_RESPONSE = 4194304
@@ -43,7 +43,7 @@ BY_CONCURRENCY = (10, 32, 200, 1000)
 
 @contextlib.contextmanager
 def serving(endpoint: int, concurrency: int) -> Iterator[Switch]:
-    """A switch that serves the endpoint, with so many workers at the active port."""
+    """A switch that serves the endpoint, with `concurrency` workers at the active port."""
     switch = Switch(
         BY_HAND,
         instead_of_workers=("--concurrency", str(concurrency)),
@@ -104,7 +104,7 @@ class Upload:
 
 
 def upload_at_once(port: int, count: int) -> list[bytes]:
-    """What so many clients are answered that upload side by side, in one thread."""
+    """What `count` clients are answered that upload side by side, in one thread."""
     with contextlib.ExitStack() as stack, selectors.DefaultSelector() as selector:
         uploads = [Upload(port) for _ in range(count)]
         for upload in uploads:
@@ -130,7 +130,7 @@ def uploads_at_once() -> None:
     with serving(Endpoint(answer_ok).port, 64) as switch:
         check("the first upload", upload_at_once(switch.active, 1), [answer(b"ok")])
         answers = upload_at_once(switch.active, UPLOADS)
-        # where the clients are not run for a while, the switch drops some that stand still
+        # if the clients are not run for a while, the switch drops some that stand still
         check(
             "uploads that were answered",
             answers.count(answer(b"ok")) >= ANSWERED or slowness() >= 1.5,
@@ -141,8 +141,8 @@ def uploads_at_once() -> None:
 
 
 def status_of_one(port: int, rng: random.Random) -> int:
-    """The status of a request of any kind, which has a small or a large message; 0 where there is
-    no whole answer."""
+    """The status of a request of any kind, which has a small or a large message; 0 if there is no
+    whole answer."""
     # as likely from 1 KiB to 2 KiB as from 512 KiB to 1 MiB
     body = bytes(int(LARGEST_BODY ** rng.random()))
     pieces = (body[start : start + 10000] for start in range(0, len(body), 10000))
@@ -157,7 +157,7 @@ def exchanges(port: int, seed: int, count: int) -> list[int]:
 
 
 def soak(port: int, at_once: int, each: int) -> None:
-    """So many clients send so many requests each, one after the other, with messages of mixed
+    """`at_once` clients send `each` requests each, one after the other, with messages of mixed
     sizes."""
     with concurrent.futures.ThreadPoolExecutor(at_once) as pool:
         done = [pool.submit(exchanges, port, SEED + number, each) for number in range(at_once)]

@@ -67,7 +67,7 @@ def closed_book() -> Iterator[Switch]:
 
 
 def without_a_switch() -> None:
-    """Status 2 where there is no answer, or the words are wrong."""
+    """Status 2 if there is no answer, or the words are wrong."""
     nobody = run_operator(free_port(), "--wait", "0.3", "report")
     check(
         "no switch",
@@ -79,8 +79,7 @@ def without_a_switch() -> None:
 
 
 def statuses() -> None:
-    """0 where every line was carried out, 1 where one was refused or faulty, 2 where there is no
-    answer."""
+    """0 if every line was carried out, 1 if one was refused or faulty, 2 if there is no answer."""
     with closed_book() as switch:
         check("before a book", outcome(switch, "tick", "1"), ("refused NotOpen\n", 1))
         check("open", outcome(switch, "open", "one", "9"), ("ok 0\n", 0))
@@ -116,7 +115,7 @@ def statuses() -> None:
 
 
 def given_up() -> None:
-    """An order isn't carried out later where the switch gave no answer for too long."""
+    """An order isn't carried out later if the switch gave no answer for too long."""
     with closed_book() as switch:
         with contextlib.closing(Operator(switch.control)) as operator:
             operator.check("open one 9", "ok 0")

@@ -1,5 +1,5 @@
-"""The users whose orders a running `serve` takes, by BG_SWITCH_OPERATORS at its port and by the file
-of its control socket, what others are told, and whose orders were carried out. Skipped where the
+"""The users whose orders a running `serve` takes, by BG_SWITCH_OPERATORS at its port and by the
+file of its control socket, what others are told, and whose orders were carried out. Skipped if the
 script isn't run by root, which alone can make connections of several users."""
 import contextlib
 import errno
@@ -307,7 +307,7 @@ def socket_with(*flags: str, port: bool = False, users: str | None = None) -> It
 
 
 def asked_at_socket(user: int, switch: Switch, text: bytes) -> bytes:
-    """What a line of this user at the control socket is answered; the reason where the file can't be
+    """What a line of this user at the control socket is answered; the reason if the file can't be
     opened."""
     try:
         with connect_as(user, switch.path) as connection:

@@ -1,7 +1,7 @@
 """examples/production with other ports and paths: nginx before a running `serve`, and its unit's
 commands. What clients are answered is compared with what they are answered by the same nginx
-without the switch. Skipped where nginx or openssl isn't installed. scripts/package.sh runs the
-units' commands as they are, from the installed package."""
+without the switch. Skipped if nginx or openssl isn't installed. scripts/package.sh runs the units'
+commands as they are, from the installed package."""
 import contextlib
 import http.client
 import os
@@ -32,7 +32,7 @@ SOCKET = ("--control-socket-mode", "660", "--control-socket-group", "bg-operator
 CONCURRENCY = ("--concurrency", "255", "--redispatch")
 DESCRIPTORS = 8192
 SOON = 60
-# A user without rights, who runs the commands of the stop where this script is run by root.
+# A user without rights, who runs the commands of the stop if this script is run by root.
 OTHER_USER, OTHER_GROUP = "nobody", "nogroup"
 LAST_CHANGE, AT_LAST_CHANGE = 1000000000, "Sun, 09 Sep 2001 01:46:40 GMT"
 PAGES = {
@@ -388,8 +388,8 @@ def exposure(unit: pathlib.Path) -> float:
 
 
 def verify_units(folder: pathlib.Path) -> None:
-    """systemd takes the units, and finds them hardened, where it is installed. Their programs are
-    put where they are."""
+    """systemd takes the units, and finds them hardened, if it is installed. Their programs are put
+    where they are."""
     if shutil.which("systemd-analyze") is None:
         print(
             "live_production: the units aren't judged, since systemd isn't installed here",

@@ -102,7 +102,7 @@ def random_request(rng: random.Random, name: bytes) -> tuple[bytes, bytes]:
 
 
 def random_client_request(rng: random.Random, port: int, name: bytes | None) -> ClientRequest:
-    """A request at a port whose endpoint has this name; None where there is no endpoint."""
+    """A request at a port whose endpoint has this name; None if there is no endpoint."""
     text, expected = random_request(rng, name or b"none")
     kind = rng.randrange(10)
     if kind == 0:
@@ -142,7 +142,7 @@ class RandomRun:
             self.operator.check(line, expected)
 
     def send_requests(self, count: int, step: Step) -> int:
-        """So many requests at once with the active and the preview port; each eighth is one with
+        """`count` requests at once with the active and the preview port; each eighth is one with
         the preview port. Gives how many entered."""
         switch = self.switch
         active, preview = (switch.active, step.active), (switch.preview, step.preview)
@@ -164,7 +164,7 @@ class RandomRun:
         return entered
 
     def compact(self, entered: int) -> None:
-        """A check that the entries of so many requests are dropped from the history."""
+        """A check that the entries of `entered` requests are dropped from the history."""
         self.operator.check("compact", f"compacted {2 * entered}")
 
     def has_no_client(self) -> bool:

@@ -1,5 +1,5 @@
-"""`bg_switch serve` on loopback where something runs out: the connections of a port, the
-descriptors, the threads."""
+"""`bg_switch serve` on loopback if something runs out: the connections of a port, the descriptors,
+the threads."""
 import concurrent.futures
 import contextlib
 import pathlib
@@ -62,7 +62,7 @@ def a_client_too_many() -> None:
 
 def check_no_dial(name: str, switch: Switch, limit: DescriptorLimit, before: int) -> None:
     """A check of a client that is connected when descriptors run out: its endpoint isn't reached.
-    The program has so many descriptors without clients."""
+    The program has `before` descriptors without clients."""
     check("no client is connected", comes(lambda: switch.count_descriptors() == before), True)
     with switch.connect(switch.active) as client:
         client.sendall(REQUEST[:9])

@@ -30,16 +30,16 @@ from support.stderr_lines import (
 from support.switch import LISTENING, EndedSwitch, Switch, opened
 
 # How long, in seconds, it takes at most until the ports are closed, and until the program has ended
-# once nothing is open. Where a shutdown waited for what it needn't, that would be for the timeout
-# or the sixty seconds of a shutdown.
+# once nothing is open. If a shutdown waited for what it needn't, that would be for the timeout or
+# the sixty seconds of a shutdown.
 SOON = 5.0
 TIMEOUT = 40
 # Longer than a machine under load takes to connect some hundred clients, which must all be silent at
 # once.
 STARVED = 600
 BIG = b"x" * 4000000
-# The stack of each thread where few are to be had: what the system lends beside so many stacks is
-# less than one.
+# The stack of each thread if only few threads are to be had: what the system lends beside that
+# number of stacks is less than one.
 STACK = 512 << 20
 # Below a stack, and above what the C library reserves for the heaps of threads.
 SPARE = 400 << 20
@@ -92,7 +92,7 @@ class EndlessSwitch:
         return client
 
     def hold(self, port: int, count: int) -> list[socket.socket]:
-        """So many clients more, whose requests wait at the endpoint."""
+        """`count` more clients, whose requests wait at the endpoint."""
         before = self.held.pending
         pending = [self.client(port, request(b"/held")) for _ in range(count)]
         check("requests that wait at the endpoint", self.held.holds(before + count), True)
@@ -194,7 +194,7 @@ def backlog_at_quit() -> None:
 
 
 def silent_clients(switch: Switch, count: int) -> list[socket.socket]:
-    """So many clients that are connected, and have sent nothing."""
+    """`count` clients that are connected, and have sent nothing."""
     silent = [connect(switch.active) for _ in range(count)]
     check(
         "silent clients are connected", comes(lambda: connections_at(switch.active) == count), True
@@ -290,7 +290,7 @@ def unread_after_the_grace() -> None:
 
 
 def watches_refused() -> None:
-    """Where the system refuses to watch connections of the backlog at quit, they are ended, and the
+    """If the system refuses to watch connections of the backlog at quit, they are ended, and the
     shutdown with them."""
     held = Held(b"held")
     probe, operator = opened(Endpoint(held).port)
@@ -407,7 +407,7 @@ def late_at_quit() -> None:
 
 
 def sixty_seconds() -> None:
-    """A request that still arrives 60 seconds after `quit` is cut, where the timeout is longer."""
+    """A request that still arrives 60 seconds after `quit` is cut, if the timeout is longer."""
     switch, operator = opened(Endpoint(by_target(b"one")).port, workers=2, timeout=300)
     with dripping(switch.active, 3, b"GET /"):
         time.sleep(1)
@@ -459,7 +459,7 @@ def connections_used_up() -> None:
 
 @contextlib.contextmanager
 def few_threads(count: int) -> Iterator[tuple[Switch, Operator]]:
-    """A switch with four workers and one, which gets so many threads beside the first."""
+    """A switch with four workers and one, which gets `count` threads beside the first."""
 
     def large_stacks() -> None:
         resource.setrlimit(
@@ -492,7 +492,7 @@ def too_few_threads() -> None:
 
 
 def no_threads() -> None:
-    """Where no thread is to be had, that is told, and `quit` ends the program all the same."""
+    """If no thread is to be had, that is told, and `quit` ends the program all the same."""
     with few_threads(0) as (switch, operator):
         for port in ("active", "preview"):
             check_told_once(f"no worker at the {port} port is told", switch, fewer_workers(port))

@@ -1,5 +1,5 @@
-"""How `bg_switch serve` starts, and what it tells where it can't: faults of the strategy, ports
-that are taken, the file of the control socket, and `quit` before a book is open."""
+"""How `bg_switch serve` starts, and what it tells if it can't: faults of the strategy, ports that
+are taken, the file of the control socket, and `quit` before a book is open."""
 import contextlib
 import os
 import pathlib
@@ -69,7 +69,7 @@ def ports_that_are_taken() -> None:
 
 
 def misspelt_key() -> None:
-    """A key that is misspelt is told also where a port is taken."""
+    """A key that is misspelt is told even if a port is taken."""
     slip = ROLLOUT.replace('{"activeService"', '{"autoPromotionEnable": false, "activeService"')
     with taken_port() as taken:
         run = run_to_end(slip, taken, *free_ports(2))

@@ -25,8 +25,8 @@ SEEN = 2.5
 
 
 def ends_in_time(seconds: float, later: LaterEnd) -> bool:
-    """Whether so many seconds are about the timeout: they are less than those of a client with
-    twice the timeout."""
+    """Whether `seconds` is about the timeout: it is less than those of a client with twice the
+    timeout."""
     return TIMEOUT - 1 <= seconds and later.is_after(seconds)
 
 

@@ -62,7 +62,7 @@ class AnalysisWordsError(Exception):
 
 
 class Judging(argparse.ArgumentParser):
-    """A parser that ends no run where the words are wrong."""
+    """A parser that does not end the run if the words are wrong."""
 
     def error(self, message: str) -> NoReturn:
         raise AnalysisWordsError(message)
@@ -71,39 +71,39 @@ class Judging(argparse.ArgumentParser):
 def parser(
     kind: type[argparse.ArgumentParser] = argparse.ArgumentParser,
 ) -> argparse.ArgumentParser:
-    made = kind(
+    argument_parser = kind(
         prog="analysis",
         usage=named(USAGE),
         description=ABOUT,
         epilog=END,
         formatter_class=argparse.RawDescriptionHelpFormatter,
     )
-    add_options(made)
-    return made
+    add_options(argument_parser)
+    return argument_parser
 
 
-def add_options(made: argparse.ArgumentParser) -> None:
+def add_options(argument_parser: argparse.ArgumentParser) -> None:
     """Adds the options of an analysis."""
-    source = made.add_mutually_exclusive_group(required=True)
+    source = argument_parser.add_mutually_exclusive_group(required=True)
     source.add_argument(
         "--log", metavar="FILE", help="the access log of the switch, BG_SWITCH_ACCESS_LOG"
     )
     source.add_argument(
         "--prometheus", metavar="URL", help="a Prometheus server, such as http://127.0.0.1:9090"
     )
-    made.add_argument(
+    argument_parser.add_argument(
         "--revision", default="", metavar="NAME", help="the name of the revision, or its number"
     )
-    made.add_argument(
+    argument_parser.add_argument(
         "--control",
         type=control_of,
         metavar="PORT",
         help="the control port: the switch tells the number of a name, and which revisions the services select",
     )
-    made.add_argument(
+    argument_parser.add_argument(
         "--seconds", type=positive_duration_of, metavar="N", help="how long the limits have to hold"
     )
-    made.add_argument(
+    argument_parser.add_argument(
         "--every",
         "--interval",
         type=positive_duration_of,
@@ -111,7 +111,7 @@ def add_options(made: argparse.ArgumentParser) -> None:
         metavar="N",
         help="the seconds between two measurements (5)",
     )
-    made.add_argument(
+    argument_parser.add_argument(
         "--failures",
         "--failure-limit",
         type=count_of,
@@ -119,8 +119,8 @@ def add_options(made: argparse.ArgumentParser) -> None:
         metavar="N",
         help="how many measurements may fail (0)",
     )
-    add_log_options(made.add_argument_group("by the access log"))
-    add_prometheus_options(made.add_argument_group("by Prometheus"))
+    add_log_options(argument_parser.add_argument_group("by the access log"))
+    add_prometheus_options(argument_parser.add_argument_group("by Prometheus"))
 
 
 def add_log_options(group: "argparse._ArgumentGroup") -> None:
@@ -189,68 +189,68 @@ def add_prometheus_options(group: "argparse._ArgumentGroup") -> None:
     )
 
 
-def judge_by_log(given: argparse.Namespace) -> int:
-    subject = subject_of(given.revision, given.control)
-    requests = 1 if given.requests_at_least is None else given.requests_at_least
+def judge_by_log(options: argparse.Namespace) -> int:
+    subject = subject_of(options.revision, options.control)
+    requests = 1 if options.requests_at_least is None else options.requests_at_least
     limits = Limits(
-        given.errors_at_most,
-        given.p99_at_most,
+        options.errors_at_most,
+        options.p99_at_most,
         requests,
-        given.failures,
-        given.by_endpoint,
-        given.silence_allowed,
+        options.failures,
+        options.by_endpoint,
+        options.silence_allowed,
     )
-    with contextlib.closing(Follower(given.log)) as follower:
+    with contextlib.closing(Follower(options.log)) as follower:
         if follower.fault:
-            raise NotJudgedError(f"the log {given.log}: {follower.fault}")
-        return LogAnalysis(follower, subject, limits).judge(given.seconds, given.every)
+            raise NotJudgedError(f"the log {options.log}: {follower.fault}")
+        return LogAnalysis(follower, subject, limits).judge(options.seconds, options.every)
 
 
-def fault_of(given: argparse.Namespace) -> str:
-    """What is wrong with words that are each right; empty where nothing is."""
+def fault_of(options: argparse.Namespace) -> str:
+    """What is wrong with words that are each right; empty if nothing is."""
     foreign = [
         name
-        for name in (OF_PROMETHEUS if given.log is not None else OF_LOG)
-        if getattr(given, name) not in (None, False)
+        for name in (OF_PROMETHEUS if options.log is not None else OF_LOG)
+        if getattr(options, name) not in (None, False)
     ]
     if foreign:
-        option = "--prometheus" if given.log is not None else "--log"
+        option = "--prometheus" if options.log is not None else "--log"
         return f"--{foreign[0].replace('_', '-')} belongs to {option}"
-    if given.log is not None:
-        if given.seconds is None:
+    if options.log is not None:
+        if options.seconds is None:
             return "--seconds is needed"
-        has_limit = given.errors_at_most is not None or given.p99_at_most is not None
+        has_limit = options.errors_at_most is not None or options.p99_at_most is not None
         return "" if has_limit else "a limit is needed: --errors-at-most, --p99-at-most or both"
     # here, since HTTP would make each start of the other tools slower
     from bg_switch_tools.analysis import prometheus_options
 
-    return prometheus_options.fault_of(given)
+    return prometheus_options.fault_of(options)
 
 
 def fault_of_words(words: Sequence[str]) -> str:
-    """Why these words are no analysis; empty where they are one."""
+    """Why these words are no analysis; empty if they are one."""
     try:
         return fault_of(parser(Judging).parse_args(words))
     except AnalysisWordsError as wrong:
         return str(wrong)
 
 
-def judge(given: argparse.Namespace) -> int:
+def judge(options: argparse.Namespace) -> int:
     """Judges a revision. Gives the exit status, as the verdict has it."""
     try:
-        if given.log is not None:
-            return judge_by_log(given)
+        if options.log is not None:
+            return judge_by_log(options)
         from bg_switch_tools.analysis import prometheus_options
 
-        return prometheus_options.judge(given)
+        return prometheus_options.judge(options)
     except NotJudgedError as reason:
         tell(f"analysis: it can't be judged: {reason}")
         return NOT_JUDGED
 
 
 def main(words: Sequence[str]) -> int:
-    made = parser()
-    given = made.parse_args(words)
-    if fault := fault_of(given):
-        made.error(fault)
-    return FRAME.run(lambda: judge(given))
+    argument_parser = parser()
+    options = argument_parser.parse_args(words)
+    if fault := fault_of(options):
+        argument_parser.error(fault)
+    return FRAME.run(lambda: judge(options))

@@ -36,7 +36,7 @@ class Requests:
         self.asked_at = time.monotonic()
         self.selections: ByNeighbours | ByReports = ByNeighbours()
         if subject.control is not None:
-            self.selections = ByReports(self._services(subject.asked()))
+            self.selections = ByReports(self._services(subject.current_report()))
         self.lost = 0  # lines that the switch could not write
 
     def _services(self, report: Report | None) -> Services:
@@ -55,13 +55,13 @@ class Requests:
 
     def ask(self) -> Sequence[LogEntry]:
         """Asks the switch which services select the revision. Gives requests without an endpoint
-        that are the revision's by its answer; where it gives none, by the answer before.
-        `NotJudgedError` where the revision is gone.
+        that are the revision's by its answer; if it gives none, by the answer before.
+        `NotJudgedError` if the revision is gone.
         """
         if not isinstance(self.selections, ByReports):
             return ()
         number, self.asked_at = self.subject.number, time.monotonic()
-        report = self.subject.asked()
+        report = self.subject.current_report()
         if self.subject.number != number:
             tell(
                 f"analysis of {self.subject.title}: the switch was started again, and it had the number {number} before"
@@ -94,7 +94,7 @@ class LogAnalysis:
                 return
 
     def look_at_the_rest(self) -> None:
-        """Takes in what stands in the log at the end. `NotJudgedError` where it can't be read, or
+        """Takes in what stands in the log at the end. `NotJudgedError` if it can't be read, or
         grows faster than it is read."""
         deadline = time.monotonic() + CATCH_UP
         while True:

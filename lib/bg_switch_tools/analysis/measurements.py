@@ -12,8 +12,8 @@ MANY_GONE = 10  # clients that have gone while none has stayed, from which on th
 
 class Limits(NamedTuple):
     """What is asked of the requests: the share of errors and the 99th percentile of the duration in
-    milliseconds at most, where these are limits; how many requests a measurement needs; and how
-    many measurements may fail."""
+    milliseconds at most, if these are limits; how many requests a measurement needs; and how many
+    measurements may fail."""
 
     errors: float | None
     p99: float | None
@@ -26,8 +26,8 @@ class Limits(NamedTuple):
 
 
 class Request(NamedTuple):
-    """What an analysis keeps of a request: many of them can wait. `duration` is None where it has
-    none that is to be judged."""
+    """What an analysis keeps of a request: many of them can wait. `duration` is None if it has no
+    duration to be judged."""
 
     is_error: bool
     duration: float | None
@@ -46,9 +46,9 @@ def quantile(values: Sequence[float], share: float) -> float:
 
 
 class Measurement(NamedTuple):
-    """What requests came to. `p99` is None where none has a duration, `problems` says which limits
-    they exceed, and `gone` counts the clients that had gone before their answers, whose requests
-    are not among these."""
+    """What requests came to. `p99` is None if no request has a duration, `problems` says which
+    limits they exceed, and `gone` counts the clients that had gone before their answers, whose
+    requests are not among these."""
 
     requests: int
     errors: int
@@ -65,13 +65,13 @@ class Measurement(NamedTuple):
 
 
 def gone_text(gone: int) -> str:
-    """How many clients had gone, for the end of a text; empty where none had."""
+    """How many clients had gone, for the end of a text; empty if none had."""
     return f" ({gone} clients had gone)" if gone else ""
 
 
 def _p99(requests: Sequence[Request], missing: int = 0) -> float | None:
-    """The 99th percentile of the durations and of so many that are missing, each of which counts as
-    0; None where no request has a duration."""
+    """The 99th percentile of the durations and of `missing` further ones, each of which counts as
+    0; None if no request has a duration."""
     durations = sorted(request.duration for request in requests if request.duration is not None)
     return quantile([0.0] * missing + durations, 0.99) if durations else None
 
@@ -88,8 +88,8 @@ def _problems(errors: float, p99: float | None, limits: Limits) -> tuple[str, ..
 
 
 def measure(requests: Sequence[Request], limits: Limits, gone: int = 0) -> Measurement:
-    """The measurement of these requests, of which there is one or more, beside so many whose
-    clients had gone."""
+    """The measurement of these requests, of which there is one or more, beside `gone` requests
+    whose clients had gone."""
     errors, p99 = sum(request.is_error for request in requests), _p99(requests)
     problems = _problems(errors / len(requests), p99, limits)
     if limits.p99 is not None and p99 is None:
@@ -109,10 +109,10 @@ def measure_few(requests: Sequence[Request], limits: Limits, gone: int = 0) -> M
 
 
 class Analyser:
-    """Measures requests window by window. Those of a window are judged by themselves; where they
-    are too few, they wait, and are judged together with those of the next window, but never with
+    """Measures requests window by window. Those of a window are judged by themselves; if they are
+    too few, they wait, and are judged together with those of the next window, but never with
     requests that were judged before. A request whose client had gone before its answer says nothing
-    of the revision, and is only counted. But where that many requests come, and each of the clients
+    of the revision, and is only counted. But if that many requests come, and each of the clients
     has gone, a measurement has failed: a revision that hangs is left by all of its clients.
     """
 
@@ -131,9 +131,9 @@ class Analyser:
         self.came += len(entries)
 
     def end_window(self, can_be_silent: bool = True) -> Measurement | None:
-        """A measurement of what waits, or None where that is too little. A window without a request
+        """A measurement of what waits, or None if that is too little. A window without a request
         that follows one with some is a failed measurement; `can_be_silent` is false for a window
-        that says nothing where it has none, such as a short one.
+        that says nothing if it has no request, such as a short one.
         """
         came, self.came = self.came, 0
         if came == 0 and self.has_seen and can_be_silent and not self.limits.is_silence_allowed:
@@ -151,9 +151,8 @@ class Analyser:
         return gone
 
     def end_rest(self) -> Measurement | None:
-        """The failed measurement of what still waits after the last window; None where it has not
-        failed, or where no window was
-        measured: requests that are too few in all are not judged."""
+        """The failed measurement of what still waits after the last window; None if it has not
+        failed, or if no window was measured: requests that are too few in all are not judged."""
         rest = (
             measure_few(self.unjudged, self.limits, self.gone)
             if self.unjudged and self.has_judged

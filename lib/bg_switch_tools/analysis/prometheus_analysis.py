@@ -23,9 +23,9 @@ LONGEST_RETRY = 10.0  # seconds until a query without an answer is made again, a
 
 
 class QueryLimits(NamedTuple):
-    """What each value of a result has to be, where these are limits; and how many measurements
-    there are, how many of them may fail and be inconclusive, and how many queries may have no
-    answer in a row."""
+    """What each value of a result has to be, if these are limits; and how many measurements there
+    are, how many of them may fail and be inconclusive, and how many queries may have no answer in a
+    row."""
 
     at_most: float | None
     at_least: float | None
@@ -69,14 +69,14 @@ def judged(values: Sequence[float], condition: QueryLimits) -> Result:
 
 def filled(query: str, subject: JudgedRevision | None) -> str:
     """A query whose `{{args.revision}}` and `{{args.revision-number}}` are those of a revision.
-    `NotJudgedError` where it has another argument, or one that is not known."""
+    `NotJudgedError` if it has another argument, or one that is not known."""
     known = {"revision": subject.name, "revision-number": str(subject.number)} if subject else {}
 
     def value(found: re.Match[str]) -> str:
-        told = known.get(found[1], "")
-        if not NAME.fullmatch(told):
+        text = known.get(found[1], "")
+        if not NAME.fullmatch(text):
             raise NotJudgedError(f"the query's argument {found[1]} is not known")
-        return told
+        return text
 
     return ARGUMENT.sub(value, query)
 
@@ -95,7 +95,7 @@ class PrometheusAnalysis:
         tell(f"analysis of {self.title}: {text}")
 
     def measure(self, seconds: float) -> None:
-        """A measurement. `NotJudgedError` where one too many is inconclusive, or too many in a row
+        """A measurement. `NotJudgedError` if one too many is inconclusive, or too many in a row
         have no answer."""
         try:
             result = judged(query_values(self.server, self.query), self.condition)

@@ -31,7 +31,7 @@ class Server(NamedTuple):
 
 
 def server_of(url: str) -> Server:
-    """The server at a URL such as `http://127.0.0.1:9090`. `ValueError` where it is none."""
+    """The server at a URL such as `http://127.0.0.1:9090`. `ValueError` if it is not such a URL."""
     parts = urllib.parse.urlsplit(url)
     if (
         parts.scheme not in CONNECTIONS
@@ -48,8 +48,8 @@ def server_of(url: str) -> Server:
 
 @contextlib.contextmanager
 def _cut_after(connection: http.client.HTTPConnection, wait: float) -> Iterator[threading.Event]:
-    """Connects, and cuts the connection after so many seconds, also where its peer sends a byte now
-    and then. The event says whether it was cut."""
+    """Connects, and cuts the connection after `wait` seconds, even if its peer sends a byte now and
+    then. The event says whether it was cut."""
     was_cut = threading.Event()
     connection.connect()
     # which the connection gives away with the head of an answer
@@ -70,7 +70,7 @@ def _cut_after(connection: http.client.HTTPConnection, wait: float) -> Iterator[
 
 
 def _answer(server: Server, query: str, wait: float) -> tuple[int, bytes]:
-    """The status and the body of the answer to a query. `QueryError` where none comes."""
+    """The status and the body of the answer to a query. `QueryError` if none comes."""
     body = urllib.parse.urlencode({"query": query, "timeout": f"{wait:g}s"})
     headers = {
         "Content-Type": "application/x-www-form-urlencoded",
@@ -84,33 +84,33 @@ def _answer(server: Server, query: str, wait: float) -> tuple[int, bytes]:
             with _cut_after(connection, wait) as was_cut:
                 connection.request("POST", server.path + PATH, body, headers)
                 answer = connection.getresponse()
-                told = answer.read(LARGEST + 1)
+                content = answer.read(LARGEST + 1)
         except (OSError, http.client.HTTPException, ValueError) as error:
             reason = getattr(error, "strerror", None) or str(error) or type(error).__name__
             raise QueryError(f"{server.host} gives no answer: {reason}") from None
     if was_cut.is_set():
         raise QueryError(f"{server.host} gives no whole answer within {wait:g} seconds")
-    if len(told) > LARGEST:
+    if len(content) > LARGEST:
         raise QueryError(f"the answer has more than {LARGEST} bytes")
-    return answer.status, told
+    return answer.status, content
 
 
 def query_values(server: Server, query: str, wait: float = WAIT) -> list[float]:
     """The values of an instant query: those of a vector, or the one of a scalar; they can be
-    infinite or not a number. None where the result is empty. `QueryError` where the server gives no
-    result within so many seconds.
+    infinite or not a number. Empty if the result is empty. `QueryError` if the server gives no
+    result within `wait` seconds.
     """
     status, body = _answer(server, query, wait)
     try:
-        told = json.loads(body)
+        answer = json.loads(body)
     except (ValueError, RecursionError):
         raise QueryError(f"the answer, with status {status}, is not JSON") from None
-    if not isinstance(told, dict) or told.get("status") != "success":
-        reason = told.get("error") if isinstance(told, dict) else None
+    if not isinstance(answer, dict) or answer.get("status") != "success":
+        reason = answer.get("error") if isinstance(answer, dict) else None
         raise QueryError(
             f"the query is refused with status {status}: {str(reason)[:LONGEST_REASON]}"
         )
-    return _values(told.get("data"))
+    return _values(answer.get("data"))
 
 
 def _values(data: object) -> list[float]:
@@ -129,9 +129,9 @@ def _values(data: object) -> list[float]:
     return [_value(each.get("value") if isinstance(each, dict) else None) for each in result]
 
 
-def _value(told: object) -> float:
+def _value(sample: object) -> float:
     """The value of a sample: a list of its time and its value, which is a text."""
-    if isinstance(told, list) and len(told) == 2 and isinstance(told[1], str):
+    if isinstance(sample, list) and len(sample) == 2 and isinstance(sample[1], str):
         with contextlib.suppress(ValueError):
-            return float(told[1])
+            return float(sample[1])
     raise QueryError("a sample of the result is malformed")

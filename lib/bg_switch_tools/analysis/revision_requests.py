@@ -22,9 +22,9 @@ def services_of(report: Report | None, number: int) -> Services:
 
 
 class ByReports:
-    """A request without an endpoint counts where its service selects the revision both in the
-    report before it and in the one after it. So one that came about when the service moved counts
-    for no revision."""
+    """A request without an endpoint counts if its service selects the revision both in the report
+    before it and in the one after it. So one that came about when the service moved counts for no
+    revision."""
 
     def __init__(self, services: Services) -> None:
         self.services = services

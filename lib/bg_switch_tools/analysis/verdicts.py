@@ -10,7 +10,7 @@ class NotJudgedError(Exception):
 
 
 def tell(text: str) -> None:
-    """Prints a line. Where nobody takes it any more, the exit status still tells the verdict."""
+    """Prints a line. If nobody takes it any more, the exit status still tells the verdict."""
     with contextlib.suppress(OSError):
         print(text, flush=True)
 

@@ -17,8 +17,8 @@ OF_TARGET = ("--control", "--plan")  # the options that the parser itself takes 
 
 
 class Parser(argparse.ArgumentParser):
-    """A parser that says of an option that is none which one was probably meant, or which commands
-    have it."""
+    """A parser that says of an unknown option which one was probably meant, or which commands have
+    it."""
 
     # by the long options of all commands: the commands that have it
     owners: Mapping[str, Sequence[str]] = {}
@@ -37,22 +37,22 @@ class Parser(argparse.ArgumentParser):
         return f"; {', '.join(others)} and {last} have it" if others else f"; {last} has it"
 
     def judge_options(self, words: Sequence[str]) -> None:
-        """Ends the run where one of the options before a command is none of any command: what stands
-        behind it may be its value, and is no command then."""
+        """Ends the run if no command has one of the options before the command: the word after it
+        may be its value, and not a command."""
         for word in words:
             option = word.partition("=")[0]
             if option.startswith("--") and option not in (*self.owners, "--version"):
                 self.error(f"unrecognized arguments: {option}")
 
 
-def long_options(made: argparse.ArgumentParser) -> list[str]:
+def long_options(argument_parser: argparse.ArgumentParser) -> list[str]:
     """The long options of a parser."""
-    return re.findall(r"--[a-z][a-z0-9-]*", made.format_usage())
+    return re.findall(r"--[a-z][a-z0-9-]*", argument_parser.format_usage())
 
 
 def place_of_command(words: Sequence[str], valued: Collection[str] = OF_TARGET) -> int | None:
-    """The place of the word that is the command, where `valued` are the options that take a value;
-    None where there is none."""
+    """The place of the word that is the command, with `valued` as the options that take a value;
+    None if there is no such word."""
     waits_for_value = False
     for place, word in enumerate(words):
         if not waits_for_value and not word.startswith("-"):
@@ -62,7 +62,7 @@ def place_of_command(words: Sequence[str], valued: Collection[str] = OF_TARGET) 
 
 
 def in_order(words: Sequence[str], valued: Collection[str]) -> tuple[list[str], int | None]:
-    """The words with each option of the command behind it, also where it stands before it; and the
+    """The words with each option of the command behind it, even if it stands before it; and the
     place of the command."""
     place = place_of_command(words, valued)
     if place is None:
@@ -117,17 +117,19 @@ def _add_words(to: argparse.ArgumentParser, command: Command) -> None:
 
 def parser() -> Parser:
     """The parser of bgctl."""
-    made = Parser(
+    argument_parser = Parser(
         prog="bgctl",
         description=DESCRIPTION,
         epilog=named(END),
         allow_abbrev=False,
         formatter_class=argparse.RawDescriptionHelpFormatter,
     )
-    made.add_argument("--version", action="version", version=f"bgctl {VERSION}")
-    _add_target(made, BEFORE)
+    argument_parser.add_argument("--version", action="version", version=f"bgctl {VERSION}")
+    _add_target(argument_parser, BEFORE)
     commands: dict[str, argparse.ArgumentParser] = {}
-    listed = made.add_subparsers(dest="command", metavar="COMMAND", required=True, title="commands")
+    listed = argument_parser.add_subparsers(
+        dest="command", metavar="COMMAND", required=True, title="commands"
+    )
     for command in BGCTL_COMMANDS:
         meaning = f"{command.meaning[0].upper()}{command.meaning[1:]}."
         commands[command.name] = listed.add_parser(
@@ -139,10 +141,12 @@ def parser() -> Parser:
             formatter_class=argparse.RawDescriptionHelpFormatter,
         )
         _add_words(commands[command.name], command)
-    return _with_owners(made, commands)
+    return _with_owners(argument_parser, commands)
 
 
-def _with_owners(made: Parser, commands: Mapping[str, argparse.ArgumentParser]) -> Parser:
+def _with_owners(
+    argument_parser: Parser, commands: Mapping[str, argparse.ArgumentParser]
+) -> Parser:
     """The parser, which knows what the commands have."""
     owners: dict[str, list[str]] = {}
     for name, one in commands.items():
@@ -150,5 +154,9 @@ def _with_owners(made: Parser, commands: Mapping[str, argparse.ArgumentParser]) 
             owners.setdefault(option, []).append(name)
     actions = [action for one in commands.values() for action in one._actions]
     valued = {option for each in actions if each.nargs != 0 for option in each.option_strings}
-    made.owners, made.valued, made.commands = owners, {*OF_TARGET, *valued}, commands
-    return made
+    argument_parser.owners, argument_parser.valued, argument_parser.commands = (
+        owners,
+        {*OF_TARGET, *valued},
+        commands,
+    )
+    return argument_parser

@@ -30,17 +30,17 @@ def complete() -> int:
     return REFUSED
 
 
-def run(made: Parser, given: argparse.Namespace) -> int:
+def run(argument_parser: Parser, options: argparse.Namespace) -> int:
     """Carries a command out. Gives the exit status."""
-    command = next(each for each in BGCTL_COMMANDS if each.name == given.command)
-    if fault := command.fault(given):
-        made.commands[command.name].error(fault)
+    command = next(each for each in BGCTL_COMMANDS if each.name == options.command)
+    if fault := command.fault(options):
+        argument_parser.commands[command.name].error(fault)
 
     def explain(name: str | None) -> None:
-        (made.commands[name] if name else made).print_help()
+        (argument_parser.commands[name] if name else argument_parser).print_help()
 
-    with contextlib.closing(target_of(given)) as target:
-        one = CommandRun(FRAME, given, target, explain)
+    with contextlib.closing(target_of(options)) as target:
+        one = CommandRun(FRAME, options, target, explain)
         return FRAME.run(lambda: command.run(one))
 
 
@@ -50,10 +50,10 @@ def main(words: Sequence[str]) -> int:
     if not words:
         print(named(NEWCOMER))
         return DONE
-    made = parser()
-    turned, place = in_order(words, made.valued)
+    argument_parser = parser()
+    turned, place = in_order(words, argument_parser.valued)
     if place is not None and turned[place] not in NAMES:
-        made.judge_options(words[: words.index(turned[place])])
+        argument_parser.judge_options(words[: words.index(turned[place])])
         FRAME.tell(wrong_command(turned[place]))
         return NO_ANSWER
-    return run(made, made.parse_args(turned))
+    return run(argument_parser, argument_parser.parse_args(turned))

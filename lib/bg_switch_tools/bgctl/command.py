@@ -15,7 +15,7 @@ from bg_switch_tools.switch.frame import Frame
 from bg_switch_tools.switch.line_help import LineHelp
 from bg_switch_tools.switch.replies import with_meaning
 
-LONGEST_WAIT = 600.0  # seconds that a command waits, where nothing else is said
+LONGEST_WAIT = 600.0  # seconds that a command waits by default
 Completer = Callable[..., list[str]]
 
 
@@ -64,32 +64,32 @@ class CommandRun:
     def __init__(
         self,
         frame: Frame,
-        given: argparse.Namespace,
+        options: argparse.Namespace,
         target: Target,
         explain: Callable[[str | None], None],
     ) -> None:
         self.frame = frame
-        self.given = given
+        self.options = options
         self.target = target
         self.explain = explain
-        self.is_json: bool = getattr(given, "json", False)
+        self.is_json: bool = getattr(options, "json", False)
 
     def at(self, target: Target) -> "CommandRun":
         """The same about another switch or plan."""
-        return CommandRun(self.frame, self.given, target, self.explain)
+        return CommandRun(self.frame, self.options, target, self.explain)
 
     def tell(self, text: str) -> None:
         """Writes a line to standard error, with the name of the tool."""
         self.frame.tell(text)
 
     def switch(self) -> Switch:
-        """The switch. `TargetError` where nothing names it."""
-        wait = getattr(self.given, "request_timeout", WAIT)
-        within = getattr(self.given, "within", None)
+        """The switch. `TargetError` if nothing names it."""
+        wait = getattr(self.options, "request_timeout", WAIT)
+        within = getattr(self.options, "within", None)
         return Switch(self.target.control(), wait, within)
 
-    def show_json(self, told: object) -> None:
-        print(json.dumps(told), flush=True)
+    def show_json(self, value: object) -> None:
+        print(json.dumps(value), flush=True)
 
     def show(self, answer: Answer) -> int:
         """Prints a reply. What it means is no part of it: away from a terminal that goes to
@@ -113,10 +113,10 @@ def no_fault(_: argparse.Namespace) -> str:
 
 @dataclasses.dataclass(frozen=True)
 class Command:
-    """A command. `more` is told by its help alone. `fault` says what is wrong with words that are each
-    right. `line` is what the prompt and bin/operator say of it, where they have it too. A command that
-    is a tool of its own adds the options of that tool by `add_options`. One with a target has the
-    options that name the switch and the plan."""
+    """A command. `more` is told by its help alone. `fault` says what is wrong with words that are
+    each right. `line` is what the prompt and bin/operator say of it, if they have it too. A command
+    that is a tool of its own adds the options of that tool by `add_options`. One with a target has
+    the options that name the switch and the plan."""
 
     name: str
     meaning: str

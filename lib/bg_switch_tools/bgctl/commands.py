@@ -12,7 +12,7 @@ from bg_switch_tools.switch.suggestion import did_you_mean
 
 
 def explain(run: CommandRun) -> int:
-    run.explain(run.given.name)
+    run.explain(run.options.name)
     return DONE
 
 

@@ -18,7 +18,7 @@ SOON = 0.5  # seconds that a switch has: a person waits for the completion
 def names_of_revisions(
     prefix: str = "", parsed_args: argparse.Namespace | None = None, **_: Any
 ) -> list[str]:
-    """The names of the revisions of the switch and of the plan; none where neither can be read."""
+    """The names of the revisions of the switch and of the plan; empty if neither can be read."""
     names: dict[str, None] = {}
     with contextlib.closing(target_of(parsed_args or argparse.Namespace())) as target:
         try:
@@ -49,9 +49,9 @@ def line_words(
     prefix: str = "", parsed_args: argparse.Namespace | None = None, **_: Any
 ) -> list[str]:
     """The first word of each line; behind it the names of the revisions."""
-    given = getattr(parsed_args, "words", None)
+    words = getattr(parsed_args, "words", None)
     return (
         names_of_revisions(prefix, parsed_args)
-        if given
+        if words
         else [word for word in LINE_WORDS if word.startswith(prefix)]
     )

@@ -30,7 +30,7 @@ from bg_switch_tools.switch.json_values import MOST_PORTS
 
 
 def _made_last(run: CommandRun, path: str, revision: PlannedRevision) -> PlanEdit | None:
-    """Makes the revision the last one of the plan. None where that is refused, which is told."""
+    """Makes the revision the last one of the plan. None if that is refused, which it tells."""
     author = Author(path)
     try:
         edit = make_last(run.target.file, revision, author.sign)
@@ -68,7 +68,7 @@ def _sent(run: CommandRun, revision: PlannedRevision) -> int:
 
 
 def _deployed(run: CommandRun, revision: PlannedRevision) -> int:
-    """Deploys a revision: by the plan, and by a line where there is no plan, or its controller has
+    """Deploys a revision: by the plan, and by a line if there is no plan, or its controller has
     done its part. With `--wait` the end of the attempt is awaited. Gives the exit status."""
     run.switch()  # that it is not known is told before anything is changed
     text, is_sent = None, True
@@ -79,13 +79,13 @@ def _deployed(run: CommandRun, revision: PlannedRevision) -> int:
             return REFUSED
         text = edit.after
     status = _sent(run, revision) if is_sent else DONE
-    if status != DONE or not run.given.wait:
+    if status != DONE or not run.options.wait:
         return status
     return wait_until(run, [f"stable={revision.name}"], text)
 
 
 def deploy(run: CommandRun) -> int:
-    return _deployed(run, PlannedRevision(run.given.name, tuple(run.given.ports)))
+    return _deployed(run, PlannedRevision(run.options.name, tuple(run.options.ports)))
 
 
 def _attempts(run: CommandRun, path: str) -> list[Attempt]:
@@ -98,7 +98,7 @@ def _attempts(run: CommandRun, path: str) -> list[Attempt]:
 
 def undo(run: CommandRun) -> int:
     """Deploys the revision that was stable before the newest one, or the one of this name or
-    number. `TargetError` where it or its ports are not known."""
+    number. `TargetError` if it or its ports are not known."""
     report = run.switch().report()
     if report is None:
         raise TargetError("no book is open, so there is nothing to undo")
@@ -106,7 +106,7 @@ def undo(run: CommandRun) -> int:
     known = KnownRevisions(
         report, _attempts(run, path) if path else [], plan, kept_revisions(path) if path else {}
     )
-    revision = revision_to_undo_to(known, run.given.to, run.given.ports)
+    revision = revision_to_undo_to(known, run.options.to, run.options.ports)
     if revision.name != report.newest.name:
         run.tell(f"takes {revision.name} again, in the place of {report.newest.name}")
     return _deployed(run, revision)

@@ -15,14 +15,14 @@ def duration(seconds: float) -> str:
 
 
 def _by(attempt: Attempt) -> str:
-    """By whom, and how it began where that was no deploy."""
+    """By whom, and how it began if that was not a deploy."""
     return (
         attempt.by if attempt.began in (DEPLOYED, UNDEPLOYED) else f"{attempt.by} ({attempt.began})"
     )
 
 
 def _live_for(attempt: Attempt, now: str) -> str:
-    """For how long it was live, and whether it is; `-` where it never was."""
+    """For how long it was live, and whether it is; `-` if it never was."""
     seconds = attempt.live_seconds(now)
     if attempt.live_since:
         return f"{duration(seconds)}, live"
@@ -43,8 +43,8 @@ def _cells(attempt: Attempt, now: str) -> tuple[str, ...]:
 
 
 def as_json(attempt: Attempt, now: str) -> dict[str, object]:
-    """An attempt as an object of JSON; what is not known, or has not come yet, is null. `analyses` is
-    only there where some have names."""
+    """An attempt as an object of JSON; what is not known, or has not come yet, is null. `analyses`
+    is only there if some have names."""
     analyses = [result.as_json() for result in attempt.analyses]
     return {
         "begun": attempt.begun or None,

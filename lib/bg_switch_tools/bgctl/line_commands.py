@@ -24,13 +24,13 @@ from bg_switch_tools.switch.lines import is_quit
 
 
 def promote(run: CommandRun) -> int:
-    """Ends the pause, of the revision of this name alone where one is given."""
-    return run.show(run.switch().promote(run.given.full, run.given.name))
+    """Ends the pause, of the revision of this name alone if one is given."""
+    return run.show(run.switch().promote(run.options.full, run.options.name))
 
 
-def empty_name(given: argparse.Namespace) -> str:
+def empty_name(options: argparse.Namespace) -> str:
     """A variable of a script that is empty must not promote whatever is the newest."""
-    return "NAME is empty: name the revision, or leave NAME out" if given.name == "" else ""
+    return "NAME is empty: name the revision, or leave NAME out" if options.name == "" else ""
 
 
 def abort(run: CommandRun) -> int:
@@ -43,8 +43,8 @@ def retry(run: CommandRun) -> int:
 
 def given_lines(run: CommandRun) -> Iterable[bytes]:
     """The lines of the words, or of standard input."""
-    if run.given.words:
-        return " ".join(run.given.words).encode("utf-8", "surrogateescape").split(b"\n")
+    if run.options.words:
+        return " ".join(run.options.words).encode("utf-8", "surrogateescape").split(b"\n")
     return (line.removesuffix(b"\n") for line in sys.stdin.buffer)
 
 
@@ -52,10 +52,10 @@ def send_lines(run: CommandRun, lines: Iterable[bytes]) -> int:
     """Carries lines out, in turn, up to `quit`, or to one that is not carried out. bin/operator has
     options that change what a deploy means and whether this goes on. Gives the exit status."""
     switch, status = run.switch(), DONE
-    is_idempotent = getattr(run.given, "idempotent", True)
-    goes_on = getattr(run.given, "keep_going", False)
+    is_idempotent = getattr(run.options, "idempotent", True)
+    goes_on = getattr(run.options, "keep_going", False)
     for each in lines:
-        status = run.show(switch.send(each, is_idempotent, run.given.yes)) or status
+        status = run.show(switch.send(each, is_idempotent, run.options.yes)) or status
         if is_quit(each) or (status != DONE and not goes_on):
             break
     return status
@@ -109,7 +109,7 @@ def prompt(run: CommandRun) -> int:
 def shutdown(run: CommandRun) -> int:
     """Asks, and sends `quit`."""
     switch = run.switch()
-    if not run.given.yes:
+    if not run.options.yes:
         if not sys.stdin.isatty():
             run.tell("shutdown asks at a terminal alone; elsewhere --yes is needed with it")
             return NO_ANSWER

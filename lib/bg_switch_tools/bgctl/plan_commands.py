@@ -20,7 +20,7 @@ def history(run: CommandRun) -> int:
     except OSError as error:
         run.tell(f"{file.path} can't be read: {error.strerror}")
         return REFUSED
-    shown = attempts.all[-run.given.last :] if run.given.last else []
+    shown = attempts.all[-run.options.last :] if run.options.last else []
     if unreadable:
         run.tell(f"{file.path} has {unreadable} lines that are no events")
     if not attempts.all:
@@ -56,17 +56,17 @@ def check(run: CommandRun) -> int:
     # here, since few commands need it and its HTTP
     from bg_switch_tools.controller import cli as controller_cli
 
-    run.target.take_path(run.given.path)
+    run.target.take_path(run.options.path)
     path = run.target.needed_path("a plan is judged")
-    return controller_cli.check_text(path, run.target.file.text(), run.given.rollout)
+    return controller_cli.check_text(path, run.target.file.text(), run.options.rollout)
 
 
 def controller(run: CommandRun) -> int:
     from bg_switch_tools.controller import cli as controller_cli
 
-    run.target.take_path(run.given.path)
+    run.target.take_path(run.options.path)
     path = run.target.needed_path("a controller runs a plan")
-    return controller_cli.run(path, run.given.json, run.target.file.text())
+    return controller_cli.run(path, run.options.json, run.target.file.text())
 
 
 PATH = argument("path", "PLAN", "the plan, in the place of --plan", nargs="?")

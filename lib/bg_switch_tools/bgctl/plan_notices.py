@@ -7,14 +7,14 @@ from bg_switch_tools.controller.state.pause import PauseFile
 
 
 def tell_absence(run: CommandRun, path: str) -> None:
-    """Tells that no controller acts by a plan, where that is known."""
+    """Tells that no controller acts by a plan, if that is known."""
     controller = life_of(path)
     if controller.is_wrong:
         run.tell(f"{controller.text}; this takes effect once a controller runs the plan")
 
 
 def tell_pause(run: CommandRun, path: str) -> None:
-    """Tells that the controller of a plan is paused, where it is."""
+    """Tells that the controller of a plan is paused, if it is."""
     try:
         paused = PauseFile(path).read()
     except OSError:

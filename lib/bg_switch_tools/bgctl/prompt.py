@@ -38,13 +38,13 @@ def show_at_terminal(answer: Answer) -> None:
 def confirm_shutdown(control: Control) -> bool:
     """Whether the operator wants the switch to be shut down. The end of the input is no."""
     try:
-        told = input(
+        answer = input(
             f"Shut the switch at {place_of(control)} down? No operator is answered any more. [y/N] "
         )
     except EOFError:
         print()
         return False
-    return told.strip() in ("y", "Y", "yes")
+    return answer.strip() in ("y", "Y", "yes")
 
 
 class Prompt:

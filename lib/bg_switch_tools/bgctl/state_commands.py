@@ -27,7 +27,7 @@ from bg_switch_tools.switch.watch import watch as watch_switch
 
 
 def _read_report(run: CommandRun) -> Report | None:
-    """The report. Where the switch gives none, JSON says why, too."""
+    """The report. If the switch gives none, JSON says why, too."""
     switch = run.switch()
     try:
         return switch.report()
@@ -42,10 +42,13 @@ def _show_state(
 ) -> None:
     """Prints a report, and tells what is the matter with the controller."""
     if run.is_json:
-        told: dict[str, object] = {"phase": None} if report is None else as_json(report)
+        members: dict[str, object] = {"phase": None} if report is None else as_json(report)
         if run.target.path:
-            told |= {"controller": life.life.value, "held_back": [each.as_json() for each in held]}
-        run.show_json(told)
+            members |= {
+                "controller": life.life.value,
+                "held_back": [each.as_json() for each in held],
+            }
+        run.show_json(members)
     else:
         print(in_one_line(report))
     for text in [*([life.text] if life.text else []), *(each.text() for each in held)]:
@@ -53,9 +56,9 @@ def _show_state(
 
 
 def status(run: CommandRun) -> int:
-    """Shows the state in one line. The exit status is 0 where it is steady or an attempt runs, `DARK`
-    where no endpoint of the active revision is available, `NO_CONTROLLER` where no controller acts by
-    the plan, `HELD_BACK` where it holds a revision of the plan back, and else 1."""
+    """Shows the state in one line. The exit status is 0 if it is steady or an attempt runs, `DARK`
+    if no endpoint of the active revision is available, `NO_CONTROLLER` if no controller acts by the
+    plan, `HELD_BACK` if it holds a revision of the plan back, and else 1."""
     path = run.target.path
     if path:
         tell_pause(run, path)
@@ -88,14 +91,14 @@ def watch(run: CommandRun) -> int:
 
 def _telling(run: CommandRun, announced: Callable[[], Announcement]) -> Callable[[], Announcement]:
     """The same, which also tells at once why a deploy that is announced is not carried out yet."""
-    told = ""
+    last_trouble = ""
 
     def look() -> Announcement:
-        nonlocal told
+        nonlocal last_trouble
         coming = announced()
-        if coming.trouble and coming.trouble != told:
-            told = coming.trouble
-            run.tell(told)
+        if coming.trouble and coming.trouble != last_trouble:
+            last_trouble = coming.trouble
+            run.tell(last_trouble)
         return coming
 
     return look
@@ -104,7 +107,7 @@ def _telling(run: CommandRun, announced: Callable[[], Announcement]) -> Callable
 def _announced(
     run: CommandRun, conditions: Conditions, text: bytes | None
 ) -> Callable[[], Announcement]:
-    """What the plan announces while these conditions are awaited; nothing where no plan is named.
+    """What the plan announces while these conditions are awaited; nothing if no plan is named.
     `text` is that of the plan after an edit."""
     path = run.target.path
     if path is None or run.target.plan() is None:
@@ -127,7 +130,7 @@ def wait_until(run: CommandRun, texts: Sequence[str], text: bytes | None = None)
             run.tell(change)
         before[:] = [report]
 
-    longest = getattr(run.given, "timeout", None)
+    longest = getattr(run.options, "timeout", None)
     longest = LONGEST_WAIT if longest is None else longest
     waited = wait_for(switch, conditions, longest, see, announced)
     _show_end(run, waited)
@@ -146,7 +149,7 @@ def _show_end(run: CommandRun, waited: WaitResult) -> None:
 
 
 def wait(run: CommandRun) -> int:
-    return wait_until(run, run.given.conditions)
+    return wait_until(run, run.options.conditions)
 
 
 STATUS = Command(

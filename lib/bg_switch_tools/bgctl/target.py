@@ -19,11 +19,11 @@ class TargetError(Exception):
     """The run can't find what it needs. The text says why."""
 
 
-def _option(given: argparse.Namespace, name: str) -> Any:
-    """The value of an option after the command, or else of the one before it; None where it stands
-    at neither place."""
-    told = getattr(given, name, None)
-    return getattr(given, BEFORE + name, None) if told is None else told
+def _option(options: argparse.Namespace, name: str) -> Any:
+    """The value of an option after the command, or else of the one before it; None if neither place
+    has it."""
+    value = getattr(options, name, None)
+    return getattr(options, BEFORE + name, None) if value is None else value
 
 
 class Target:
@@ -45,8 +45,8 @@ class Target:
             self.path, self.file = path, OpenPlan(path)
 
     def needed_path(self, why: str) -> str:
-        """The path of the plan, whose file can be read. `TargetError` where none is named (then
-        `why` says what it is for)."""
+        """The path of the plan, whose file can be read. `TargetError` if none is named (then `why`
+        says what it is for)."""
         if self.path is None:
             raise TargetError(f"{why}: --plan FILE or the variable {PLAN} names the plan")
         try:
@@ -56,14 +56,14 @@ class Target:
         return self.path
 
     def plan(self) -> Plan | None:
-        """The plan; None where none is named. `TargetError` where it is wrong, or can't be read."""
+        """The plan; None if no plan is named. `TargetError` if it is wrong, or can't be read."""
         try:
             return self._plan()
         except PlanError as wrong:
             raise TargetError(f"{self.path} is not a plan: {wrong}") from None
 
     def plan_if_right(self) -> Plan | None:
-        """The plan; None where none is named, or it is wrong."""
+        """The plan; None if no plan is named, or it is wrong."""
         try:
             return self._plan()
         except PlanError:
@@ -76,21 +76,21 @@ class Target:
             raise unreadable(error) from None
 
     def known_control(self) -> Control | None:
-        """The control port or socket; None where nothing names it. `TargetError` where what names
-        it is wrong."""
-        # a plan that is named and wrong is told, also where its port is not needed
+        """The control port or socket; None if nothing names it. `TargetError` if what names it is
+        wrong."""
+        # a plan that is named and wrong is told, even if its port is not needed
         plan = self.plan()
         if self.given_control is not None:
             return self.given_control
-        if told := os.environ.get(CONTROL):
+        if control_text := os.environ.get(CONTROL):
             try:
-                return control_of(told)
+                return control_of(control_text)
             except argparse.ArgumentTypeError as error:
                 raise TargetError(f"{CONTROL}: {error}") from None
         return plan.control if plan else None
 
     def control(self) -> Control:
-        """The control port or socket. `TargetError` where nothing names it."""
+        """The control port or socket. `TargetError` if nothing names it."""
         control = self.known_control()
         if control is None:
             raise TargetError(
@@ -108,6 +108,8 @@ class GivenTarget(Target):
         return self.given_control
 
 
-def target_of(given: argparse.Namespace) -> Target:
+def target_of(options: argparse.Namespace) -> Target:
     """What the options of bgctl name, or else its variables."""
-    return Target(_option(given, "control"), _option(given, "plan") or os.environ.get(PLAN) or None)
+    return Target(
+        _option(options, "control"), _option(options, "plan") or os.environ.get(PLAN) or None
+    )

@@ -5,14 +5,14 @@ from bg_switch_tools.dashboard import cli as dashboard_cli
 
 
 def analysis(run: CommandRun) -> int:
-    run.given.control = run.given.control or run.target.known_control()
-    return analysis_cli.judge(run.given)
+    run.options.control = run.options.control or run.target.known_control()
+    return analysis_cli.judge(run.options)
 
 
 def dashboard(run: CommandRun) -> int:
-    run.given.control = run.target.control()
-    run.given.plan = run.target.path or ""
-    return dashboard_cli.show(run.given)
+    run.options.control = run.target.control()
+    run.options.plan = run.target.path or ""
+    return dashboard_cli.show(run.options)
 
 
 ANALYSIS = Command(

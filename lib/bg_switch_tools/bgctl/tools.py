@@ -26,8 +26,8 @@ def prepare_streams() -> None:
 
 
 def finish_streams() -> None:
-    """Writes what is left of the output. Where nobody takes it, it is dropped: the exit status
-    still tells the result."""
+    """Writes what is left of the output. If nobody takes it, it is dropped: the exit status still
+    tells the result."""
     for stream in (sys.stdout, sys.stderr):
         try:
             stream.flush()

@@ -23,7 +23,7 @@ class KnownRevisions:
 
     def before(self) -> str:
         """The name of the revision that was stable before the newest one. Without a history that is
-        the only other revision. `TargetError` where it can't be told."""
+        the only other revision. `TargetError` if it can't be told."""
         newest = self.report.newest.name
         if self.report.stable.name != newest:
             return self.report.stable.name
@@ -43,19 +43,21 @@ class KnownRevisions:
             f"no history tells which revision was stable before {newest}: --to NAME names one of {', '.join(others)}"
         )
 
-    def named(self, told: str) -> str:
-        """The name of the revision of this name or number. `TargetError` where none is known."""
+    def named(self, name_or_number: str) -> str:
+        """The name of the revision of this name or number. `TargetError` if none is known."""
         if (
-            told.isascii()
-            and told.isdigit()
-            and len(told) <= 20
-            and int(told) in self.report.revisions
+            name_or_number.isascii()
+            and name_or_number.isdigit()
+            and len(name_or_number) <= 20
+            and int(name_or_number) in self.report.revisions
         ):
-            return self.report.revisions[int(told)].name
+            return self.report.revisions[int(name_or_number)].name
         names = self.names()
-        if told not in names:
-            raise TargetError(f"no revision {told} is known{did_you_mean(told, names)}")
-        return told
+        if name_or_number not in names:
+            raise TargetError(
+                f"no revision {name_or_number} is known{did_you_mean(name_or_number, names)}"
+            )
+        return name_or_number
 
     def names(self) -> list[str]:
         """All names that are known, each once."""
@@ -67,7 +69,7 @@ class KnownRevisions:
 
     def ports(self, name: str) -> tuple[int, ...]:
         """The ports of a revision: those that it was opened or deployed with, or else those of the
-        plan; none where they are not known."""
+        plan; empty if they are not known."""
         known = self.kept.get(name) or (self.plan.named(name) if self.plan else None)
         return known.ports if known else ()
 
@@ -75,8 +77,8 @@ class KnownRevisions:
 def revision_to_undo_to(
     known: KnownRevisions, to: str | None, ports: Sequence[int]
 ) -> PlannedRevision:
-    """The revision that an undo takes again, with its ports; `ports` are used where they are given.
-    `TargetError` where either is not known."""
+    """The revision that an undo takes again, with its ports; `ports` are used if they are given.
+    `TargetError` if either is not known."""
     name = known.named(to) if to else known.before()
     found = tuple(ports) or known.ports(name)
     if not found:

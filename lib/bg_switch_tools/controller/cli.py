@@ -72,7 +72,7 @@ FRAME = Frame("controller")
 FAULT = 70  # the exit status after a fault of its own
 # seconds within which a connection is taken, and for the answers of a round
 CONNECT, ANSWER = (1.0, 10.0)
-RETRY = 0.2  # seconds between two tries where the switch gives no answer
+RETRY = 0.2  # seconds between two tries if the switch gives no answer
 MINUTE = 60.0
 LONGEST_END = 1.2  # seconds for the round to end after a signal
 
@@ -81,7 +81,7 @@ class Runner:
     """Runs one round after the other, in a thread of its own, until it is stopped."""
 
     def __init__(self, file: PlanFile, plan: Plan, log: Log, lock: StateLock | None = None) -> None:
-        """`lock` is that of the plan, which `stop` lets go; None where the folder takes none."""
+        """`lock` is that of the plan, which `stop` lets go; None if none can be made."""
         self.file = file
         self.log = log
         self.lock = lock
@@ -107,7 +107,7 @@ class Runner:
         self.has_fault = False
 
     def _read_again(self) -> None:
-        """Takes a plan that has changed. Where it is wrong the one before stands."""
+        """Takes a plan that has changed. If it is wrong the one before stands."""
         try:
             if (plan := self.file.read()) is not None:
                 self.controller.take_plan(plan)
@@ -154,7 +154,7 @@ class Runner:
 
 
 def run(path: str, as_json: bool, text: bytes | None = None) -> int:
-    """Runs a plan, unless another controller does. `text` is that of its file where it was read
+    """Runs a plan, unless another controller does. `text` is that of its file if it was read
     already. Gives the exit status."""
     file = PlanFile(path, text)
     try:
@@ -232,20 +232,20 @@ def deploy(path: str, name: str, ports: Sequence[str]) -> int:
 
 
 def port_or_none(text: str) -> int:
-    """A port as a word; 0, which no plan may have, where it is not a number."""
+    """A port as a word; 0, which no plan may have, if it is not a number."""
     return int(text) if text.isascii() and text.isdigit() and len(text) <= 9 else 0
 
 
-def command_of(given: argparse.Namespace) -> Callable[[], int] | None:
-    """What the words ask for; None where that is nothing."""
-    first, *others = given.words
-    if first not in ("check", "deploy") and not others and given.rollout is None:
-        return lambda: run(first, given.json)
-    if given.json:
+def command_of(options: argparse.Namespace) -> Callable[[], int] | None:
+    """What the words ask for; None if they ask for nothing."""
+    first, *others = options.words
+    if first not in ("check", "deploy") and not others and options.rollout is None:
+        return lambda: run(first, options.json)
+    if options.json:
         return None
     if first == "check" and len(others) == 1:
-        return lambda: check(others[0], given.rollout)
-    if first == "deploy" and len(others) >= 3 and given.rollout is None:
+        return lambda: check(others[0], options.rollout)
+    if first == "deploy" and len(others) >= 3 and options.rollout is None:
         return lambda: deploy(others[0], others[1], others[2:])
     return None
 
@@ -273,8 +273,8 @@ def main(words: Sequence[str]) -> int:
         metavar="FILE",
         help="`check` compares the plan with this Rollout, with which the switch is started",
     )
-    given = parser.parse_args(words)
-    command = command_of(given)
+    options = parser.parse_args(words)
+    command = command_of(options)
     if command is None:
         parser.error(
             "give the file of one plan: PLAN runs it, check PLAN checks it, and deploy PLAN NAME PORT.. deploys a revision by it"

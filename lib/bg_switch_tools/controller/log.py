@@ -36,9 +36,9 @@ class Log:
         analysis, outage, command, fleet, leader, end."""
         self._write(event, text, {})
 
-    def say_result(self, text: str, told: Mapping[str, object]) -> None:
-        """Writes the result of an analysis; `told` is what only JSON shows of it."""
-        self._write("analysis", text, told)
+    def say_result(self, text: str, members: Mapping[str, object]) -> None:
+        """Writes the result of an analysis; `members` are what only JSON shows of it."""
+        self._write("analysis", text, members)
 
     def say_reply(self, line: Line, reply: Reply) -> None:
         """Writes an operator's line and its reply."""
@@ -48,11 +48,17 @@ class Log:
         """Writes a line that `tell` is not given. Any thread may call this."""
         self._print(self._object(event, text, {}))
 
-    def _object(self, event: str, text: str, told: Mapping[str, object]) -> dict[str, object]:
-        return {"time": local_time(), "moment": self.moment, "event": event, "text": text, **told}
+    def _object(self, event: str, text: str, members: Mapping[str, object]) -> dict[str, object]:
+        return {
+            "time": local_time(),
+            "moment": self.moment,
+            "event": event,
+            "text": text,
+            **members,
+        }
 
-    def _write(self, event: str, text: str, told: Mapping[str, object]) -> None:
-        whole = self._object(event, text, told)
+    def _write(self, event: str, text: str, members: Mapping[str, object]) -> None:
+        whole = self._object(event, text, members)
         self._print(whole)
         if self.tell:
             with self.telling:
@@ -72,21 +78,21 @@ class OncePerRevision:
 
     def __init__(self, log: Log) -> None:
         self.log = log
-        self.told: set[tuple[str, int]] = set()
+        self.written: set[tuple[str, int]] = set()
 
     def say(self, kind: str, revision: Revision, text: str, event: str = "plan") -> None:
         """Writes that this holds of a revision, unless a line of this kind was written for it
         already."""
-        if (kind, revision.number) not in self.told:
-            self.told.add((kind, revision.number))
+        if (kind, revision.number) not in self.written:
+            self.written.add((kind, revision.number))
             self.log.say(event, f"{revision.title()} {text}")
 
     def has_said(self, kind: str, revision: Revision) -> bool:
-        return (kind, revision.number) in self.told
+        return (kind, revision.number) in self.written
 
     def forget(self, kind: str, revision: Revision) -> None:
         """A line of this kind is written for the revision again the next time."""
-        self.told.discard((kind, revision.number))
+        self.written.discard((kind, revision.number))
 
     def clear(self) -> None:
-        self.told.clear()
+        self.written.clear()

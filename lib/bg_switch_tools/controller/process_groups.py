@@ -27,8 +27,8 @@ class ProcessId:
 
 
 def _stat(pid: int) -> list[str] | None:
-    """The fields of /proc/PID/stat from the state on, or None where the process is not there, or
-    has ended."""
+    """The fields of /proc/PID/stat from the state on, or None if the process is not there, or has
+    ended."""
     try:
         with open(f"/proc/{pid}/stat", "rb") as file:
             fields = file.read().rpartition(b")")[2].decode("ascii", "replace").split()
@@ -38,7 +38,7 @@ def _stat(pid: int) -> list[str] | None:
 
 
 def identity(pid: int) -> ProcessId | None:
-    """The process of this number, where one runs."""
+    """The process of this number, if one runs."""
     fields = _stat(pid)
     return None if fields is None else ProcessId(pid, int(fields[START_TIME]))
 
@@ -99,7 +99,7 @@ class Group:
         variables: Mapping[str, str],
         output: int = TO_STDERR,
     ) -> None:
-        """Starts it in a folder; it prints to this descriptor. `OSError` or `ValueError` where it
+        """Starts it in a folder; it prints to this descriptor. `OSError` or `ValueError` if it
         can't be run."""
         self.process = subprocess.Popen(
             command,

@@ -26,7 +26,7 @@ MOST_OF_A_BATCH = 20  # failed requests that one look adds
 
 class Happening(TypedDict):
     """Something that happened. `kind` is `switch`, `abort`, `change`, `order`, `alarm`, `silence`,
-    `answer`, `controller`, `log` or `fault`; `mark` is the text of its mark in the charts, where it
+    `answer`, `controller`, `log` or `fault`; `mark` is the text of its mark in the charts, if it
     has one."""
 
     id: int
@@ -41,7 +41,7 @@ class Board:
     """Takes in what is read, and tells all of it, or what has changed since the time before."""
 
     def __init__(self, control: Control, log_path: str, is_read_only: bool, plan: str = "") -> None:
-        """`plan` is the path of the plan of the switch's controller; empty where that is not looked
+        """`plan` is the path of the plan of the switch's controller; empty if that is not looked
         at."""
         self.control = control
         self.log_path = log_path
@@ -49,9 +49,7 @@ class Board:
         self.plan = plan
         self.results_of = plan  # beside this path are the results of analyses; empty: not looked at
         self.results = AttemptResults()
-        self.controller: ControllerView | None = (
-            None  # from the first look on, where there is a plan
-        )
+        self.controller: ControllerView | None = None  # from the first look on, if there is a plan
         # by which a page notices that another dashboard has taken the place
         self.session = secrets.token_hex(8)
         self.report: Report | None = None
@@ -60,7 +58,7 @@ class Board:
         self.fault = "the switch has not been asked yet"
         self.since = time.time()  # when it began to answer, or not to
         self.log_fault = ""
-        self.own_fault = ""  # what has ended the last look, where it was not expected
+        self.own_fault = ""  # what has ended the last look, if it was not expected
         self.own_faults = 0
         self.attempt = SeenPhases()
         self.names: dict[int, str] = {}  # of revisions, by their numbers in the book that is open
@@ -87,7 +85,7 @@ class Board:
         self.next_id += 1
 
     def take_report(self, report: Report | None) -> None:
-        """Takes in what the switch has answered: None where no book is open."""
+        """Takes in what the switch has answered: None if no book is open."""
         if self.fault:
             self.say("answer", f"the switch answers: {in_one_line(report)}")
             self.fault, self.since = "", time.time()
@@ -189,8 +187,8 @@ class Board:
         self.log_fault = fault
 
     def _selected(self, service: str) -> str:
-        """The name of the revision that a service has selected in the last two reports; empty where
-        it is none."""
+        """The name of the revision that a service has selected in the last two reports; empty if
+        there is no such revision."""
         if (
             self.report is None
             or self.earlier is None
@@ -223,7 +221,7 @@ class Board:
         del self.failed[:-MOST_FAILED]
 
     def name(self, number: int | None) -> str:
-        """The name of a revision; empty where there is none."""
+        """The name of a revision; empty if there is no revision."""
         return "" if number is None else self.names.get(number, f"revision-{number}")
 
     def note_line(self, line: Line, reply: Reply) -> None:
@@ -249,7 +247,7 @@ class Board:
                 "unreadable": self.totals.unreadable,
             },
             "report": as_json(report) if report else None,
-            "steps": steps(report, self.attempt.seen, self.attempt.failed_at) if report else [],
+            "steps": steps(report, self.attempt.phases, self.attempt.failed_at) if report else [],
             "waits_for": WAITS_FOR[report.phase] if report else NO_BOOK,
             "orders": {
                 str(command): can and not self.fault and not self.is_read_only
@@ -275,7 +273,7 @@ class Board:
             **self.head(),
             "slot_seconds": SLOT,
             "kept_seconds": KEPT,
-            "slots": self.traffic.told(list(self.traffic.slots)),
+            "slots": self.traffic.slots_as_json(list(self.traffic.slots)),
             "happened": self.happened,
             "failed": self.failed,
         }

@@ -33,86 +33,87 @@ def listened_port(text: str) -> int:
 
 
 def parser() -> argparse.ArgumentParser:
-    made = argparse.ArgumentParser(
+    argument_parser = argparse.ArgumentParser(
         prog="dashboard",
         usage=named(USAGE),
         description=ABOUT,
         epilog=named(END),
         formatter_class=argparse.RawDescriptionHelpFormatter,
     )
-    made.add_argument(
+    argument_parser.add_argument(
         "control",
         type=control_of,
         nargs="?",
         metavar="PORT",
         help="the control port of the switch, or the path of its control socket",
     )
-    add_options(made)
-    made.add_argument(
+    add_options(argument_parser)
+    argument_parser.add_argument(
         "--plan",
         default="",
         metavar="PLAN",
         help="the plan of the switch's controller, which is shown too",
     )
-    return made
+    return argument_parser
 
 
-def add_options(made: argparse.ArgumentParser) -> None:
+def add_options(argument_parser: argparse.ArgumentParser) -> None:
     """Adds the options of a dashboard that name neither the switch nor the plan."""
-    made.add_argument(
+    argument_parser.add_argument(
         "--fleet",
         default="",
         metavar="FLEET.json",
         help="the fleet file of the fleet, which needs no machine",
     )
-    made.add_argument(
+    argument_parser.add_argument(
         "--agent-state",
         default="",
         metavar="PATH",
         help="where the agent of this machine keeps its files, if that is not the folder of the fleet file",
     )
-    made.add_argument(
+    argument_parser.add_argument(
         "--listen", type=listened_port, required=True, metavar="PORT", help="the port of the page"
     )
-    made.add_argument(
+    argument_parser.add_argument(
         "--log",
         default="",
         metavar="FILE",
         help="the access log of the switch, BG_SWITCH_ACCESS_LOG",
     )
-    made.add_argument(
+    argument_parser.add_argument(
         "--read-only",
         action="store_true",
         help="the page has no buttons, and no line can be sent through it",
     )
 
 
-def fault_beside_a_switch(given: argparse.Namespace) -> str:
-    """What is wrong with the words where a switch is shown; empty where nothing is."""
-    return OF_AN_AGENT if given.agent_state and not given.fleet else ""
+def fault_beside_a_switch(options: argparse.Namespace) -> str:
+    """What is wrong with the words if a switch is shown; empty if nothing is."""
+    return OF_AN_AGENT if options.agent_state and not options.fleet else ""
 
 
-def fault_of(given: argparse.Namespace) -> str:
-    """Why the words say nothing that can be shown; empty where they do."""
-    if given.control is not None:
-        return fault_beside_a_switch(given)
-    if not given.fleet:
+def fault_of(options: argparse.Namespace) -> str:
+    """Why the words say nothing that can be shown; empty if they do."""
+    if options.control is not None:
+        return fault_beside_a_switch(options)
+    if not options.fleet:
         return (
             "name what is shown: the control port of a switch, a fleet file with --fleet, or both"
         )
-    if given.log:
+    if options.log:
         return "--log is the access log of a switch: name its control port too"
-    if given.plan:
+    if options.plan:
         return "--plan is that of the controller of a switch: name its control port too"
-    return OF_AN_AGENT if given.agent_state else ""
+    return OF_AN_AGENT if options.agent_state else ""
 
 
 def fleet_file(path: str) -> FleetFile | None:
-    """The fleet file of a path; None where none is named. `FleetFileError` where it is none."""
+    """The fleet file of a path; None if no path is named. `FleetFileError` if it is not a fleet
+    file."""
     return read_whole_fleet_file(path) if path else None
 
 
-def show(given: argparse.Namespace) -> int:
+def show(options: argparse.Namespace) -> int:
     """Shows what the words name, until a signal comes. Gives the exit status."""
     try:
         # here, so that the other tools need no more than python's standard library
@@ -129,27 +130,27 @@ def show(given: argparse.Namespace) -> int:
     try:
         board = (
             None
-            if given.control is None
-            else Board(given.control, given.log, given.read_only, given.plan)
+            if options.control is None
+            else Board(options.control, options.log, options.read_only, options.plan)
         )
-        file = fleet_file(given.fleet)
-        agent = local_agent(file, given.agent_state) if file and board else None
-        if board and agent and not given.plan:
+        file = fleet_file(options.fleet)
+        agent = local_agent(file, options.agent_state) if file and board else None
+        if board and agent and not options.plan:
             board.results_of = agent.files
-        server.run(board, file, agent, given.listen)
+        server.run(board, file, agent, options.listen)
     except FleetFileError as wrong:
         for problem in wrong.problems:
-            FRAME.tell(f"{given.fleet}: {problem}")
+            FRAME.tell(f"{options.fleet}: {problem}")
         return REFUSED
     except OSError as error:
-        FRAME.tell(f"port {given.listen} cannot be used: {os.strerror(error.errno or 0)}")
+        FRAME.tell(f"port {options.listen} cannot be used: {os.strerror(error.errno or 0)}")
         return REFUSED
     return 0
 
 
 def main(words: Sequence[str]) -> int:
-    made = parser()
-    given = made.parse_args(words)
-    if fault := fault_of(given):
-        made.error(fault)
-    return FRAME.run(lambda: show(given))
+    argument_parser = parser()
+    options = argument_parser.parse_args(words)
+    if fault := fault_of(options):
+        argument_parser.error(fault)
+    return FRAME.run(lambda: show(options))

@@ -19,8 +19,8 @@ class LocalAgent:
         self.path = self.files + SUFFIX
 
     def status(self, now: float) -> AgentStatus | None:
-        """What the agent tells; None where there is no file, where it can't be read, and where
-        nobody has kept it up to date at this Unix time."""
+        """What the agent tells; None if there is no file, if it can't be read, or if nobody has
+        kept it up to date at this Unix time."""
         try:
             with open(self.path, "rb") as file:
                 status = read_agent_status(file.read(LARGEST))
@@ -30,5 +30,5 @@ class LocalAgent:
 
 
 def local_agent(file: FleetFile, state: str) -> LocalAgent | None:
-    """The agent of a fleet file; None where the file names no machine."""
+    """The agent of a fleet file; None if the file names no machine."""
     return LocalAgent(file, state) if file.machine else None

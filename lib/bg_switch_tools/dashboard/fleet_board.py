@@ -26,7 +26,7 @@ class FleetHappening(TypedDict):
 
 
 class Since(NamedTuple):
-    """When something was seen first (Unix time). Where it stood at the first read, it is older:
+    """When something was seen first (Unix time). If it stood at the first read, it is older:
     `is_exact` is False."""
 
     time: float
@@ -76,15 +76,17 @@ class FleetBoard:
             None  # of the latest read that was answered; None before the first one
         )
         self.read_at: float | None = None  # when that read was
-        self.fault = "etcd has not been asked yet"  # why the latest read was not answered; empty where it was
+        self.fault = (
+            "etcd has not been asked yet"  # why the latest read was not answered; empty if it was
+        )
         self.since = unix_time()  # when etcd began to answer, or not to
         self.lost_at = now()
-        self.own_fault = ""  # what has ended the last look, where it was not expected
+        self.own_fault = ""  # what has ended the last look, if it was not expected
         self.own_faults = 0
-        self.seen = Seen()
+        self.first_seen = Seen()
         # hosts by the `created` revision of the leader's key, those that were seen first first
         self.leaders: dict[int, str] = {}
-        self.failed_at = ""  # the stage in which the attempt was aborted, where that was seen
+        self.failed_at = ""  # the stage in which the attempt was aborted, if that was seen
         self.happened: list[FleetHappening] = []
         self.next_id = 1
         self.told_up_to = 0
@@ -112,7 +114,7 @@ class FleetBoard:
 
     def attempt_seconds(self) -> float | None:
         """For how long the attempt has been in its stage, by the leader's clock and this one; None
-        where that is not known."""
+        if that is not known."""
         record = self.state.record if self.state else None
         return max(self.unix_time() - record.time, 0.0) if record and record.time else None
 
@@ -134,7 +136,7 @@ class FleetBoard:
         values: dict[str, object] = {
             f"machine {host}": machine.state for host, machine in state.machines.items()
         }
-        self.seen.take({**values, "leader": state.leader}, at, before is None)
+        self.first_seen.take({**values, "leader": state.leader}, at, before is None)
         for change in changes(before, state) if before else []:
             self.say(change.kind, change.text)
         if state.status.problem and (
@@ -170,12 +172,12 @@ class FleetBoard:
 
     def since_of(self, host: str) -> Since:
         """Since when a machine of the state is in its state."""
-        return self.seen.since(f"machine {host}")
+        return self.first_seen.since(f"machine {host}")
 
     @property
     def leader_since(self) -> Since:
         """Since when the leader of the state leads, or nobody does."""
-        return self.seen.since("leader")
+        return self.first_seen.since("leader")
 
     def news(self) -> list[FleetHappening]:
         """What has happened since this was asked last."""

@@ -10,7 +10,7 @@ MOST_SHOWN = 200  # rows of machines, and items of each other list
 
 
 class SinceJson(TypedDict):
-    """`exact` is false where it is older than this time."""
+    """`exact` is false if it is older than this time."""
 
     time: float
     exact: bool
@@ -30,7 +30,7 @@ def _since(since: Since) -> SinceJson:
 
 
 def _shown(state: FleetState) -> list[str]:
-    """The hosts that have a row. Where there are too many, those that are away or awaited come
+    """The hosts that have a row. If there are too many, those that are away or awaited come
     first."""
     machines = state.machines
     if len(machines) <= MOST_SHOWN:
@@ -50,25 +50,25 @@ def _machines(
     ]
 
 
-def _attempt(board: FleetBoard, state: FleetState, told: object) -> dict[str, object] | None:
-    """The attempt, with the leader that wrote it also where it leads no longer, if it was seen to
-    lead."""
+def _attempt(board: FleetBoard, state: FleetState, value: object) -> dict[str, object] | None:
+    """The attempt, with the leader that wrote it, if it was seen to lead, even if it leads no
+    longer."""
     record = state.record
-    if record is None or not isinstance(told, dict):
+    if record is None or not isinstance(value, dict):
         return None
     return {
-        **told,
+        **value,
         "written_by": board.leaders.get(record.by),
         "steps": steps_of(record, board.failed_at),
     }
 
 
-def _plan(state: FleetState, told: object) -> dict[str, object] | None:
-    if not isinstance(told, dict):
+def _plan(state: FleetState, value: object) -> dict[str, object] | None:
+    if not isinstance(value, dict):
         return None
     plan = state.status.plan
     return {
-        **told,
+        **value,
         "by_hand": plan.by_hand if plan else None,
         "max_missing": plan.max_missing if plan else None,
     }
@@ -77,10 +77,10 @@ def _plan(state: FleetState, told: object) -> dict[str, object] | None:
 def _read(board: FleetBoard, state: FleetState) -> object:
     """What the latest read says."""
     status, shown = state.status, _shown(state)
-    told = status.as_json()
+    members = status.as_json()
     beside: dict[str, object] = {
-        "attempt": _attempt(board, state, told["attempt"]),
-        "plan": _plan(state, told["plan"]),
+        "attempt": _attempt(board, state, members["attempt"]),
+        "plan": _plan(state, members["plan"]),
         "leader_since": _since(board.leader_since),
         "members": _machines(board, status.members, shown),
         "others": _machines(board, status.others, shown),
@@ -88,10 +88,10 @@ def _read(board: FleetBoard, state: FleetState) -> object:
         "member_count": len(status.members),
         "away_count": len(state.away),
     }
-    return bounded({**told, **beside})
+    return bounded({**members, **beside})
 
 
-def _told(board: FleetBoard, happened: list[FleetHappening]) -> dict[str, object]:
+def _message(board: FleetBoard, happened: list[FleetHappening]) -> dict[str, object]:
     return {
         "time": board.unix_time(),
         "session": board.session,
@@ -110,9 +110,9 @@ def _told(board: FleetBoard, happened: list[FleetHappening]) -> dict[str, object
 
 def whole(board: FleetBoard) -> dict[str, object]:
     """All that is known."""
-    return _told(board, board.happened)
+    return _message(board, board.happened)
 
 
 def update(board: FleetBoard) -> dict[str, object]:
     """All but what has happened, of which only what is new since the time before."""
-    return _told(board, board.news())
+    return _message(board, board.news())

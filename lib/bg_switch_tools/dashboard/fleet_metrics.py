@@ -74,8 +74,8 @@ def _of_agent(agent: LocalAgent, now: float) -> Iterator[Metric]:
 
 
 class FleetCollector:
-    """Gives the metrics of a fleet, and of the agent of this machine where it has one, each time
-    they are asked for."""
+    """Gives the metrics of a fleet, and of the agent of this machine if it has one, each time they
+    are asked for."""
 
     def __init__(self, board: FleetBoard, agent: LocalAgent | None) -> None:
         self.board = board

@@ -33,7 +33,7 @@ class FleetState(NamedTuple):
 
     @property
     def leader(self) -> tuple[str, int]:
-        """The host of the leader, which is empty where nobody leads, and the revision by which it
+        """The host of the leader, which is empty if nobody leads, and the revision by which it
         does."""
         return self.status.leader, self.leader_created
 
@@ -62,7 +62,7 @@ def read_state(fleet: str, snapshot: Snapshot) -> FleetState:
 
 
 def steps_of(record: Record, failed_at: str) -> list[Step]:
-    """The attempt as a line of steps. `failed_at` is the stage in which it was aborted; empty where
+    """The attempt as a line of steps. `failed_at` is the stage in which it was aborted; empty if
     that is not known."""
     if record.stage == ABORTED:
         reached, state = (

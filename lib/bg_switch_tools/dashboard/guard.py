@@ -22,8 +22,8 @@ HEADERS = {
 
 
 def fault_of(hosts: Sequence[str], origins: Sequence[str]) -> str:
-    """Why a request with these fields Host and Origin is refused; empty where it is not. A tunnel
-    may have another port."""
+    """Why a request with these fields Host and Origin is refused; empty if it is not. A tunnel may
+    have another port."""
     if len(hosts) != 1 or not LOCAL.fullmatch(hosts[0].lower()):
         return "the dashboard is reached by the name localhost or the address 127.0.0.1 alone"
     if any(origin != f"http://{hosts[0]}" for origin in origins):
@@ -31,6 +31,6 @@ def fault_of(hosts: Sequence[str], origins: Sequence[str]) -> str:
     return ""
 
 
-def is_token(told: str, token: str) -> bool:
+def is_token(text: str, token: str) -> bool:
     """Whether this is the token, in a time that says nothing of how much of it is right."""
-    return hmac.compare_digest(told.encode("utf-8", "replace"), token.encode("ascii"))
+    return hmac.compare_digest(text.encode("utf-8", "replace"), token.encode("ascii"))

@@ -24,7 +24,7 @@ class ControllerView(NamedTuple):
 
 
 class LocalController:
-    """The controller of a plan. Where there is no plan, and no controller has run one at this path,
+    """The controller of a plan. If there is no plan, and no controller has run one at this path,
     none is missed: the switch is operated by hand, or by the agent of a fleet."""
 
     def __init__(self, plan: str) -> None:

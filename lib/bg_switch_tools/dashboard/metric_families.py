@@ -13,10 +13,10 @@ def gauge(name: str, text: str, value: float) -> Metric:
 
 def gauges(name: str, text: str, labels: Sequence[str], values: Values) -> Metric:
     """A gauge with labels."""
-    made = GaugeMetricFamily(name, text, labels=list(labels))
+    family = GaugeMetricFamily(name, text, labels=list(labels))
     for each, number in values:
-        made.add_metric(each, number)
-    return made
+        family.add_metric(each, number)
+    return family
 
 
 def by_label(name: str, text: str, label: str, values: Mapping[str, float]) -> Metric:
@@ -26,7 +26,7 @@ def by_label(name: str, text: str, label: str, values: Mapping[str, float]) -> M
 
 def counter(name: str, text: str, labels: Sequence[str], values: Values) -> Metric:
     """A counter."""
-    made = CounterMetricFamily(name, text, labels=list(labels))
+    family = CounterMetricFamily(name, text, labels=list(labels))
     for each, number in values:
-        made.add_metric(each, number)
-    return made
+        family.add_metric(each, number)
+    return family

@@ -30,12 +30,12 @@ OLD_NAMES = {
 
 
 def _histogram(name: str, text: str, totals: Totals, of_upstream: bool) -> Metric:
-    made = HistogramMetricFamily(name, text, labels=LABELS)
+    family = HistogramMetricFamily(name, text, labels=LABELS)
     for labels, counted in totals.items():
         tally = counted.upstream if of_upstream else counted.durations
         if not tally.is_empty:
-            made.add_metric(labels, tally.buckets(), tally.sum)
-    return made
+            family.add_metric(labels, tally.buckets(), tally.sum)
+    return family
 
 
 def _of_revisions(report: Report) -> Iterator[Metric]:
@@ -215,12 +215,12 @@ def _of_board(board: Board) -> Iterator[Metric]:
 def _renamed(metric: Metric, name: str) -> Metric:
     """The same metric by its old name."""
     text = f"Deprecated: the old name of {metric.name}. Version {DROPPED_IN} drops it."
-    made = Metric(name, text, metric.type)
-    made.samples = [
+    family = Metric(name, text, metric.type)
+    family.samples = [
         sample._replace(name=name + sample.name.removeprefix(metric.name))
         for sample in metric.samples
     ]
-    return made
+    return family
 
 
 class Collector:

@@ -35,10 +35,10 @@ def read_page_command(text: bytes) -> PageCommand:
     """The command of a JSON body: `{"order": "promote", "revision": 2}`."""
     judge = Judge()
     try:
-        told = decoded(text)
+        json_value = decoded(text)
     except ValueError:
         raise PageCommandError("it is not JSON") from None
-    members = judge.members(told, "the command", ("order", "revision"), ("order", "revision"))
+    members = judge.members(json_value, "the command", ("order", "revision"), ("order", "revision"))
     name = str(members.get("order"))
     if name not in PAGE_COMMANDS:
         judge.note("order", f"it must be one of {', '.join(PAGE_COMMANDS)}")
@@ -55,7 +55,7 @@ def read_page_command(text: bytes) -> PageCommand:
 
 
 def send_page_command(control: Control, command: PageCommand) -> Reply:
-    """Sends a command, and gives its reply. `UnreachableError` where the switch gives no answer."""
+    """Sends a command, and gives its reply. `UnreachableError` if the switch gives no answer."""
     with Connection(control, WAIT) as connection:
         report = connection.ask_report()
         if report is None or report.newest.number != command.revision:

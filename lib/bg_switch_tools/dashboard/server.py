@@ -45,13 +45,13 @@ def application(
 ) -> web.Application:
     """All that the dashboard serves: the pages of a switch, of a fleet, or of both, and metrics of
     these and of an agent."""
-    made = web.Application(middlewares=[guarded], client_max_size=LARGEST_COMMAND)
+    web_application = web.Application(middlewares=[guarded], client_max_size=LARGEST_COMMAND)
     for pages in (switch, fleet):
         if pages:
-            pages.add_to(made)
-    made.router.add_get("/metrics", MetricsPage(switch, fleet, agent).show)
-    made.router.add_get("/{name}", PageFiles().show)
-    return made
+            pages.add_to(web_application)
+    web_application.router.add_get("/metrics", MetricsPage(switch, fleet, agent).show)
+    web_application.router.add_get("/{name}", PageFiles().show)
+    return web_application
 
 
 def is_not_malformed(record: logging.LogRecord) -> bool:
@@ -62,9 +62,9 @@ def is_not_malformed(record: logging.LogRecord) -> bool:
 
 
 def run(board: Board | None, file: FleetFile | None, agent: LocalAgent | None, listen: int) -> None:
-    """Serves until SIGTERM or ctrl-C. `OSError` where the port cannot be used."""
+    """Serves until SIGTERM or ctrl-C. `OSError` if the port cannot be used."""
 
-    async def made() -> web.Application:
+    async def prepared_application() -> web.Application:
         switch = SwitchPages(board, file is not None) if board else None
         fleet = (
             FleetPages(FleetBoard(file.fleet), EtcdStore(file.etcd, file.fleet), board is not None)
@@ -83,7 +83,7 @@ def run(board: Board | None, file: FleetFile | None, agent: LocalAgent | None, l
     # aiohttp would tell a port that cannot be used with a trace
     with socket.create_server((HOST, listen)) as listener:
         web.run_app(
-            made(),
+            prepared_application(),
             sock=listener,
             print=lambda *_: None,
             access_log=None,

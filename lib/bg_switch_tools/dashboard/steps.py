@@ -34,28 +34,28 @@ class Step(TypedDict):
 
 class SeenPhases:
     """What was seen of the attempt that the reports show: its phases, and in which one it was
-    aborted; None where that is not known."""
+    aborted; None if that is not known."""
 
     def __init__(self) -> None:
         self.number = 0
         self.was_running = False
-        self.seen: list[Phase] = []
+        self.phases: list[Phase] = []
         self.failed_at: Phase | None = None
 
     def take(self, report: Report) -> None:
         """Takes in the next report."""
         if report.newest.number != self.number or (report.is_running and not self.was_running):
-            self.seen, self.failed_at = [], None
-        if report.phase is Phase.ABORTED and self.was_running and self.seen:
-            self.failed_at = self.seen[-1]
-        if report.is_running and report.phase not in self.seen:
-            self.seen.append(report.phase)
+            self.phases, self.failed_at = [], None
+        if report.phase is Phase.ABORTED and self.was_running and self.phases:
+            self.failed_at = self.phases[-1]
+        if report.is_running and report.phase not in self.phases:
+            self.phases.append(report.phase)
         self.number, self.was_running = report.newest.number, report.is_running
 
 
-def steps(report: Report, seen: Collection[Phase], failed_at: Phase | None) -> list[Step]:
-    """The line of steps. `seen` are the phases of the attempt that were seen, and `failed_at` the
-    one in which it was aborted; None where that is not known."""
+def steps(report: Report, seen_phases: Collection[Phase], failed_at: Phase | None) -> list[Step]:
+    """The line of steps. `seen_phases` are those of the attempt that were seen, and `failed_at` the
+    one in which it was aborted; None if that is not known."""
     if report.phase is Phase.STEADY:
         reached, state = len(NAMES), ""
     elif report.phase is Phase.ABORTED:
@@ -65,7 +65,9 @@ def steps(report: Report, seen: Collection[Phase], failed_at: Phase | None) -> l
         )
     else:
         reached, state = NAMES.index(report.phase), "current"
-    before = {name: "done" if name in seen or name not in PHASES else "passed" for name in NAMES}
+    before = {
+        name: "done" if name in seen_phases or name not in PHASES else "passed" for name in NAMES
+    }
     return [
         {
             "name": name,

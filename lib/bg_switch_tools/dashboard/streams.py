@@ -12,9 +12,9 @@ MOST_PENDING = 100  # updates that a listener may be behind
 MOST_LISTENERS = 64  # of one page
 
 
-def event(name: str, told: Mapping[str, object]) -> bytes:
+def event(name: str, data: Mapping[str, object]) -> bytes:
     """An event of a stream, as browsers read it."""
-    return f"event: {name}\ndata: {json.dumps(told)}\n\n".encode("ascii")
+    return f"event: {name}\ndata: {json.dumps(data)}\n\n".encode("ascii")
 
 
 class Listeners:
@@ -28,10 +28,10 @@ class Listeners:
 
     def tell(self, update: Mapping[str, object]) -> None:
         """Tells what is new to all who listen."""
-        told = event("update", update)
+        message = event("update", update)
         for listener, transport in list(self._open.items()):
             if not listener.full():
-                listener.put_nowait(told)
+                listener.put_nowait(message)
                 continue
             del self._open[listener]  # it reads too slowly: its connection ends, and it begins anew
             if transport is not None:

@@ -58,12 +58,12 @@ class SwitchPages:
         while True:
             try:
                 is_counted = not (self.follower and self.follower.is_behind)
-                seen = await asyncio.to_thread(self.look)
+                found = await asyncio.to_thread(self.look)
                 if self.controller:
                     self.board.take_controller(await asyncio.to_thread(self.controller.look))
                 if self.results:
                     self.board.results = await asyncio.to_thread(self.results.read)
-                self.take(*seen, is_counted)
+                self.take(*found, is_counted)
             # none is expected; without the looks that follow, the page would show what is long past
             except Exception as error:
                 take_fault(self.board, error, self.tell)
@@ -82,12 +82,12 @@ class SwitchPages:
         except (UnreachableError, ReportError) as reason:
             return batch, str(reason)
 
-    def take(self, batch: Batch | None, seen: Report | None | str, is_counted: bool) -> None:
+    def take(self, batch: Batch | None, answer: Report | None | str, is_counted: bool) -> None:
         """Takes in what was seen, and tells it to all who listen."""
-        if isinstance(seen, str):
-            self.board.take_silence(seen)
+        if isinstance(answer, str):
+            self.board.take_silence(answer)
         else:
-            self.board.take_report(seen)
+            self.board.take_report(answer)
         if batch and self.follower:
             self.board.take_batch(batch, self.follower.fault, is_counted)
         self.board.take_fault("")

@@ -45,10 +45,10 @@ class DurationTally:
 
     def buckets(self) -> list[tuple[str, float]]:
         """Each end as a text with how many durations are not above it."""
-        ends, seen, found = [*map(str, BUCKETS), "+Inf"], 0, []
+        ends, so_far, found = [*map(str, BUCKETS), "+Inf"], 0, []
         for end, count in zip(ends, self.counts):
-            seen += count
-            found.append((end, float(seen)))
+            so_far += count
+            found.append((end, float(so_far)))
         return found
 
 

@@ -20,8 +20,8 @@ SCALE = 1 / math.log(FACTOR)
 
 @functools.lru_cache(1024)
 def class_of(status: int | None) -> str:
-    """The class of a status, as `5xx`; `none` where there was no answer. One outside 100 to 599,
-    which has no class, counts as `5xx` (RFC 9110, section 15)."""
+    """The class of a status, as `5xx`; `none` if there was no answer. One outside 100 to 599, which
+    has no class, counts as `5xx` (RFC 9110, section 15)."""
     if status is None:
         return NO_ANSWER
     return f"{status // 100}xx" if 100 <= status <= 599 else "5xx"
@@ -40,11 +40,11 @@ class Durations:
         self.bins += other.bins
 
     def quantile(self, share: float) -> float:
-        """The end of the bin that has the quantile, to two places; 0 where there is no duration."""
-        target, seen = share * self.bins.total(), 0
+        """The end of the bin that has the quantile, to two places; 0 if there is no duration."""
+        target, count = share * self.bins.total(), 0
         for place in sorted(self.bins):
-            seen += self.bins[place]
-            if seen >= target:
+            count += self.bins[place]
+            if count >= target:
                 return round(LEAST * FACTOR**place, 2)
         return 0.0
 
@@ -75,7 +75,7 @@ class Cell:
 
 
 class CellJson(TypedDict):
-    """A cell as the page is told it. The name is empty where a request came to no revision."""
+    """A cell as the page is told it. The name is empty if a request came to no revision."""
 
     revision: str
     counts: dict[str, int]
@@ -135,7 +135,7 @@ class Traffic:
             del self.slots[begins]
             self.changed.discard(begins)
 
-    def told(self, begins: Sequence[int]) -> list[SlotJson]:
+    def slots_as_json(self, begins: Sequence[int]) -> list[SlotJson]:
         """These slots, by time."""
         return [
             {"begins": each, "cells": list(_cells(self.slots[each]))} for each in sorted(begins)
@@ -144,7 +144,7 @@ class Traffic:
     def take_changed(self) -> list[SlotJson]:
         """The slots that have changed since this was asked last."""
         changed, self.changed = self.changed, set()
-        return self.told(list(changed))
+        return self.slots_as_json(list(changed))
 
     def recent(self, now: float) -> dict[str, Recent]:
         """By revision, what became of its requests in the last seconds."""

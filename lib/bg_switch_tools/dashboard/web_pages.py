@@ -30,7 +30,7 @@ SWITCH, FLEET = Link("/", "the switch"), Link("/fleet", "the fleet")
 
 
 def page_file(name: str) -> str:
-    """A file of the pages, also where the tools are one file."""
+    """A file of the pages, also if the tools are one file."""
     return (importlib.resources.files("bg_switch_tools.dashboard") / "page" / name).read_text(
         encoding="utf-8"
     )
@@ -38,7 +38,7 @@ def page_file(name: str) -> str:
 
 def page(name: str, token: str = "", other: Link | None = None) -> str:
     """A page, with the token of its commands (empty: it has none), and with a link to the other
-    page, where there is one."""
+    page, if there is one."""
     link = f'<a href="{html.escape(other.address)}">{html.escape(other.title)}</a>' if other else ""
     return page_file(name).replace("{{token}}", html.escape(token)).replace("{{other}}", link)
 

@@ -21,18 +21,18 @@ docs/FLEET.md is the runbook.
 def parser() -> argparse.ArgumentParser:
     """The parser of bin/fleet."""
     name = named("bin/fleet").removeprefix("bin/")
-    made = argparse.ArgumentParser(
+    argument_parser = argparse.ArgumentParser(
         prog=name,
         description=DESCRIPTION,
         epilog=named(END),
         allow_abbrev=False,
         formatter_class=argparse.RawDescriptionHelpFormatter,
     )
-    made.add_argument("--version", action="version", version=f"fleet {VERSION}")
-    made.add_argument(
+    argument_parser.add_argument("--version", action="version", version=f"fleet {VERSION}")
+    argument_parser.add_argument(
         "file", metavar="FLEET.json", help="the fleet file of this machine, or of a person"
     )
-    commands = made.add_subparsers(
+    commands = argument_parser.add_subparsers(
         dest="command", metavar="COMMAND", required=True, title="commands"
     )
     for command in FLEET_COMMANDS:
@@ -45,4 +45,4 @@ def parser() -> argparse.ArgumentParser:
             epilog=f"{name} --help has the exit statuses.",
         )
         command.add_words(one)
-    return made
+    return argument_parser

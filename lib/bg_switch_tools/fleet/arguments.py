@@ -108,12 +108,12 @@ def add_members(to: argparse.ArgumentParser) -> None:
         "list", help="lists the members, which is done without a word too", allow_abbrev=False
     )
     for step, meaning in (("add", "adds members"), ("remove", "removes members")):
-        made = steps.add_parser(step, help=meaning, allow_abbrev=False)
-        made.add_argument(
+        step_parser = steps.add_parser(step, help=meaning, allow_abbrev=False)
+        step_parser.add_argument(
             "hosts", metavar="HOST", nargs="+", type=revision_name, help="the host of a fleet file"
         )
         if step == "remove":
-            add_yes(made)
+            add_yes(step_parser)
 
 
 def add_wait(to: argparse.ArgumentParser) -> None:

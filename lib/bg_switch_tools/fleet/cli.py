@@ -38,7 +38,7 @@ FRAME = Frame(
 
 
 def fleet_file(path: str) -> FleetFile | None:
-    """The fleet file at a path; None where it is none, which is told."""
+    """The fleet file at a path. If it is not a fleet file, tells why and returns None."""
     try:
         return read_whole_fleet_file(path)
     except FleetFileError as wrong:
@@ -49,15 +49,17 @@ def fleet_file(path: str) -> FleetFile | None:
 
 
 def main(words: Sequence[str], store_of: StoreOf = etcd_of) -> int:
-    made = parser()
+    argument_parser = parser()
     if len(words) == 1 and words[0] in FLEET_COMMAND_NAMES:
-        made.error(f"the fleet file stands before the command: fleet FLEET.json {words[0]}")
-    given = made.parse_args(words)
-    command = next(each for each in FLEET_COMMANDS if each.name == given.command)
-    if fault := command.fault(given):
-        made.error(fault)
-    file = fleet_file(given.file)
+        argument_parser.error(
+            f"the fleet file stands before the command: fleet FLEET.json {words[0]}"
+        )
+    options = argument_parser.parse_args(words)
+    command = next(each for each in FLEET_COMMANDS if each.name == options.command)
+    if fault := command.fault(options):
+        argument_parser.error(fault)
+    file = fleet_file(options.file)
     if file is None:
         return WRONG_WORDS
-    run = FleetRun(given, file, store_of)
+    run = FleetRun(options, file, store_of)
     return FRAME.run(lambda: command.run(run))

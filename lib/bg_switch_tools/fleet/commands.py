@@ -37,7 +37,7 @@ StoreOf = Callable[[FleetFile], Store]
 
 
 class Changes:
-    """Tells a text where it is another one than the one before."""
+    """Tells a text if it is another one than the one before."""
 
     def __init__(self) -> None:
         self.before = ""
@@ -51,8 +51,8 @@ class Changes:
 class FleetRun:
     """A run of one command."""
 
-    def __init__(self, given: argparse.Namespace, file: FleetFile, store_of: StoreOf) -> None:
-        self.given = given
+    def __init__(self, options: argparse.Namespace, file: FleetFile, store_of: StoreOf) -> None:
+        self.options = options
         self.file = file
         self.store_of = store_of
 
@@ -61,7 +61,7 @@ class FleetRun:
             login_name(),
             self.store_of(self.file),
             self.file.fleet,
-            getattr(self.given, "yes", False),
+            getattr(self.options, "yes", False),
         )
 
     def agent(self) -> int:
@@ -69,17 +69,17 @@ class FleetRun:
         from bg_switch_tools.fleet.agent.agent_process import AgentArguments, run_agent
 
         arguments = AgentArguments(
-            None if self.given.state is None else pathlib.Path(self.given.state),
-            as_json=self.given.json,
+            None if self.options.state is None else pathlib.Path(self.options.state),
+            as_json=self.options.json,
         )
-        if self.given.round is not None:
-            arguments = dataclasses.replace(arguments, round_seconds=self.given.round)
+        if self.options.round is not None:
+            arguments = dataclasses.replace(arguments, round_seconds=self.options.round)
         return run_agent(self.file, arguments)
 
     def status(self) -> int:
         person = self.person()
         status = status_of(person.fleet, person.store.read())
-        print(json.dumps(status.as_json()) if self.given.json else "\n".join(draw(status)))
+        print(json.dumps(status.as_json()) if self.options.json else "\n".join(draw(status)))
         return REFUSED if status.record is None or status.record.stage == ABORTED else DONE
 
     def watch(self) -> int:
@@ -90,19 +90,19 @@ class FleetRun:
         return DONE
 
     def check(self) -> int:
-        print(person_plans.check(self.given.plan, self.file))
+        print(person_plans.check(self.options.plan, self.file))
         return DONE
 
     def plan(self) -> int:
-        print(person_plans.put_plan(self.person(), self.given.plan, self.file))
+        print(person_plans.put_plan(self.person(), self.options.plan, self.file))
         return DONE
 
     def order(self) -> int:
         """Puts an order. With `--wait` the end of its attempt is awaited, and told."""
-        person, order = self.person(), self.given.command
-        ordered = person_orders.give_order(person, order, self.given.attempt)
-        print(ordered.told, flush=True)
-        if not self.given.wait:
+        person, order = self.person(), self.options.command
+        ordered = person_orders.give_order(person, order, self.options.attempt)
+        print(ordered.sentence, flush=True)
+        if not self.options.wait:
             return DONE
         return self._await(person, OrderIsCarriedOut(order, ordered.attempt), False)
 
@@ -111,22 +111,24 @@ class FleetRun:
         return DONE
 
     def undo(self) -> int:
-        print(person_plans.undo(self.person(), self.given.to))
+        print(person_plans.undo(self.person(), self.options.to))
         return DONE
 
     def members(self) -> int:
         person = self.person()
-        if self.given.step in (None, "list"):
+        if self.options.step in (None, "list"):
             lines = person_members.members_of(person)
         else:
-            change = person_members.add if self.given.step == "add" else person_members.remove
-            lines = change(person, self.given.hosts)
+            change = person_members.add if self.options.step == "add" else person_members.remove
+            lines = change(person, self.options.hosts)
         if lines:
             print("\n".join(lines))
         return DONE
 
     def wait(self) -> int:
-        return self._await(self.person(), FleetConditions(self.given.conditions), self.given.json)
+        return self._await(
+            self.person(), FleetConditions(self.options.conditions), self.options.json
+        )
 
     def _await(self, person: Person, conditions: Conditions, as_json: bool) -> int:
         """Waits. Each change meanwhile, and a store that gives no answer, is told on standard
@@ -139,7 +141,7 @@ class FleetRun:
         def lose(fault: StoreError) -> None:
             changes.tell(str(fault))
 
-        result = wait_for(person.store, conditions, self.given.timeout, see, lose)
+        result = wait_for(person.store, conditions, self.options.timeout, see, lose)
         status = status_of(person.fleet, result.snapshot) if result.snapshot else None
         if as_json:
             print(

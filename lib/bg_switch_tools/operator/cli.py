@@ -51,7 +51,7 @@ def parser() -> argparse.ArgumentParser:
     examples = [
         f"  bin/operator 8082 {line.example}\n      {line.meaning}" for line in lines_and_commands()
     ]
-    made = argparse.ArgumentParser(
+    argument_parser = argparse.ArgumentParser(
         prog="operator",
         usage=named("bin/operator PORT [LINE | COMMAND] [options]"),
         description=named(ABOUT),
@@ -60,15 +60,17 @@ def parser() -> argparse.ArgumentParser:
         ),
         formatter_class=argparse.RawDescriptionHelpFormatter,
     )
-    made.add_argument(
+    argument_parser.add_argument(
         "control",
         type=control_of,
         nargs="?",
         metavar="PORT",
         help="the control port of the switch, on 127.0.0.1, or the path of its control socket",
     )
-    made.add_argument("words", nargs="*", metavar="WORD", help="the words of one line or command")
-    made.add_argument(
+    argument_parser.add_argument(
+        "words", nargs="*", metavar="WORD", help="the words of one line or command"
+    )
+    argument_parser.add_argument(
         "--wait",
         dest="request_timeout",
         type=seconds_of,
@@ -76,63 +78,63 @@ def parser() -> argparse.ArgumentParser:
         metavar="SECONDS",
         help="how long to wait for the switch to answer (10)",
     )
-    made.add_argument(
+    argument_parser.add_argument(
         "--timeout",
         type=seconds_of,
         metavar="SECONDS",
         help="how long `wait` waits for its conditions (600)",
     )
-    made.add_argument("--within", type=seconds_of, metavar="SECONDS", help=IN_TIME)
-    made.add_argument(
+    argument_parser.add_argument("--within", type=seconds_of, metavar="SECONDS", help=IN_TIME)
+    argument_parser.add_argument(
         "--keep-going",
         action="store_true",
         help="continues after a line that was refused or faulty",
     )
-    made.add_argument(
+    argument_parser.add_argument(
         "--json",
         action="store_true",
         help="prints each reply, the status and what was waited for as JSON",
     )
-    made.add_argument(
+    argument_parser.add_argument(
         "--idempotent",
         action="store_true",
         help="a deploy of the revision that is running or stable already counts as carried out",
     )
-    made.add_argument(
+    argument_parser.add_argument(
         "--yes",
         action="store_true",
         help="`shutdown` does not ask, and a `tick` more than a day ahead is sent",
     )
-    made.add_argument(
+    argument_parser.add_argument(
         "--plan",
         metavar="PLAN",
         help="`wait` first waits until the controller has deployed the last revision of this plan; `status` tells whether "
         "the controller runs, and what it holds back",
     )
-    return made
+    return argument_parser
 
 
-def fault_of(given: argparse.Namespace) -> str:
-    """Why options and words don't go together; empty where they do."""
-    words: list[str] = given.words
+def fault_of(options: argparse.Namespace) -> str:
+    """Why options and words don't go together; empty if they do."""
+    words: list[str] = options.words
     command = words[0] if words else ""
-    if given.control is None:
+    if options.control is None:
         return "PORT: the control port or the control socket of the switch is needed, such as 8082"
     if command in (*COMMANDS, HELP.syntax) and command != WAIT.name and len(words) > 1:
         return f"{command} takes no further words, and not {words[1]!r}"
-    if command == WAIT.name and (fault := WAIT.fault(given)):
+    if command == WAIT.name and (fault := WAIT.fault(options)):
         return fault
     if command == WAIT.name and len(words) == 1:
         return f"wait needs one condition or more, of {CONDITION_SYNTAX}"
-    if given.timeout is not None and command != WAIT.name:
+    if options.timeout is not None and command != WAIT.name:
         return "--timeout is only for wait; --wait says how long to wait for an answer"
-    if given.idempotent and command not in ("", Deploy.word):
+    if options.idempotent and command not in ("", Deploy.word):
         return "--idempotent is only for deploy"
-    if given.within is not None and command not in EVENT_WORDS:
+    if options.within is not None and command not in EVENT_WORDS:
         return f"--within is only for a line that gives an event: {', '.join(EVENT_WORDS)}"
-    if given.yes and command not in ("", SHUTDOWN.name, Tick.word):
+    if options.yes and command not in ("", SHUTDOWN.name, Tick.word):
         return "--yes is only for shutdown and tick"
-    if given.plan is not None and command not in (WAIT.name, STATUS.name):
+    if options.plan is not None and command not in (WAIT.name, STATUS.name):
         return "--plan is only for wait and status"
     return ""
 
@@ -154,11 +156,11 @@ def function_of(words: Sequence[str]) -> Callable[[CommandRun], int]:
 
 
 def main(words: Sequence[str]) -> int:
-    made = parser()
-    given = made.parse_intermixed_args(words)
-    given.conditions = given.words[1:]
-    if fault := fault_of(given):
-        made.error(fault)
-    with contextlib.closing(GivenTarget(given.control, given.plan or None)) as target:
-        one = CommandRun(FRAME, given, target, lambda _: made.print_help())
-        return FRAME.run(lambda: function_of(given.words)(one))
+    argument_parser = parser()
+    options = argument_parser.parse_intermixed_args(words)
+    options.conditions = options.words[1:]
+    if fault := fault_of(options):
+        argument_parser.error(fault)
+    with contextlib.closing(GivenTarget(options.control, options.plan or None)) as target:
+        one = CommandRun(FRAME, options, target, lambda _: argument_parser.print_help())
+        return FRAME.run(lambda: function_of(options.words)(one))

@@ -1,7 +1,7 @@
 """The access log of a switch: its lines, read into values, and a reader that follows its file.
 
 A line is an object of JSON for each request that ended (docs/DASHBOARD.md has its members), or
-`{"time": .., "lost": N}` where N lines could not be written before it.
+`{"time": .., "lost": N}` if N lines could not be written before it.
 """
 import datetime
 import functools
@@ -55,12 +55,12 @@ REQUIRED = operator.itemgetter(*MEMBERS)
 
 
 class LogEntryError(ValueError):
-    """A line that is none of an access log."""
+    """A line that is not one of an access log."""
 
 
 class LogEntry(NamedTuple):
     """A request that ended. `time` counts seconds from 1970; `revision` and `request` are numbers
-    of the switch; `slot_port` is the port of the request's slot where the endpoint at another one,
+    of the switch; `slot_port` is the port of the request's slot if the endpoint at another one,
     `port`, was dialled; `tries` counts its connects; `idle_connections` counts connections that
     ended before it without having sent a byte, which are no requests.
     """
@@ -107,23 +107,23 @@ class LogEntry(NamedTuple):
 
 
 class LostLines(NamedTuple):
-    """So many lines could not be written. The time is None where the switch had none."""
+    """How many lines could not be written. The time is None if the switch had none."""
 
     time: float | None
     lost: int
 
 
-def seconds_of(told: object) -> float:
+def seconds_of(value: object) -> float:
     """The seconds from 1970 of a time as RFC 3339 has it."""
-    if not isinstance(told, str):
+    if not isinstance(value, str):
         raise LogEntryError("its time is not a text")
-    return _seconds_of_text(told)
+    return _seconds_of_text(value)
 
 
 @functools.lru_cache(MOST_TIMES)
-def _seconds_of_text(told: str) -> float:
+def _seconds_of_text(text: str) -> float:
     try:
-        read = datetime.datetime.fromisoformat(told)
+        read = datetime.datetime.fromisoformat(text)
     except ValueError:
         raise LogEntryError("its time is not as in RFC 3339") from None
     if read.tzinfo is None:
@@ -145,11 +145,11 @@ DECODER = json.JSONDecoder(parse_constant=_refuse)  # `json.loads` would make on
 WHITESPACE = b" \t\r\n"  # of JSON
 
 
-def _fault(told: Mapping[str, object]) -> str:
-    """What is wrong with the members of a line; empty where nothing is."""
+def _fault(members: Mapping[str, object]) -> str:
+    """What is wrong with the members of a line; empty if nothing is."""
     for name, types in TYPES.items():
-        value = told.get(name)
-        if type(value) not in types or (name in MEMBERS and name not in told):
+        value = members.get(name)
+        if type(value) not in types or (name in MEMBERS and name not in members):
             return f"its {name} is not one that a line can have"
         if isinstance(value, (int, float)) and not 0 <= value < GREATEST:
             return f"its {name} is below 0, or too large"
@@ -158,8 +158,8 @@ def _fault(told: Mapping[str, object]) -> str:
 
 @functools.lru_cache
 def _numbers_of(types: tuple[type, ...]) -> Callable[[Sequence[object]], tuple[float, ...]] | None:
-    """What takes the numbers out of the values of members that have these types; None where one
-    can't have its type. `bool` is no type of a member, though it is an `int`."""
+    """What takes the numbers out of the values of members that have these types; None if one can't
+    have its type. `bool` is not the type of a member, though it is an `int`."""
     if not all(each in known for each, known in zip(types, TYPES.values())):
         return None
     places = [place for place, each in enumerate(types) if each is not str and each is not NOTHING]
@@ -167,16 +167,16 @@ def _numbers_of(types: tuple[type, ...]) -> Callable[[Sequence[object]], tuple[f
     return operator.itemgetter(places[0], *places)
 
 
-def _values(told: Mapping[str, object]) -> tuple[object, ...]:
-    """The values of the members of a line. `LogEntryError` where one is missing or wrong: what
+def _values(members: Mapping[str, object]) -> tuple[object, ...]:
+    """The values of the members of a line. `LogEntryError` if one is missing or wrong: what
     `_fault` says, found in less time."""
     try:
-        values = (*REQUIRED(told), *map(told.get, OPTIONAL))
+        values = (*REQUIRED(members), *map(members.get, OPTIONAL))
     except KeyError:
-        raise LogEntryError(_fault(told)) from None
+        raise LogEntryError(_fault(members)) from None
     take = _numbers_of(tuple(map(type, values)))
     if take is None or min(numbers := take(values)) < 0 or max(numbers) >= GREATEST:
-        raise LogEntryError(_fault(told))
+        raise LogEntryError(_fault(members))
     return values
 
 
@@ -184,22 +184,22 @@ def _object(line: bytes) -> dict[str, object]:
     """The object of a line."""
     try:
         text = line.strip(WHITESPACE).decode()
-        told, end = DECODER.raw_decode(text)
+        members, end = DECODER.raw_decode(text)
     except (ValueError, RecursionError):
         raise LogEntryError("it is not JSON") from None
-    if end != len(text) or not isinstance(told, dict):
+    if end != len(text) or not isinstance(members, dict):
         raise LogEntryError("it is not an object")
-    return told
+    return members
 
 
 def read_line(line: bytes) -> LogEntry | LostLines:
-    """The values of a line, without its end. `LogEntryError` where it is none of an access log;
+    """The values of a line, without its end. `LogEntryError` if it is not a line of an access log;
     further members are passed over."""
-    told = _object(line)
-    lost = told.get("lost")
+    members = _object(line)
+    lost = members.get("lost")
     if type(lost) is int and 0 <= lost < GREATEST:
-        return LostLines(None if told.get("time") is None else seconds_of(told["time"]), lost)
-    entry = LogEntry._make((seconds_of(told.get("time")), *_values(told)))
+        return LostLines(None if members.get("time") is None else seconds_of(members["time"]), lost)
+    entry = LogEntry._make((seconds_of(members.get("time")), *_values(members)))
     if entry.service not in CLIENT_SERVICES or entry.end not in ENDS:
         raise LogEntryError("its service or end is not one that a line can have")
     return entry
@@ -207,12 +207,12 @@ def read_line(line: bytes) -> LogEntry | LostLines:
 
 def written(entry: LogEntry) -> bytes:
     """The line of an entry, with its end, as the switch writes it."""
-    told = {
+    members = {
         name: value
         for name, value in entry._asdict().items()
         if value is not None or name not in OPTIONAL
     }
-    return (json.dumps({**told, "time": time_text(entry.time)}) + "\n").encode("ascii")
+    return (json.dumps({**members, "time": time_text(entry.time)}) + "\n").encode("ascii")
 
 
 class Batch(NamedTuple):
@@ -261,8 +261,7 @@ class OpenLog:
         self.place = start + before.rfind(b"\n") + 1
 
     def lines(self) -> list[bytes]:
-        """The whole lines that have come, of one piece at most; empty where no more are there
-        now."""
+        """The whole lines that have come, of one piece at most; empty if no more are there now."""
         if os.fstat(self.file.fileno()).st_size < self.place:
             self.place, self.part = 0, b""  # the file was cut
         piece = os.pread(self.file.fileno(), PIECE, self.place)
@@ -288,8 +287,8 @@ class Follower:
     has taken its place."""
 
     def __init__(self, path: str, backlog: int = 0) -> None:
-        """Reads from the end of the file on, or from so many bytes before it. `fault` says why
-        nothing is read, where it is."""
+        """Reads from the end of the file on, or from `backlog` bytes before it. If nothing is read,
+        `fault` says why."""
         self.path = path
         self.files: list[OpenLog] = []
         self.fault = ""
@@ -298,7 +297,7 @@ class Follower:
         self._open(backlog)
 
     def _open(self, backlog: int | None) -> None:
-        """Opens the file that is at the path now; from its begin on where no backlog is told."""
+        """Opens the file that is at the path now; from its begin on if no backlog is given."""
         try:
             found = os.stat(self.path)
             if not stat.S_ISREG(found.st_mode):

@@ -1,4 +1,4 @@
-"""Words of a command line, read into values. `argparse` shows the message of each that is none."""
+"""Words of a command line, read into values. `argparse` shows the message of each that is wrong."""
 import argparse
 import decimal
 import math
@@ -34,7 +34,7 @@ def numbered_port(text: str, title: str, other: str = "") -> int:
 
 
 def number_of(text: str) -> float:
-    """A number that is finite; not a number where it is none."""
+    """A number that is finite; `nan` if the text is not such a number."""
     try:
         number = float(text)
     except ValueError:
@@ -54,10 +54,10 @@ def seconds_of(text: str) -> float:
 def share_of(text: str) -> float:
     """The share that a text such as `1%` tells: the float that is nearest, as 7 / 1000 is for
     0.7%."""
-    told = text.removesuffix("%")
-    if not text.endswith("%") or not 0 <= number_of(told) <= 100:
+    percentage = text.removesuffix("%")
+    if not text.endswith("%") or not 0 <= number_of(percentage) <= 100:
         raise argparse.ArgumentTypeError(f"a percentage is expected, such as 1%, and not {text!r}")
-    return float(decimal.Decimal(told) / 100)
+    return float(decimal.Decimal(percentage) / 100)
 
 
 def count_of(text: str) -> int:

@@ -27,7 +27,7 @@ from bg_switch_tools.switch.phases import Phase
 from bg_switch_tools.switch.replies import SAME_TEMPLATE, reply_in
 from bg_switch_tools.switch.reports import Report, ReportError, as_json, read_report
 
-WAIT = 10.0  # seconds within which a switch answers, where nothing else is said
+WAIT = 10.0  # seconds within which a switch answers by default
 
 
 class Answer(NamedTuple):
@@ -81,23 +81,23 @@ def _not_sent(line: bytes, why: str) -> Answer:
 
 class Switch:
     """A switch that takes lines at a control port or a control socket. Each call has a connection
-    of its own, and ends with `UnreachableError` where the switch gives no answer within `wait`
+    of its own, and ends with `UnreachableError` if the switch gives no answer within `wait`
     seconds."""
 
     def __init__(self, control: Control, wait: float = WAIT, within: float | None = None) -> None:
-        """With `within`, lines that give an event have a time limit: so many seconds from now."""
+        """With `within`, lines that give an event have a time limit: `within` seconds from now."""
         self.control = control
         self.wait = wait
         self.time_limit = None if within is None else boot_clock() + within
 
     def _in_time(self, line: bytes) -> bytes:
-        """The line with its time limit, where there is one and the line gives an event."""
+        """The line with its time limit, if there is one and the line gives an event."""
         if self.time_limit is None:
             return line
         return in_time(milliseconds_of(self.time_limit), line)
 
     def report(self, wait: float | None = None) -> Report | None:
-        """The state; None where no book is open. `ReportError` where what answers is no switch."""
+        """The state; None if no book is open. `ReportError` if what answers is not a switch."""
         return ask_report(self.control, self.wait if wait is None else wait)
 
     def deploy(self, name: str, ports: Sequence[int], is_idempotent: bool = False) -> Answer:
@@ -170,12 +170,12 @@ class Switch:
             lines = sent(connection, line, self.wait)
             if reply_in(lines[0]) == SAME_TEMPLATE and before and is_idempotent:
                 return _deployed_before(line, lines, before)
-            note = _made(connection, before) if _was_carried_out(lines) and before else None
+            note = _deploy_note(connection, before) if _was_carried_out(lines) and before else None
         return _answer(line, lines, note)
 
 
-def _made(connection: Connection, before: Report) -> str | None:
-    """What a deploy has made, by a report after it; None where the switch gives none any more."""
+def _deploy_note(connection: Connection, before: Report) -> str | None:
+    """What a deploy has made, by a report after it; None if the switch no longer gives a report."""
     try:
         after = connection.ask_report()
     except (UnreachableError, ReportError):

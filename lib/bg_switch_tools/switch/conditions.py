@@ -15,8 +15,8 @@ CONDITION_SYNTAX = "phase=PHASE, active=NAME, preview=NAME, stable=NAME, newest=
 
 
 class Outlook(NamedTuple):
-    """Whether a condition holds. Where it doesn't and cannot hold unless a line is sent, `never`
-    says why."""
+    """Whether a condition holds. If it doesn't and cannot hold unless a line is sent, `never` says
+    why."""
 
     holds: bool
     never: str = ""
@@ -44,7 +44,7 @@ class SeenRevisions:
 class Condition(Protocol):
     """A condition."""
 
-    def outlook(self, report: Report, seen: SeenRevisions) -> Outlook:
+    def outlook(self, report: Report, seen_revisions: SeenRevisions) -> Outlook:
         """Whether it holds by this report, or can come to hold."""
 
 
@@ -71,8 +71,8 @@ class PhaseIs:
 
     phase: Phase
 
-    def outlook(self, report: Report, seen: SeenRevisions) -> Outlook:
-        if report.newest.number != seen.newest:
+    def outlook(self, report: Report, seen_revisions: SeenRevisions) -> Outlook:
+        if report.newest.number != seen_revisions.newest:
             return Outlook(
                 False, f"{report.newest.name} took the place of the revision that it waits for"
             )
@@ -95,11 +95,11 @@ class ServiceIs:
     service: str
     name: str
 
-    def outlook(self, report: Report, seen: SeenRevisions) -> Outlook:
+    def outlook(self, report: Report, seen_revisions: SeenRevisions) -> Outlook:
         if report.service(self.service).name == self.name:
             return HOLDS
         exists = report.named(self.name) is not None
-        if self.service == "newest" and not exists and self.name not in seen.names:
+        if self.service == "newest" and not exists and self.name not in seen_revisions.names:
             return MAY_COME  # the controller may deploy it by its plan
         if not exists:
             return _no_revision(self.name)
@@ -115,14 +115,14 @@ class ServiceIs:
 
 @dataclasses.dataclass(frozen=True)
 class OpenAre:
-    """The revision of this name has so many open requests."""
+    """The revision of this name has `count` open requests."""
 
     name: str
     count: int
 
-    def outlook(self, report: Report, seen: SeenRevisions) -> Outlook:
+    def outlook(self, report: Report, seen_revisions: SeenRevisions) -> Outlook:
         revision = report.named(self.name)
-        if revision is None and self.name not in seen.names:
+        if revision is None and self.name not in seen_revisions.names:
             return _no_revision(self.name)
         if (revision.open if revision else 0) == self.count:
             return HOLDS
@@ -137,10 +137,10 @@ class ScaledDown:
 
     name: str
 
-    def outlook(self, report: Report, seen: SeenRevisions) -> Outlook:
+    def outlook(self, report: Report, seen_revisions: SeenRevisions) -> Outlook:
         revision = report.named(self.name)
         if revision is None:
-            return HOLDS if self.name in seen.names else _no_revision(self.name)
+            return HOLDS if self.name in seen_revisions.names else _no_revision(self.name)
         if revision.desired == 0:
             return HOLDS
         if revision.deadline is None and not report.is_running:
@@ -157,7 +157,7 @@ class Settled:
 
 
 def read_condition(text: str) -> Condition:
-    """The condition of a word. `ConditionError` where it is none."""
+    """The condition of a word. `ConditionError` if the word is not a condition."""
     if text == "settled":
         return Settled()
     key, sign, value = text.partition("=")
@@ -189,7 +189,7 @@ class Conditions:
     """Conditions that are to hold at one time."""
 
     def __init__(self, texts: Sequence[str]) -> None:
-        """`ConditionError` where a text is none."""
+        """`ConditionError` if a text is not a condition."""
         self.texts = list(texts)
         self.conditions = [read_condition(text) for text in texts]
         # whose deploy is awaited
@@ -199,7 +199,7 @@ class Conditions:
             for each in self.conditions
             if isinstance(each, ServiceIs) and each.service == "newest"
         ]
-        self.seen = SeenRevisions()
+        self.seen_revisions = SeenRevisions()
 
     def outlook(self, report: Report, coming: str | None = None) -> Outlook:
         """Whether all hold by this report, which is later than those before; `never` tells of the
@@ -208,12 +208,12 @@ class Conditions:
         """
         if coming and coming not in self.newest:
             self.newest.append(coming)
-        self.seen.take_in(report, self.newest)
+        self.seen_revisions.take_in(report, self.newest)
         if coming:
             return MAY_COME
-        outlooks = [condition.outlook(report, self.seen) for condition in self.conditions]
+        outlooks = [condition.outlook(report, self.seen_revisions) for condition in self.conditions]
         # a deploy that is awaited changes what can come
-        if not any(name not in self.seen.names for name in self.newest):
+        if not any(name not in self.seen_revisions.names for name in self.newest):
             for text, outlook in zip(self.texts, outlooks):
                 if outlook.never:
                     return Outlook(
@@ -225,12 +225,11 @@ class Conditions:
 def wrong_condition(
     conditions: Callable[[Sequence[str]], object]
 ) -> Callable[[argparse.Namespace], str]:
-    """Which of the texts that were given is none of these conditions, and why; empty where each is
-    one."""
+    """Which of the given texts is not one of these conditions, and why; empty if each is one."""
 
-    def fault(given: argparse.Namespace) -> str:
+    def fault(options: argparse.Namespace) -> str:
         try:
-            conditions(given.conditions)
+            conditions(options.conditions)
         except ConditionError as wrong:
             return str(wrong)
         return ""

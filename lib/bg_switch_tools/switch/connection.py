@@ -38,8 +38,8 @@ class Connection:
     which `allow` sets."""
 
     def __init__(self, control: Control, wait: float) -> None:
-        """Connects within `wait` seconds, since the switch may be starting. `UnreachableError`
-        where that fails."""
+        """Connects within `wait` seconds, since the switch may be starting. `UnreachableError` if
+        that fails."""
         self.control = control
         self.place = place_of(control)
         self.wait = wait
@@ -97,7 +97,7 @@ class Connection:
         return f"{place} can't be reached: {error.strerror}"
 
     def send(self, *lines: bytes) -> None:
-        """Sends lines in one piece. `UnreachableError` where the switch takes them no more."""
+        """Sends lines in one piece. `UnreachableError` if the switch takes them no more."""
         self.socket.settimeout(self._left())
         try:
             self.socket.sendall(b"".join(line + b"\n" for line in lines))
@@ -107,7 +107,7 @@ class Connection:
             ) from None
 
     def receive(self) -> bytes:
-        """The bytes that come next; none where the connection has ended. `TimeoutError` past the
+        """The bytes that come next; empty if the connection has ended. `TimeoutError` past the
         deadline."""
         if time.monotonic() >= self.deadline:
             raise TimeoutError
@@ -118,8 +118,8 @@ class Connection:
             return b""
 
     def receive_line(self) -> str:
-        """The next line of a reply. `UnreachableError` where none comes in time, or the connection
-        has ended."""
+        """The next line of a reply. `UnreachableError` if none comes in time, or the connection has
+        ended."""
         while b"\n" not in self.unread:
             try:
                 piece = self.receive()
@@ -146,14 +146,14 @@ class Connection:
 
     def reply_to(self, line: bytes) -> list[str]:
         """The lines of the reply to a line that was sent. A report has several; every other reply
-        has one. `UnreachableError` where the switch takes no lines of this user."""
+        has one. `UnreachableError` if the switch takes no lines of this user."""
         first = self.receive_line()
         if first == USER_REFUSED:
             raise self._not_allowed()
         return self._report_from(first) if is_report(line) else [first]
 
     def _report_from(self, first: str) -> list[str]:
-        """The lines of a report that begins with this one; this one alone where it is a refusal."""
+        """The lines of a report that begins with this one; this one alone if it is a refusal."""
         lines, begin = [first], reply_in(first)
         if begin and not begin.was_carried_out:
             return lines
@@ -164,7 +164,7 @@ class Connection:
         return lines
 
     def read(self, text: str) -> Reply:
-        """The reply of its first line. `UnreachableError` where it is none."""
+        """The reply of its first line. `UnreachableError` if it is not a reply."""
         try:
             return read_reply(text)
         except ReplyError:
@@ -196,12 +196,12 @@ class Connection:
         return [self.read(reply[0]) for reply in self.answers([line.encoded() for line in lines])]
 
     def ask_report(self) -> Report | None:
-        """The report; None where no book is open. `ReportError` where what comes is none."""
+        """The report; None if no book is open. `ReportError` if what comes is not a report."""
         return read_report(self.answer(AskReport().encoded()))
 
     def quit(self) -> None:
         """Sends `quit`, which has no reply, and waits up to the deadline for the switch to end the
-        connection. `UnreachableError` where it takes no lines of this user."""
+        connection. `UnreachableError` if it takes no lines of this user."""
         self.send(Quit().encoded())
         got = b""
         try:
@@ -217,7 +217,7 @@ def ask(control: Control, line: bytes, wait: float) -> list[str]:
     """Sends a line on a connection of its own, and gives the lines of its reply; none for `quit`.
 
     The line is sent only once the switch has answered a `report` on this connection. So no line is
-    carried out later that this call gave up. `UnreachableError` where the switch does not answer
+    carried out later that this call gave up. `UnreachableError` if the switch does not answer
     within `wait` seconds."""
     with Connection(control, wait) as connection:
         state = connection.answer(AskReport().encoded())
@@ -227,8 +227,8 @@ def ask(control: Control, line: bytes, wait: float) -> list[str]:
 
 
 def ask_report(control: Control, wait: float) -> Report | None:
-    """The report, on a connection of its own; None where no book is open. `ReportError` where what
-    answers is no switch."""
+    """The report, on a connection of its own; None if no book is open. `ReportError` if what
+    answers is not a switch."""
     return read_report(ask(control, AskReport().encoded(), wait))
 
 

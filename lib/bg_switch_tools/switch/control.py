@@ -26,14 +26,14 @@ def is_path(text: str) -> bool:
 
 
 def connected(control: Control, wait: float) -> socket.socket:
-    """A connection, made within `wait` seconds. `OSError` where there is none."""
+    """A connection, made within `wait` seconds. `OSError` if none was made."""
     if isinstance(control, int):
         return socket.create_connection((HOST, control), timeout=wait)
-    made = socket.socket(socket.AF_UNIX)
+    connection = socket.socket(socket.AF_UNIX)
     try:
-        made.settimeout(wait)
-        made.connect(control)
+        connection.settimeout(wait)
+        connection.connect(control)
     except OSError:
-        made.close()
+        connection.close()
         raise
-    return made
+    return connection

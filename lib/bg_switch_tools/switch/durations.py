@@ -1,5 +1,5 @@
 """Durations and limits as words of a command line: `60`, `60s`, `1m`. `argparse` shows the message
-of each that is none."""
+of each that is wrong."""
 import argparse
 import math
 

@@ -9,7 +9,7 @@ import time
 from collections.abc import Callable, Mapping
 from types import FrameType
 
-REFUSED = 1  # the exit status where the input or the output fails
+REFUSED = 1  # the exit status if the input or the output fails
 INTERRUPTED = 130  # that after ctrl-C, as a shell has it
 LOOK = 0.05  # seconds between two looks at whether a signal has come
 
@@ -17,7 +17,7 @@ LOOK = 0.05  # seconds between two looks at whether a signal has come
 @dataclasses.dataclass(frozen=True)
 class End:
     """How a run ends that an exception prevents: its exit status, and what is told of the
-    exception, which is its text where nothing else is said."""
+    exception, which is its text by default."""
 
     status: int
     text: Callable[[Exception], str] = str

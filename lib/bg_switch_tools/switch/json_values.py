@@ -30,7 +30,7 @@ class JsonObject(dict[str, object]):
 
 
 def decoded(text: bytes) -> object:
-    """The value of a text of JSON in UTF-8. `ValueError` where it is none, or nested too deep."""
+    """The value of a text of JSON in UTF-8. `ValueError` if it is not JSON, or nested too deep."""
 
     def refuse(name: str) -> object:
         raise ValueError(f"{name} is not a JSON value")
@@ -62,26 +62,26 @@ class Judge:
         self.problems.append(f"{place}: {problem}" if place else problem)
 
     def members(
-        self, told: object, place: str, known: Sequence[str], needed: Iterable[str] = ()
+        self, value: object, place: str, known: Sequence[str], needed: Iterable[str] = ()
     ) -> JsonObject:
-        """The members of an object that has no other keys than these; none where it is not an
+        """The members of an object that has no other keys than these; empty if it is not an
         object."""
-        if not isinstance(told, JsonObject):
-            self.note(place or self.whole, f"{shown(told)} is not an object")
+        if not isinstance(value, JsonObject):
+            self.note(place or self.whole, f"{shown(value)} is not an object")
             return JsonObject([])
         prefix = f"{place}." if place else ""
-        for key in told:
+        for key in value:
             if key not in known:
                 self.note(
                     f"{prefix}{self.key_shown(key)}",
                     f"there is no such key; {self.nearest(key, known)}",
                 )
-        for key in told.repeated:
+        for key in value.repeated:
             self.note(f"{prefix}{self.key_shown(key)}", "is there more than once")
         for key in needed:
-            if key not in told:
+            if key not in value:
                 self.note(f"{prefix}{key}", "is missing")
-        return told
+        return value
 
     @staticmethod
     def key_shown(key: str) -> str:
@@ -98,111 +98,114 @@ class Judge:
 
     def member(
         self,
-        told: JsonObject,
+        members: JsonObject,
         key: str,
         place: str,
         read: Callable[[object, str], Value],
         default: Value,
     ) -> Value:
-        """The value of a key, as `read` reads it, or the default where the key isn't there."""
-        return read(told[key], f"{place}.{key}" if place else key) if key in told else default
+        """The value of a key, as `read` reads it, or the default if the key isn't there."""
+        return read(members[key], f"{place}.{key}" if place else key) if key in members else default
 
-    def number(self, told: object, place: str, least: float, most: float) -> float:
-        """A number between these two. The least where it is none."""
-        if type(told) not in (int, float) or not isinstance(told, (int, float)):
-            self.note(place, f"{shown(told)} is not a number")
-        elif told < least:
-            self.note(place, f"{shown(told)} is below {least:g}")
-        elif told > most:
-            self.note(place, f"{shown(told)} is above {most:.15g}")
+    def number(self, value: object, place: str, least: float, most: float) -> float:
+        """A number between these two. The least if it is not such a number."""
+        if type(value) not in (int, float) or not isinstance(value, (int, float)):
+            self.note(place, f"{shown(value)} is not a number")
+        elif value < least:
+            self.note(place, f"{shown(value)} is below {least:g}")
+        elif value > most:
+            self.note(place, f"{shown(value)} is above {most:.15g}")
         else:
-            return told
+            return value
         return least
 
-    def whole_number(self, told: object, place: str, least: int, most: int) -> int:
-        if type(told) is float:
-            self.note(place, f"{shown(told)} is not a whole number")
+    def whole_number(self, value: object, place: str, least: int, most: int) -> int:
+        if type(value) is float:
+            self.note(place, f"{shown(value)} is not a whole number")
             return least
-        return int(self.number(told, place, least, most))
+        return int(self.number(value, place, least, most))
 
-    def flag(self, told: object, place: str) -> bool:
-        if not isinstance(told, bool):
-            self.note(place, f"{shown(told)} is neither true nor false")
-        return told is True
+    def flag(self, value: object, place: str) -> bool:
+        if not isinstance(value, bool):
+            self.note(place, f"{shown(value)} is neither true nor false")
+        return value is True
 
-    def text(self, told: object, place: str) -> str:
-        if isinstance(told, str):
-            return told
-        self.note(place, f"{shown(told)} is not a text")
+    def text(self, value: object, place: str) -> str:
+        if isinstance(value, str):
+            return value
+        self.note(place, f"{shown(value)} is not a text")
         return ""
 
-    def path(self, told: object, place: str) -> str:
+    def path(self, value: object, place: str) -> str:
         """The path of a request: printable ASCII that begins with a slash."""
-        if isinstance(told, str) and PATH.fullmatch(told):
-            return told
-        self.note(place, f'{shown(told)} is not a path, such as "/health"')
+        if isinstance(value, str) and PATH.fullmatch(value):
+            return value
+        self.note(place, f'{shown(value)} is not a path, such as "/health"')
         return "/"
 
-    def command(self, told: object, place: str) -> tuple[str, ...]:
+    def command(self, value: object, place: str) -> tuple[str, ...]:
         """A command as a list of words, the program first."""
-        if isinstance(told, str):
+        if isinstance(value, str):
             self.note(
-                place, f"{shown(told)} is not a list of words, such as {json.dumps(split(told))}"
+                place, f"{shown(value)} is not a list of words, such as {json.dumps(split(value))}"
             )
         elif (
-            not isinstance(told, list)
-            or not told
-            or not all(isinstance(word, str) for word in told)
+            not isinstance(value, list)
+            or not value
+            or not all(isinstance(word, str) for word in value)
         ):
             self.note(
-                place, f'{shown(told)} is not a list of words, such as ["./smoke_test.sh", "8081"]'
+                place, f'{shown(value)} is not a list of words, such as ["./smoke_test.sh", "8081"]'
             )
-        elif not told[0] or not all(is_argument(word) for word in told):
-            self.note(place, f"{shown(told)} has a word that no command can have")
+        elif not value[0] or not all(is_argument(word) for word in value):
+            self.note(place, f"{shown(value)} has a word that no command can have")
         else:
-            return tuple(told)
+            return tuple(value)
         return ()
 
-    def control(self, told: object, place: str) -> Control:
+    def control(self, value: object, place: str) -> Control:
         """A control port, or the absolute path of a control socket."""
-        if not isinstance(told, str) or "/" not in told:
-            return self.whole_number(told, place, 1, GREATEST_PORT)
-        if ABSOLUTE.fullmatch(told) is None or len(told) > LONGEST_PATH:
+        if not isinstance(value, str) or "/" not in value:
+            return self.whole_number(value, place, 1, GREATEST_PORT)
+        if ABSOLUTE.fullmatch(value) is None or len(value) > LONGEST_PATH:
             self.note(
                 place,
-                f"{shown(told)} is not the absolute path of a socket: / and at most {LONGEST_PATH - 1} further "
+                f"{shown(value)} is not the absolute path of a socket: / and at most {LONGEST_PATH - 1} further "
                 "printable characters of ASCII",
             )
-        return told
+        return value
 
-    def controls(self, told: object, place: str) -> tuple[Control, ...]:
+    def controls(self, value: object, place: str) -> tuple[Control, ...]:
         """Control ports and control sockets, 64 at most."""
-        if not isinstance(told, list) or len(told) > MOST_PORTS:
-            self.note(place, f"{shown(told)} is not a list of at most {MOST_PORTS} ports and paths")
+        if not isinstance(value, list) or len(value) > MOST_PORTS:
+            self.note(
+                place, f"{shown(value)} is not a list of at most {MOST_PORTS} ports and paths"
+            )
             return ()
-        return tuple(self.control(one, f"{place}[{number}]") for number, one in enumerate(told))
+        return tuple(self.control(one, f"{place}[{number}]") for number, one in enumerate(value))
 
-    def name(self, told: object, place: str) -> str:
+    def name(self, value: object, place: str) -> str:
         """A revision's name, by the switch's rule."""
-        if isinstance(told, str) and NAME.fullmatch(told):
-            return told
-        self.note(place, f"{shown(told)} is not a name: {REFUSALS['BadName']}")
+        if isinstance(value, str) and NAME.fullmatch(value):
+            return value
+        self.note(place, f"{shown(value)} is not a name: {REFUSALS['BadName']}")
         return ""
 
-    def ports(self, told: object, place: str) -> tuple[int, ...]:
+    def ports(self, value: object, place: str) -> tuple[int, ...]:
         """A revision's ports, by the switch's rule: distinct numbers from 1 to 65535, 64 at
         most."""
-        if not isinstance(told, list) or not 1 <= len(told) <= MOST_PORTS:
-            self.note(place, f"{shown(told)} is not a list of 1 to {MOST_PORTS} ports")
+        if not isinstance(value, list) or not 1 <= len(value) <= MOST_PORTS:
+            self.note(place, f"{shown(value)} is not a list of 1 to {MOST_PORTS} ports")
             return ()
         ports = tuple(
             self.whole_number(port, f"{place}[{number}]", 1, GREATEST_PORT)
-            for number, port in enumerate(told)
+            for number, port in enumerate(value)
         )
-        for number, port in enumerate(told):
-            if port in told[:number]:
+        for number, port in enumerate(value):
+            if port in value[:number]:
                 self.note(
-                    f"{place}[{number}]", f"{shown(port)} is already at {place}[{told.index(port)}]"
+                    f"{place}[{number}]",
+                    f"{shown(port)} is already at {place}[{value.index(port)}]",
                 )
         return ports
 

@@ -51,7 +51,7 @@ class Line(abc.ABC):
     @classmethod
     @abc.abstractmethod
     def read(cls, words: Sequence[str]) -> Self:
-        """The line of the words that follow the first one. `LineError` where they are wrong."""
+        """The line of the words that follow the first one. `LineError` if they are wrong."""
 
     def __str__(self) -> str:
         return " ".join(map(str, (self.word, *self.arguments())))
@@ -121,7 +121,7 @@ class Open(_WithRevision):
 
 @dataclasses.dataclass(frozen=True)
 class Available(Event):
-    """So many endpoints of the revision of this number can take requests."""
+    """`count` endpoints of the revision of this number can take requests."""
 
     revision: int
     count: int
@@ -144,7 +144,7 @@ class Deploy(_WithRevision, Event):
 
 @dataclasses.dataclass(frozen=True)
 class Tick(Event):
-    """The time is so many seconds from the start."""
+    """The time is `moment` seconds from the start."""
 
     moment: int
     word = "tick"
@@ -283,7 +283,8 @@ def _read(words: Sequence[str]) -> Line:
 
 
 def read_line(text: bytes) -> Line:
-    """The line of a text without its LF, as the switch reads it. `LineError` where it is none."""
+    """The line of a text without its LF, as the switch reads it. `LineError` if it is not a
+    line."""
     if len(text.removesuffix(b"\r")) > LONGEST_LINE:
         raise LineError("TooLong")
     if not all(byte in PRINTABLE for byte in text.removesuffix(b"\r")):
@@ -292,7 +293,7 @@ def read_line(text: bytes) -> Line:
 
 
 def line_in(text: bytes) -> Line | None:
-    """The same; None where it is none."""
+    """The same; None if it is not a line."""
     try:
         return read_line(text)
     except LineError:
@@ -315,8 +316,8 @@ def is_quit(text: bytes) -> bool:
 
 
 def in_time(milliseconds: int, text: bytes) -> bytes:
-    """What a person wrote, with a time limit where it begins as an event does. What is wrong with
-    it, the switch says."""
+    """What a person wrote, with a time limit if it begins as an event does. What is wrong with it,
+    the switch says."""
     words = words_of(text)
     if not words or words[0].decode("latin-1") not in EVENT_WORDS:
         return text

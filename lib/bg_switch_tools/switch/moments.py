@@ -25,7 +25,7 @@ class Clock:
 
 
 def believed(moment: int, since: int, now: float) -> int:
-    """The moment, or the latest one that can be true where that is earlier: a day after the seconds
+    """The moment, or the latest one that can be true if that is earlier: a day after the seconds
     that have passed since the moment was 0. `since` and `now` are seconds of the system's clock
     (Unix time)."""
     return max(0, min(moment, int(now - since) + DAY))

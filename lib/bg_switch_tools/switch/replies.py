@@ -31,8 +31,7 @@ class Reply(abc.ABC):
 
     @property
     def meaning(self) -> str | None:
-        """What a refusal or a fault means, and a hint where there is one; None for any other
-        reply."""
+        """What a refusal or a fault means, and a hint if there is one; None for any other reply."""
         return None
 
     def with_meaning(self) -> str:
@@ -49,13 +48,13 @@ class _WithNumber(Reply):
 
 
 class Done(_WithNumber):
-    """The line was carried out, and the switch then took so many steps by itself."""
+    """The line was carried out, and the switch then took this number of steps by itself."""
 
     word = "ok"
 
 
 class Compacted(_WithNumber):
-    """So many entries of the history were dropped."""
+    """This number of entries of the history was dropped."""
 
     word = "compacted"
 
@@ -111,17 +110,17 @@ NAMED: Mapping[str, type[_WithName]] = {kind.word: kind for kind in (Refused, Fa
 
 
 def read_reply(text: str) -> Reply:
-    """The reply of the first line of one. `ReplyError` where it is none."""
-    word, _, told = text.partition(" ")
-    if word in NUMBERED and NUMBER.fullmatch(told):
-        return NUMBERED[word](int(told))
-    if word in NAMED and NAME.fullmatch(told):
-        return NAMED[word](told)
+    """The reply of the first line of one. `ReplyError` if it is not a reply."""
+    word, _, rest = text.partition(" ")
+    if word in NUMBERED and NUMBER.fullmatch(rest):
+        return NUMBERED[word](int(rest))
+    if word in NAMED and NAME.fullmatch(rest):
+        return NAMED[word](rest)
     raise ReplyError(f"{text[:LONGEST_TOLD]!r} is no reply of a switch")
 
 
 def reply_in(text: str) -> Reply | None:
-    """The same; None where it is none."""
+    """The same; None if it is not a reply."""
     try:
         return read_reply(text)
     except ReplyError:
@@ -129,7 +128,7 @@ def reply_in(text: str) -> Reply | None:
 
 
 def with_meaning(text: str) -> str:
-    """A line of a reply as it came, and after it what it means where it is a refusal or a fault."""
+    """A line of a reply as it came, and after it what it means if it is a refusal or a fault."""
     reply = reply_in(text)
     return reply.with_meaning() if reply else text
 

@@ -7,7 +7,7 @@ from bg_switch_tools.switch.phases import Phase
 from bg_switch_tools.switch.reports import SERVICES, Report, Revision
 
 
-def _told(deadline: int | None) -> str:
+def _moment_text(deadline: int | None) -> str:
     return "none" if deadline is None else str(deadline)
 
 
@@ -20,7 +20,7 @@ def _revision_changes(before: Revision, now: Revision) -> Iterator[str]:
     if before.available != now.available:
         yield f"{title}: available {before.available} -> {now.available}"
     if before.deadline != now.deadline:
-        yield f"{title}: scale-down at moment {_told(before.deadline)} -> {_told(now.deadline)}"
+        yield f"{title}: scale-down at moment {_moment_text(before.deadline)} -> {_moment_text(now.deadline)}"
     if before.draining != now.draining:
         yield f"{title}: " + (
             f"draining, {now.open} open" if now.draining else "no longer draining"

@@ -59,7 +59,7 @@ class Report:
         return self.phase in RUNNING
 
     def named(self, name: str) -> Revision | None:
-        """The revision that has this name, where one exists. No two that exist have one name."""
+        """The revision that has this name, if one exists. No two that exist have one name."""
         return next(
             (revision for revision in self.revisions.values() if revision.name == name), None
         )
@@ -113,8 +113,8 @@ def _read_values(lines: Sequence[str]) -> Report:
 
 
 def read_report(lines: Sequence[str]) -> Report | None:
-    """The report of these lines, or None where they say that no book is open. `ReportError` where
-    they are neither."""
+    """The report of these lines, or None if they say that no book is open. `ReportError` if they
+    are neither."""
     reply = reply_in(lines[0]) if lines else None
     if reply and not reply.was_carried_out:
         return None

@@ -14,10 +14,10 @@ REACHED, NEVER, TOO_LATE = 0, 1, 2
 
 
 class Announcement(NamedTuple):
-    """The name of the revision whose deploy is announced; None where none is. `refusal` says why it
-    is held back, `absence` why no controller deploys it, and `trouble` why it is not deployed yet;
-    empty where nothing prevents it. `overtaken` says that another edit has overtaken a deploy that
-    is awaited."""
+    """The name of the revision whose deploy is announced; None if none is. `refusal` says why it is
+    held back, `absence` why no controller deploys it, and `trouble` why it is not deployed yet;
+    empty if nothing prevents it. `overtaken` says that another edit has overtaken a deploy that is
+    awaited."""
 
     name: str | None = None
     refusal: str = ""

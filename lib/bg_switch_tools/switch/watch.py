@@ -14,11 +14,11 @@ CLEAR = "\x1b[H\x1b[J"  # to the upper left corner, and empties the screen
 MOST_SEEN = 1000  # changes that are kept: no terminal has more rows
 
 
-def fitting(lines: Sequence[str], seen: Sequence[str]) -> str:
+def fitting(lines: Sequence[str], change_lines: Sequence[str]) -> str:
     """The lines, and the last of the changes, as a terminal of this size holds them."""
     width, height = shutil.get_terminal_size()
     room = max(height - len(lines) - 2, 0)
-    shown = [*lines, "", *(seen[-room:] if room else [])]
+    shown = [*lines, "", *(change_lines[-room:] if room else [])]
     return "\n".join(line[:width] for line in shown[: max(height - 1, 1)])
 
 
@@ -36,14 +36,14 @@ def watch(switch: Switch) -> None:
     requests.
     """
     is_terminal, is_first = sys.stdout.isatty(), True
-    seen: list[str] = []
+    change_lines: list[str] = []
     before: Report | None = None
     while True:
         report = switch.report()
         new = [] if is_first else dated(before, report)
-        seen = (seen + new)[-MOST_SEEN:]
+        change_lines = (change_lines + new)[-MOST_SEEN:]
         if is_terminal:
-            print(CLEAR + fitting(draw(report), seen), end="", flush=True)
+            print(CLEAR + fitting(draw(report), change_lines), end="", flush=True)
         elif is_first or new:
             print("\n".join(draw(report) + new) + "\n", flush=True)
         before, is_first = report, False

@@ -14,7 +14,7 @@ def is_promoting(event: Event, name: str) -> bool:
 
 def promoted_attempt(client: EtcdClient, name: str, seconds: float) -> int | None:
     """The id of the attempt of this revision, at the moment at which it begins to be promoted; None
-    where that does not come in so many seconds. `EtcdClientError` where no member of etcd answers.
+    if that does not come within `seconds` seconds. `EtcdClientError` if no member of etcd answers.
     """
     for event in client.follow(seconds):
         if is_promoting(event, name):
@@ -24,7 +24,7 @@ def promoted_attempt(client: EtcdClient, name: str, seconds: float) -> int | Non
 
 def put_abort(client: EtcdClient, attempt: int) -> None:
     """Puts the key of the order, as the command would: a process would come too late.
-    `EtcdClientError` where no member answers."""
+    `EtcdClientError` if no member answers."""
     client.put(
         "order", json.dumps({"version": 1, "order": "abort", "attempt": attempt, "by": "drill"})
     )

@@ -1,7 +1,7 @@
 """An analysis: python3 -m support.fleet.analysis FOLDER HOST STEP PORT. It asks the switch for a
-while, and longer while the file hold-HOST-STEP-REVISION is in the folder. It fails where an answer
-is none of the revision, or where the file bad-HOST-STEP-REVISION is there. It writes down what it
-came to."""
+while, and longer while the file hold-HOST-STEP-REVISION is in the folder. It fails if an answer is
+not the revision's, or if the file bad-HOST-STEP-REVISION is there. It writes down what it came
+to."""
 import json
 import os
 import pathlib

@@ -45,7 +45,7 @@ LONGEST = 30.0  # seconds for which the start of a program is awaited
 
 
 def place_of(program: str) -> str | None:
-    """The path of a program, also where it is not on the path of this user; None where it is not
+    """The path of a program, even if it is not on the path of this user; None if it is not
     installed."""
     return shutil.which(
         program, path=os.pathsep.join((os.environ.get("PATH", os.defpath), *SYSTEM_FOLDERS))
@@ -58,7 +58,7 @@ def missing_packages() -> list[str]:
 
 
 def placed(text: str, places: Mapping[str, str]) -> str:
-    """A text with other words in the place of some. `ValueError` where it lacks one."""
+    """A text with other words in the place of some. `ValueError` if it lacks one."""
     for word, place in places.items():
         if word not in text:
             raise ValueError(f"there is no {word!r} to be replaced")
@@ -133,7 +133,7 @@ class Machines:
         self._await("haproxy", self.front)
 
     def _await(self, program: str, address: Address) -> None:
-        """Waits until a program listens. Where it does not, the demonstration ends with what the
+        """Waits until a program listens. If it does not, the demonstration ends with what the
         program has told."""
         comes(lambda: is_open(address.port) or not self.programs.is_running(program), LONGEST)
         if not is_open(address.port):
@@ -239,8 +239,8 @@ class Machines:
         return placed(text, {port: place for port, place in ports.items() if port in text})
 
     def _machine_text(self, host: str) -> str:
-        """The fleet file of a machine. An analysis fails where `spoil` was called for its machine
-        and its revision."""
+        """The fleet file of a machine. An analysis fails if `spoil` was called for its machine and
+        its revision."""
         places = self.places[host]
         ports = {ACTIVE: str(places.active.port), PREVIEW: str(places.preview.port)}
         told = self._told("fleet.json")
@@ -328,7 +328,7 @@ class Clients:
             self.take(ask(self.front.host, self.front.port))
 
     def take(self, answered: Answered) -> None:
-        """Counts the answer to a request. It has failed where no revision has answered it."""
+        """Counts the answer to a request. It has failed if no revision has answered it."""
         with self.lock:
             self.count += 1
             if answered.status == 200 and answered.revision in REVISIONS:

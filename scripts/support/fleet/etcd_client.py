@@ -112,8 +112,8 @@ class EtcdClient:
         )
 
     def compact(self, revision: int) -> None:
-        """Lets the store drop the values before those of this revision. `EtcdClientError` also
-        where it has done so before."""
+        """Lets the store drop the values before those of this revision. `EtcdClientError` also if
+        it has done so before."""
         self._call("/v3/kv/compaction", {"revision": str(revision)})
 
     def changes(self, first: int) -> Iterator[Event]:
@@ -124,8 +124,8 @@ class EtcdClient:
         self.endpoints.append(self.endpoints.pop(0))
 
     def follow(self, seconds: float) -> Iterator[Event]:
-        """The changes of the keys from now on, as they come, for so many seconds. `EtcdClientError`
-        where no member answers at first."""
+        """The changes of the keys from now on, as they come, for `seconds` seconds.
+        `EtcdClientError` if no member answers at first."""
         after, end = self.revision(), time.monotonic() + seconds
         while (left := end - time.monotonic()) > 0:
             with contextlib.suppress(OSError, ValueError, http.client.HTTPException):
@@ -136,7 +136,7 @@ class EtcdClient:
             time.sleep(PERIOD)
 
     def _watched(self, endpoint: Address, seconds: float, first: int = 1) -> Iterator[Event]:
-        """The changes from a revision on, by one member, which has so many seconds for each of
+        """The changes from a revision on, by one member, which has `seconds` seconds for each of
         them."""
         with contextlib.closing(self._connected(endpoint, seconds)) as connection:
             message = {"create_request": {**self._range(), "start_revision": str(first)}}
@@ -181,7 +181,7 @@ class Recorder:
                     file.write(json.dumps(self.client.poll()._asdict()) + "\n")
 
     def end(self) -> None:
-        """Writes the history. `EtcdClientError` where etcd does not give it in time."""
+        """Writes the history. `EtcdClientError` if etcd does not give it in time."""
         self.ending.set()
         self.thread.join()
         end = time.monotonic() + LONGEST_END

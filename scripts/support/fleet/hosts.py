@@ -1,9 +1,9 @@
-"""The hosts of a drill: network namespaces where this user is root, else one host whose parts have
+"""The hosts of a drill: network namespaces if this user is root, else one host whose parts have
 ports of their own.
 
 In namespaces each host has two networks: one for clients, and one for etcd, which can be cut. On
 one host, relays stand between each host and etcd, and are what is cut: bytes stop, and connections
-stay open, as where packets are lost.
+stay open, as if packets were lost.
 """
 import contextlib
 import ctypes
@@ -83,7 +83,7 @@ class Network(Protocol):
 
 
 def run(words: Sequence[str], is_needed: bool = True) -> None:
-    """Runs a program. `OSError` with what it told where it fails and is needed."""
+    """Runs a program. `OSError` with what it printed if it fails and is needed."""
     done = subprocess.run(words, capture_output=True, text=True, check=False)
     if done.returncode and is_needed:
         raise OSError(f"{' '.join(words)}: {done.stderr.strip()}")
@@ -257,7 +257,7 @@ def free_addresses(count: int) -> list[Address]:
 
 
 def free_block(count: int) -> int:
-    """The first of so many ports of loopback, one after the other, that nothing listens at,
+    """The first of `count` ports of loopback, one after the other, that nothing listens at,
     reserved for this process."""
     return reserved_block(BLOCKS, count)
 

@@ -37,7 +37,7 @@ from support.switch import words_of_serve
 
 NEEDED = ("etcd", "haproxy", "nginx")
 FLEET = "web"
-FIRST_PORT = 9000  # of the endpoints, where each host has a loopback of its own
+FIRST_PORT = 9000  # of the endpoints, if each host has a loopback of its own
 WORKERS, CLIENTS = 4, 4
 LONGEST = 30.0  # seconds for which anything is awaited
 TAIL = 4096  # bytes at the end of a file of looks: more than two of them
@@ -363,8 +363,8 @@ class Lab:
         self._end_outage(what, host, f"{what} continues:")
 
     def delay_switch(self, host: str) -> None:
-        """Stops a switch, which answers late then. That is no outage: no request of it fails, where
-        it is let go on soon."""
+        """Stops a switch, which answers late then. That is no outage: no request of it fails, if it
+        is let go on soon."""
         self.say(f"DELAY switch {host}")
         self.programs.stop(f"switch-{host}")
 
@@ -392,7 +392,7 @@ class Lab:
                 self.restart(what, host)
 
     def compact(self) -> bool:
-        """Lets etcd drop its old values, as far as the recorder has them. False where etcd gives no
+        """Lets etcd drop its old values, as far as the recorder has them. False if etcd gives no
         answer, or has dropped them before."""
         revision = self.recorder.followed if self.recorder else 0
         try:
@@ -403,7 +403,7 @@ class Lab:
         return True
 
     def step_clock(self, host: str, seconds: float) -> None:
-        """Steps the wall clock of the agent of a host: it is so many seconds off from now on."""
+        """Steps the wall clock of the agent of a host: it is `seconds` seconds off from now on."""
         clock_file(self.folder, host).write_text(f"{seconds:.3f}", encoding="ascii")
         self.say(f"STEP the wall clock of the agent of {host} by {seconds:.0f} seconds")
 
@@ -445,13 +445,13 @@ class Lab:
         return {answered.host for answered in answers} == set(self.hosts)
 
     def seen(self) -> Seen:
-        """What the keys of the fleet say; nothing where etcd gives no answer."""
+        """What the keys of the fleet say; nothing if etcd gives no answer."""
         with contextlib.suppress(EtcdClientError):
             return Seen(self.etcd.entries())
         return Seen({})
 
     def keys(self) -> dict[str, str]:
-        """The keys of the fleet; none where etcd gives no answer."""
+        """The keys of the fleet; empty if etcd gives no answer."""
         with contextlib.suppress(EtcdClientError):
             return self.etcd.keys()
         return {}

@@ -14,7 +14,7 @@ PERIOD, WAIT = 0.1, 0.3  # seconds
 
 
 def look_at(control: int) -> Look:
-    """One look. It has no phase where the switch gives no answer in time, or no book is open."""
+    """One look. It has no phase if the switch gives no answer in time, or no book is open."""
     begun = moment()
     try:
         report = read_report(ask(control, b"report", WAIT))

@@ -41,7 +41,7 @@ class Programs:
     ) -> None:
         """Starts a program with this standard input. Its output goes to a file, `NAME.log` if none
         is named; with `is_timed`, each line as an object of JSON with the moment at which it came.
-        `ValueError` where one of this name runs.
+        `ValueError` if one of this name runs.
         """
         if name in self.running:
             raise ValueError(f"{name} runs already")
@@ -84,12 +84,13 @@ class Programs:
         return name in self.running and self.running[name].poll() is None
 
     def kill(self, name: str) -> None:
-        """Ends a program and what it has started as a crash does. Nothing where it does not run."""
+        """Ends a program and what it has started as a crash does. Does nothing if it does not
+        run."""
         if self._is_there(name):
             self._remove(name)
 
     def _is_there(self, name: str) -> bool:
-        """Whether a program was started and not ended since. It is noted where it has ended by
+        """Whether a program was started and not ended since. It is noted if it has ended by
         itself."""
         process = self.running.get(name)
         if process and process.poll() is not None:
@@ -129,8 +130,8 @@ class Programs:
         self.stopped.discard(name)
 
     def end(self, name: str, number: int = signal.SIGTERM) -> int | None:
-        """Ends a program by a signal, and kills it where that takes too long. Gives its status;
-        None where it did not run."""
+        """Ends a program by a signal, and kills it if that takes too long. Gives its status; None
+        if it did not run."""
         self.wake(name)
         if not self._is_there(name):
             return None

@@ -41,7 +41,7 @@ PROMOTE, ABORT, AIMED_ABORT, RETRY, UNDO, SPOIL = (
 )
 COUNTED = (GOOD, BAD_BEFORE, BAD_AFTER, PROMOTE, ABORT, AIMED_ABORT, RETRY, UNDO, SPOIL)
 KINDS, WEIGHTS = (GOOD, BAD_BEFORE, BAD_AFTER), (8, 1, 1)
-# How probable it is at each look that a person does this, where it has an effect.
+# How probable it is at each look that a person does this, if it has an effect.
 PERSONS = {PROMOTE: 0.7, ABORT: 0.03, SPOIL: 0.02, RETRY: 0.1, UNDO: 0.05}
 SPOILED = (1.0, 8.0)  # seconds for which what stands is no plan
 # the last one: it is deleted
@@ -94,7 +94,7 @@ class Due:
 
 class Outcome(NamedTuple):
     """What a drill came to: how often each thing was done, the recording, and the seconds from the
-    last fault until the fleet had settled (None where it did not in time). `failures` are those of
+    last fault until the fleet had settled (None if it did not in time). `failures` are those of
     programs, which the drill has not made.
     """
 
@@ -161,7 +161,7 @@ class RandomDrill:
     # ---- persons ----
 
     def _order(self, seen: Seen) -> None:
-        """A person gives a command, where it has an effect."""
+        """A person gives a command, if it has an effect."""
         can = {
             PROMOTE: seen.is_by_hand and seen.stage == "deploying" and seen.are_all("ready"),
             ABORT: seen.is_running,
@@ -230,7 +230,7 @@ class RandomDrill:
 
 
 def revisions_for(seconds: float) -> int:
-    """How many revisions a drill of so many seconds may need."""
+    """How many revisions a drill of `seconds` seconds may need."""
     return 5 + int(seconds / EACH_PLAN)
 
 

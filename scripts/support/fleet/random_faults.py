@@ -20,9 +20,9 @@ MEMBER_KILLED, MAJORITY_KILLED, SWITCH_KILLED = (
     "switches killed",
 )
 SWITCH_DELAYED, CLOCK_STEPPED = "switches delayed", "wall clocks of agents stepped"
-MACHINE_STEPPED = "wall clock of the machine stepped"  # only where the drill may do so
+MACHINE_STEPPED = "wall clock of the machine stepped"  # only if the drill may do so
 COMPACTED = (
-    "compactions of etcd while a link is cut"  # which has no end, and so is none of the kinds
+    "compactions of etcd while a link is cut"  # which has no end, and so is not one of the kinds
 )
 KINDS = (
     AGENT_KILLED,
@@ -93,7 +93,7 @@ Broken = Collection[tuple[str, str]]  # by what and host
 
 
 class Fault(NamedTuple):
-    """A fault that comes now, and ends after so many seconds."""
+    """A fault that comes now, and ends after `seconds` seconds."""
 
     kind: str
     hosts: tuple[str, ...]
@@ -120,7 +120,7 @@ def next_fault(
     broken: Broken,
     kinds: Sequence[str] = KINDS,
 ) -> Fault | None:
-    """A fault at random; None where it may not come now."""
+    """A fault at random; None if it may not come now."""
     kind = chance.choices(kinds, [WEIGHTS[it] for it in kinds])[0]
     host = chance.choice(hosts)
     seconds = chance.uniform(*SECONDS[kind])
@@ -180,7 +180,7 @@ class Faults:
             self.counts[COMPACTED] += 1
 
     def delay_some_switch(self, seconds: float) -> bool:
-        """A switch at random answers late from now on, for so many seconds. False where one is down
+        """A switch at random answers late from now on, for `seconds` seconds. False if one is down
         or late already."""
         with self.lock:
             fault = Fault(SWITCH_DELAYED, (self.chance.choice(self.lab.hosts),), seconds)

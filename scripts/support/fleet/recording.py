@@ -23,8 +23,8 @@ HISTORY, POLLS, VERDICTS, REQUESTS, OUTAGES = (
 
 
 class Event(NamedTuple):
-    """A change of a key. `revision` is etcd's; `created` that of its creation; `value` is None
-    where the key was deleted."""
+    """A change of a key. `revision` is etcd's; `created` that of its creation; `value` is None if
+    the key was deleted."""
 
     revision: int
     name: str
@@ -43,7 +43,7 @@ class Poll(NamedTuple):
 
 
 class Look(NamedTuple):
-    """What a switch answered between two moments. The phase is empty where it gave no answer."""
+    """What a switch answered between two moments. The phase is empty if it gave no answer."""
 
     begun: float
     ended: float
@@ -90,9 +90,9 @@ class Verdict(NamedTuple):
 
 
 class Answered(NamedTuple):
-    """A client's request. The status is 0 where no answer came. `revision` is the one that
-    answered, and `host` its machine. `stepped` is by how many seconds the wall clock of the machine
-    was stepped meanwhile."""
+    """A client's request. The status is 0 if no answer came. `revision` is the one that answered,
+    and `host` its machine. `stepped` is by how many seconds the wall clock of the machine was
+    stepped meanwhile."""
 
     begun: float
     seconds: float
@@ -134,8 +134,8 @@ def agent_file(host: str) -> str:
 
 
 def _objects(path: pathlib.Path) -> Iterator[dict[str, object]]:
-    """The lines of a file; none where it is missing. The last one may be cut off where its program
-    was killed."""
+    """The lines of a file; empty if it is missing. The last one may be cut off if its program was
+    killed."""
     if path.exists():
         lines = path.read_text(encoding="utf-8").split("\n")
         for line in lines[:-1]:

@@ -160,7 +160,7 @@ class Etcd:
             time.sleep(2)
 
     def measured(self, seconds: float) -> str:
-        """What it takes in so many seconds from now on."""
+        """What it takes in the next `seconds` seconds."""
         begun, spent, calls = time.monotonic(), self.processor_seconds(), self.calls()
         time.sleep(seconds)
         took = time.monotonic() - begun
@@ -174,7 +174,7 @@ class Etcd:
 
 
 def cost(count: int, seconds: float) -> str:
-    """What etcd takes for so many members at rest, over so many seconds."""
+    """What etcd takes for `count` members at rest, over `seconds` seconds."""
     hosts = [f"m{number:03}" for number in range(count)]
     with tempfile.TemporaryDirectory(prefix="bg-rest-") as name:
         folder = pathlib.Path(name)

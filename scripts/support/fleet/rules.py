@@ -1,7 +1,7 @@
 """The rules of a fleet, checked on a recording.
 
-The checks read etcd's keys by themselves and use no code of the fleet. Where moments are compared,
-a rule counts as broken only if it is broken whatever happened between two looks: a write has an
+The checks read etcd's keys by themselves and use no code of the fleet. When moments are compared, a
+rule counts as broken only if it is broken whatever happened between two looks: a write has an
 earliest and a latest moment, by the reads before and after it.
 """
 import collections
@@ -14,7 +14,7 @@ from support.fleet.recording import Answered, Event, Look, Outage, Poll, Promote
 OLDEST_READ = 1.0  # seconds: how old a read may be that a promote rests on
 SLACK = 0.5  # seconds: how late a line of a log or a look may be on a busy machine
 GOING_BACK = 3.0  # seconds in which a machine goes back after its analysis has failed
-PROMOTING = 1200.0  # seconds for which an attempt may be promoting, where its plan does not say it
+PROMOTING = 1200.0  # seconds for which an attempt may be promoting, if its plan does not say it
 LEASE = 10.0  # seconds of each lease of an agent
 # Seconds in which another agent leads after one that was killed: etcd looks for leases that have
 # ended, and the others read.
@@ -87,7 +87,7 @@ class Write(NamedTuple):
 
     def fleet_settings(self) -> dict[str, Any]:
         """The key `fleet` of the plan that the attempt began with, and of the plan before the write
-        where the record keeps none."""
+        if the record keeps none."""
         settings = (self.record.get("plan") or plan_of(self.before.get("plan")) or {}).get(
             "fleet", {}
         )
@@ -95,7 +95,7 @@ class Write(NamedTuple):
 
 
 def plan_of(event: Event | None) -> dict[str, Any] | None:
-    """The plan of a key's value; None where it is none."""
+    """The plan of a key's value; None if the value is not a plan."""
     try:
         plan = json.loads(event.value) if event and event.value else None
     except ValueError:
@@ -163,7 +163,7 @@ class Run:
         ]
 
     def abort_of(self, promote: Promote) -> Write | None:
-        """The abort of the attempt that is promoted; None where there was none."""
+        """The abort of the attempt that is promoted; None if there was no abort."""
         return next(
             (
                 write
@@ -370,7 +370,7 @@ def _is_of_a_step(request: Answered) -> bool:
 
 def _is_excused(run: Run, request: Answered) -> bool:
     """Whether the switch of the machine that answered was killed itself. An answer of the load
-    balancer names no machine: it is excused where the switches of all machines were killed."""
+    balancer names no machine: it is excused if the switches of all machines were killed."""
     hosts = [request.host] if request.host else list(run.recording.looks)
     return bool(hosts) and all(_was_killed(run, host, request) for host in hosts)
 
@@ -428,8 +428,8 @@ def rule_6(run: Run) -> Iterator[str]:
 
 
 def rule_7(run: Run) -> Iterator[str]:
-    """An attempt whose abort was ordered does not go on, and an order goes only where the record
-    has carried it out, or with a line in a leader's log that names it."""
+    """An attempt whose abort was ordered does not go on, and an order goes only if the record has
+    carried it out, or with a line in a leader's log that names it."""
     written = {write.revision: (write.record["id"], write.stage) for write in run.writes}
     told = collections.Counter(
         (each.order, each.attempt, each.by) for each in run.recording.dropped

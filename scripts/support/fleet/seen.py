@@ -14,8 +14,8 @@ class Seen:
         self.entries = entries
 
     def _told(self, name: str) -> dict[str, Any]:
-        """The object of a key; an empty one where there is no such key, or where its value is
-        none."""
+        """The object of a key; an empty one if there is no such key, or if its value is not an
+        object."""
         event = self.entries.get(name)
         try:
             told = json.loads(event.value) if event and event.value else {}
@@ -33,7 +33,7 @@ class Seen:
 
     @property
     def revision(self) -> str:
-        """The revision that the attempt is of; empty where there is no record."""
+        """The revision that the attempt is of; empty if there is no record."""
         return str(self.attempt.get("revision", {}).get("name", ""))
 
     @property
@@ -66,7 +66,7 @@ class Seen:
 
     @property
     def leader(self) -> str:
-        """The host that leads; empty where none does."""
+        """The host that leads; empty if none does."""
         event = self.entries.get("leader")
         return event.value or "" if event else ""
 
@@ -80,8 +80,8 @@ class Seen:
         return f"machines/{host}" not in self.entries
 
     def state(self, host: str) -> str:
-        """What a machine reports of the attempt; empty where it is away, and where it reports of
-        another one."""
+        """What a machine reports of the attempt; empty if it is away, or if it reports of another
+        one."""
         told = self._told(f"machines/{host}")
         return str(told["state"]) if told.get("attempt") == self.id else ""
 

@@ -22,8 +22,8 @@ class Session:
         self.live = 1
 
     def begin(self) -> None:
-        """All machines become members, web-1 is live on them, and clients ask. `TimeoutError` where
-        that does not come, and `ChildProcessError` where a program has failed."""
+        """All machines become members, web-1 is live on them, and clients ask. `TimeoutError` if
+        that does not come, and `ChildProcessError` if a program has failed."""
         self.give("members", "add", *self.lab.hosts)
         self.put(1)
         has_begun = self.until(lambda seen: seen.is_settled) and self.all_select(1, ATTEMPT)
@@ -106,7 +106,7 @@ class Session:
         return comes(agree, longest)
 
     def still_select(self, number: int, seconds: float) -> bool:
-        """Whether all switches select a revision all the time for so many seconds."""
+        """Whether all switches select a revision all the time for `seconds` seconds."""
         return not comes(
             lambda: any(
                 look.is_up and look.active != name_of(number) for look in self.lab.looks().values()
@@ -122,7 +122,7 @@ class Session:
         return ended and self.all_select(self.live)
 
     def status(self) -> str:
-        """What bin/fleet shows, and what the switches select: for people, where something was
+        """What bin/fleet shows, and what the switches select: for people, after something was
         awaited in vain."""
         shown = self.lab.order("status")
         looks = ", ".join(

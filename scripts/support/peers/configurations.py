@@ -12,7 +12,7 @@ SWITCH = "bg_switch"
 MOST_CONNECTIONS = 8192
 BACKLOG = 4096
 CONNECT_SECONDS, MESSAGE_SECONDS = 5, 60
-# More than any run has. nginx closes a connection after so many requests.
+# More than any run has. nginx closes a connection after this number of requests.
 MOST_REQUESTS = 1_000_000_000
 
 
@@ -32,8 +32,8 @@ class Mode(enum.Enum):
         return self is Mode.BOTH
 
 
-# The flags of `serve` for each mode; None where no flags give it. A mode is left out where the help
-# of `serve` does not name its flags.
+# The flags of `serve` for each mode; None if no flags give it. A mode is left out if the help of
+# `serve` does not name its flags.
 SWITCH_FLAGS: Mapping[Mode, tuple[str, ...] | None] = {
     Mode.BOTH: ("--keep-alive",),
     Mode.CLIENT: None,
@@ -107,7 +107,7 @@ backend endpoints
 
 
 def flags_in(help_of_serve: str, mode: Mode) -> tuple[str, ...] | None:
-    """The flags of the switch for a mode; None where there are none, or its help lacks one."""
+    """The flags of the switch for a mode; None if there are none, or its help lacks one."""
     flags = SWITCH_FLAGS[mode]
     if flags is None:
         return None

@@ -109,7 +109,7 @@ def table(found: Mapping[Subject, Figures]) -> Iterator[str]:
 
 
 def as_json(rounds: Iterable[Round]) -> str:
-    """All rounds, as a list of objects. A figure is null where no request was answered well."""
+    """All rounds, as a list of objects. A figure is null if no request was answered well."""
     objects = [
         {"round": one.number, **one.subject._asdict(), **one.figures._asdict()} for one in rounds
     ]

@@ -36,7 +36,7 @@ def threads_of(process: int) -> list[pathlib.Path]:
 
 def thread_times(process: int) -> dict[int, int]:
     """For how many nanoseconds each thread of a family has run, by the number of the thread.
-    `MeasurementError` where none runs."""
+    `MeasurementError` if none runs."""
     times = {}
     for thread in (one for member in family(process) for one in threads_of(member)):
         with contextlib.suppress(OSError):

@@ -39,7 +39,7 @@ class Proxy(NamedTuple):
     concurrency: float = math.inf
 
     def is_measured(self, delay: float, clients: int) -> bool:
-        """Whether its figures say how good it is. Before an endpoint that takes so many seconds, a
+        """Whether its figures say how good it is. Before an endpoint that takes `delay` seconds, a
         switch with fewer requests at a time than clients answers as many as this number lets it."""
         return not delay or clients <= self.concurrency
 
@@ -73,14 +73,14 @@ def told_in(folder: pathlib.Path) -> str:
 
 
 def need(holds: Callable[[], object], what: str, folder: pathlib.Path) -> None:
-    """`MeasurementError` where this does not hold soon."""
+    """`MeasurementError` if this does not hold soon."""
     if not comes(holds, ANSWER_SECONDS):
         raise MeasurementError(f"{what}: {told_in(folder)}")
 
 
 def is_answered(client: http.client.HTTPConnection, mode: Mode) -> bool:
     """Whether a request is answered with 200, and its connection then kept if and only if the mode
-    says so. The client connects where it has no connection."""
+    says so. The client connects if it has no connection."""
     client.request("GET", "/")
     answer = client.getresponse()
     answer.read()
@@ -101,7 +101,7 @@ def answers(port: int, mode: Mode) -> bool:
 
 @contextlib.contextmanager
 def endpoint(delay: float, folder: pathlib.Path) -> Iterator[int]:
-    """The port of an endpoint that answers after so many seconds: a program in C, which is built
+    """The port of an endpoint that answers after `delay` seconds: a program in C, which is built
     into the folder."""
     place = folder / "endpoint"
     place.mkdir()
@@ -133,7 +133,7 @@ PEERS = {
 
 @contextlib.contextmanager
 def peer(name: str, place: Place, mode: Mode, threads: int) -> Iterator[Proxy]:
-    """A peer with so many threads or worker processes."""
+    """A peer with `threads` threads or worker processes."""
     kind = PEERS[name]
     (place.folder / kind.file).write_text(kind.text(place, mode, threads), encoding="ascii")
     with started(kind.words, place.folder) as process:
@@ -191,7 +191,7 @@ def running_switch(
 
 @contextlib.contextmanager
 def switch(place: Place, mode: Mode, concurrency: int, flags: Sequence[str]) -> Iterator[Proxy]:
-    """The switch with so many requests at a time, and the flags of a mode."""
+    """The switch with `concurrency` requests at a time, and the flags of a mode."""
     words = ("--concurrency", str(concurrency), *flags)
     with running_switch([PROGRAM], place, words) as running:
         what = f"the switch does not answer, or not in the mode {mode.value}"

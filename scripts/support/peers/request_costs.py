@@ -23,7 +23,7 @@ TOTALS = re.compile(r"^(?:summary|totals): (\d+)$", re.M)
 
 
 def calls_in(summary: str) -> int:
-    """All system calls of a summary of `strace -c`. `MeasurementError` where it has none."""
+    """All system calls of a summary of `strace -c`. `MeasurementError` if it has none."""
     rows = (line.split() for line in summary.splitlines())
     calls = [
         int(cells[3])
@@ -36,7 +36,7 @@ def calls_in(summary: str) -> int:
 
 
 def instructions_in(profile: str) -> int:
-    """All instructions of a profile of callgrind. `MeasurementError` where it has no sum."""
+    """All instructions of a profile of callgrind. `MeasurementError` if it has no sum."""
     found = TOTALS.search(profile)
     if not found:
         raise MeasurementError("callgrind has written no sum")
@@ -57,7 +57,7 @@ CALLGRIND = Tool(
 
 
 def program_file() -> str:
-    """The program itself, where `bin/bg_switch` of a repository launches it. The launcher has built
+    """The program itself, if `bin/bg_switch` of a repository launches it. The launcher has built
     it."""
     file = pathlib.Path(shutil.which(PROGRAM) or PROGRAM).resolve()
     built = file.parent.parent / "crates" / "bg_switch" / "out" / "bg_switch"
@@ -66,7 +66,7 @@ def program_file() -> str:
 
 
 def ask(port: int, count: int, mode: Mode) -> None:
-    """One client that sends so many requests, one after the other."""
+    """One client that sends `count` requests, one after the other."""
     with contextlib.closing(client_of(port)) as client:
         for number in range(count):
             if not is_answered(client, mode):
@@ -76,7 +76,7 @@ def ask(port: int, count: int, mode: Mode) -> None:
 
 
 def counted(tool: Tool, place: Place, mode: Mode, flags: Sequence[str], requests: int) -> int:
-    """What a tool counts while so many requests are answered."""
+    """What a tool counts while `requests` requests are answered."""
     words = [*tool.words, program_file()]
     with running_switch(words, place, (*CONCURRENCY, *flags)) as switch:
         ask(place.port, requests, mode)

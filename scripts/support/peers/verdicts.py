@@ -7,7 +7,7 @@ from support.peers.figures import Figures, Subject, over
 
 
 class Limits(NamedTuple):
-    """The limits of the ratios. Up to so many clients are few."""
+    """The limits of the ratios. Up to `most_few_clients` clients are few."""
 
     most_few_clients: int
     least_requests_of_few: float

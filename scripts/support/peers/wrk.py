@@ -8,7 +8,7 @@ from support.ports import HOST
 
 # The units in which wrk prints a time, in milliseconds.
 UNITS = {"us": 0.001, "ms": 1.0, "s": 1_000.0, "m": 60_000.0, "h": 3_600_000.0}
-NEVER = float("inf")  # the wait for an answer, where no request was answered well
+NEVER = float("inf")  # the wait for an answer, if no request was answered well
 LONGEST_WAIT = 10  # seconds for which a client waits, until the request counts as an error
 LONGEST_END = 60.0  # seconds that wrk may take beside its run
 CLOSE = "Connection: close"
@@ -32,7 +32,7 @@ class Load(NamedTuple):
 
 
 def milliseconds(text: str) -> float:
-    """A time as wrk prints it. `ValueError` where it is none."""
+    """A time as wrk prints it. `ValueError` if it is not such a time."""
     found = re.fullmatch(r"(\d+(?:\.\d+)?)([a-z]+)", text)
     if not found or found[2] not in UNITS:
         raise ValueError(f"{text!r} is no time of wrk")
@@ -47,7 +47,7 @@ def found_in(printed: str, pattern: re.Pattern[str]) -> str:
 
 
 def load_of(printed: str) -> Load:
-    """What wrk has printed with `--latency`. `ValueError` where a figure is missing."""
+    """What wrk has printed with `--latency`. `ValueError` if a figure is missing."""
     answered = int(found_in(printed, REQUESTS))
     statuses = sum(map(int, STATUSES.findall(printed)))
     sockets = sum(
@@ -76,7 +76,7 @@ def words(port: int, clients: int, seconds: int, is_kept: bool) -> list[str]:
 
 
 def run(port: int, clients: int, seconds: int, is_kept: bool) -> Load:
-    """So many clients for so many seconds."""
+    """`clients` clients for `seconds` seconds."""
     ended = subprocess.run(
         words(port, clients, seconds, is_kept),
         capture_output=True,

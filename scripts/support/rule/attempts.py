@@ -52,7 +52,7 @@ def is_halted(history: History) -> bool:
 
 
 def attempt(history: History) -> Iterator[PlacedEntry]:
-    """The entries of the running attempt, after its begin; none where no attempt runs."""
+    """The entries of the running attempt, after its begin; empty if no attempt runs."""
     bound = newest_bound(history)
     if bound is None or not is_running(history):
         return iter(())
@@ -87,7 +87,7 @@ Phase: TypeAlias = Literal[
 
 
 def phase(history: History) -> Phase | None:
-    """The phase; none where an outcome is due."""
+    """The phase; None if an outcome is due."""
     strategy = history.opening.strategy
     if is_halted(history):
         return "aborted"

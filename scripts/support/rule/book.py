@@ -94,8 +94,7 @@ def report(history: History) -> list[str]:
 
 
 def control_of(history: History, words: list[str]) -> Control | None:
-    """The entry that the words of a line ask for, allowed or not; none where their count is
-    wrong."""
+    """The entry that the words of a line ask for, allowed or not; None if their count is wrong."""
     match words:
         case ["tick", seconds]:
             return Tick("tick", int(seconds))

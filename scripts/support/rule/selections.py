@@ -24,7 +24,7 @@ def selected(history: History) -> set[int]:
 
 
 def selection(history: History, service: Service) -> int | None:
-    """The revision that a service selects; none where the service is not set."""
+    """The revision that a service selects; None if the service is not set."""
     if service == "active":
         return active(history)
     return preview(history) if history.opening.strategy.has_preview else None

@@ -25,7 +25,7 @@ def step(history: History, event: Entry) -> History:
 
 
 def fault(history: History) -> str | None:
-    """Why the history isn't legal and settled; none where it is."""
+    """Why the history isn't legal and settled; None if it is."""
     for entry, before, _ in history.since(0):
         if not is_allowed(before, entry):
             return entry.word

@@ -27,7 +27,7 @@ from support.switch import LISTENING, words_of_serve
 # How long an endpoint is given to tell what was written to it, in seconds.
 LONGEST_RECORD = 20
 FORWARDED = 200
-# A reader that waits is asked again, with so many times the patience, before that is a failure.
+# A reader that waits is asked again, with this many times the patience, before that is a failure.
 PATIENCE = 10.0
 CLOSE = b"Connection: close\r\n"
 TOKEN = re.compile(rb"[!#$%&'*+.^_`|~0-9A-Za-z-]+")
@@ -141,7 +141,7 @@ class Switch:
 
 @contextlib.contextmanager
 def switch(program: Sequence[str] = (PROGRAM,)) -> Iterator[Switch]:
-    """A switch, until the end of the block: the built program, where no other is given."""
+    """A switch, until the end of the block: by default the built program."""
     one = Switch(Recorder(), program)
     try:
         yield one
@@ -208,7 +208,7 @@ class Verdict(enum.Enum):
 
 
 class Judged(NamedTuple):
-    """A reader's reading of a text. `why` is empty where all is as it should be."""
+    """A reader's reading of a text. `why` is empty if all is as it should be."""
 
     forwarded: Forwarded
     verdict: Verdict
@@ -222,9 +222,9 @@ def worst_of(verdicts: Iterable[Verdict]) -> Verdict:
 
 
 def verdict_of(reading: Reading, expected: Sequence[Read], is_documented: bool) -> Verdict:
-    """A reading must be the request, and the one behind it where there is one. Where the page says
-    that the reader differs about such requests, it may refuse the request, or read another method
-    or target, but not find another end of it."""
+    """A reading must be the request, and the one behind it if there is one. If the page says that
+    the reader differs about such requests, it may refuse the request, or read another method or
+    target, but not find another end of it."""
     first, *behind = expected
     if reading == Reading(tuple(expected)):
         return Verdict.ALIKE
@@ -238,7 +238,7 @@ def verdict_of(reading: Reading, expected: Sequence[Read], is_documented: bool) 
 
 def judged(forwarded: Forwarded, reader: Reader, number: int) -> Judged:
     """How a reader reads a text of the switch: with a request behind it, before which it does not
-    ask for the end of the connection, and alone where it does."""
+    ask for the end of the connection, and alone if it does."""
     text = forwarded.text
     try:
         request = strictly_read(text)

@@ -35,7 +35,7 @@ def by_length(body: bytes = HIDDEN) -> bytes:
 
 
 def chunk(data: bytes, line: bytes | None = None) -> bytes:
-    """A chunk, whose line is that of its size where no other is given."""
+    """A chunk, whose line is that of its size if no other is given."""
     return (b"%x\r\n" % len(data) if line is None else line) + data + b"\r\n"
 
 

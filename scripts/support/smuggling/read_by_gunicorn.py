@@ -12,7 +12,7 @@ def shortened(text: bytes) -> bytes:
 
 
 def body_of(environment: dict[str, Any]) -> bytes | None:
-    """The body; None where the input ends before it. A malformed one fails, as in other
+    """The body; None if the input ends before it. A malformed one fails, as in other
     applications."""
     try:
         body: bytes = environment["wsgi.input"].read()

@@ -65,7 +65,7 @@ class Reader(Protocol):
 
     def read(self, stream: bytes, last: bytes, patience: float = 1.0) -> Reading:
         """What it makes of a connection with these bytes, of which the last request has this
-        target. It is given so many times as long as usual."""
+        target. It is given `patience` times as long as usual."""
 
 
 def shortened(text: bytes) -> bytes:
@@ -95,7 +95,7 @@ def read_of(word: bytes) -> Read:
 
 
 def items_in(answers: bytes) -> tuple[Item, ...]:
-    """The answers of a connection. Interim ones count only where they change the protocol."""
+    """The answers of a connection. Interim ones count only if they change the protocol."""
     items, word = list[Item](), b""
     for answer in ANSWER.finditer(answers):
         if answer["read"] is not None:
@@ -114,7 +114,7 @@ def items_in(answers: bytes) -> tuple[Item, ...]:
 
 
 def listened(connection: socket.socket, quiet: float) -> tuple[bytes, bool]:
-    """What comes until the peer ends, or says nothing for so many seconds; and whether it has
+    """What comes until the peer ends, or says nothing for `quiet` seconds; and whether it has
     ended."""
     got = bytearray()
     connection.settimeout(quiet)
@@ -191,7 +191,7 @@ class Case(NamedTuple):
 
 
 def case_of(text: bytes, number: int, count: int) -> Case:
-    """A message with so many requests behind it, the last of which asks for the end of the
+    """A message with `count` requests behind it, the last of which asks for the end of the
     connection."""
     targets = tuple(b"/%s-%d" % (name, number) for name in (b"second", b"third")[:count])
     *before, last = (request(target) for target in targets)

@@ -75,14 +75,14 @@ class Analysis:
         self.is_stopping = False
         self.group: Group | None = None
         self.printed: PrintedLines | None = None
-        told = {
+        variables = {
             "BG_REVISION": judged.revision.name,
             "BG_REVISION_NUMBER": str(judged.number),
             "BG_PORTS": " ".join(map(str, judged.revision.ports)),
             "BG_CONTROL": str(judged.control),
         }
         try:
-            self._run(command, told)
+            self._run(command, variables)
         except (OSError, ValueError) as error:
             self.result, self.reason = ERROR, f"it can't be run: {error}"
 
@@ -103,7 +103,7 @@ class Analysis:
 
     def look(self, patience: float) -> None:
         """Takes in whether it has ended, or has run too long. For the last lines of one that has
-        ended it waits for so many seconds at most."""
+        ended it waits for at most `patience` seconds."""
         if self.group is None or self.result != RUNNING:
             return
         status = self.group.status()
@@ -115,16 +115,16 @@ class Analysis:
         elif time.monotonic() >= self.begun + self.seconds:
             self.result, self.reason = ERROR, f"it has not ended after {self.seconds:g} seconds"
 
-    def told(self) -> AnalysisResult:
+    def as_result(self) -> AnalysisResult:
         """How it stands, with the last lines that it has printed."""
         last = self.printed.last() if self.printed else ()
         reason = self.reason[:LONGEST_REASON]
         return AnalysisResult(self.judged.kind, self.name, self.result, reason, last)
 
     def stop(self, grace: float, why: str) -> threading.Thread | None:
-        """Ends the command and what it has started, where the command still runs: SIGTERM, and
-        `grace` seconds later SIGKILL. The thread, where there is one, ends with them. One without a
-        result is stopped, for this reason."""
+        """Ends the command and what it has started, if the command still runs: SIGTERM, and `grace`
+        seconds later SIGKILL. The thread, if there is one, ends with them. One without a result is
+        stopped, for this reason."""
         if self.result == RUNNING:
             self.result, self.reason = STOPPED, why
         if self.group is None or self.is_stopping:
@@ -180,7 +180,7 @@ class AnalysesOfPhase:
         return SUCCESSFUL if all(run.result == SUCCESSFUL for run in self.runs) else None
 
     def reason(self) -> str:
-        """Why the verdict is what it is: what decides, and why; empty where that is nothing but the
+        """Why the verdict is what it is: what decides, and why; empty if that is nothing but the
         result of the one command."""
         deciding = self.deciding()
         if deciding is None or not deciding.name:
@@ -189,9 +189,9 @@ class AnalysesOfPhase:
         return f"{deciding.name} {HOW[deciding.result]}{why}"
 
     def why_stopped(self) -> str:
-        """Why those that still run are stopped; empty where they go on."""
+        """Why those that still run are stopped; empty if they go on."""
         deciding = self.deciding()
         return f"{deciding.name} {HOW[deciding.result]}" if deciding else ""
 
-    def told(self) -> list[AnalysisResult]:
-        return [run.told() for run in self.runs]
+    def results(self) -> list[AnalysisResult]:
+        return [run.as_result() for run in self.runs]

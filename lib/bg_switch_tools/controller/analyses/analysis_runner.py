@@ -22,11 +22,11 @@ from bg_switch_tools.switch.lines import AnalysisKind, Verdict, VerdictResult
 from bg_switch_tools.switch.reports import Report, Revision
 
 GRACE = 5.0  # seconds between SIGTERM and SIGKILL for an analysis that is stopped
-LAST_GRACE = 0.5  # the same where the controller ends
+LAST_GRACE = 0.5  # the same when the controller ends
 
 
 class AnalysisRunner:
-    """The analyses that run, which are those of one phase: none runs beside them, also where a
+    """The analyses that run, which are those of one phase: none runs beside them, even if a
     controller before this one was killed and has left some behind."""
 
     def __init__(
@@ -73,8 +73,8 @@ class AnalysisRunner:
         for run in running.look():
             if run.name:
                 run.is_told = True
-                told = run.told()
-                self.log.say_result(f"{run.title()}: {told.outcome()}", told.as_json())
+                result = run.as_result()
+                self.log.say_result(f"{run.title()}: {result.outcome()}", result.as_json())
         if why := running.why_stopped():
             for run in running.runs:
                 self._stop(run, why, run.result == RUNNING, GRACE)
@@ -142,15 +142,15 @@ class AnalysisRunner:
                 run.seconds = plan.analyses.seconds
 
     def _stop(self, run: Analysis, why: str, is_told: bool, grace: float) -> None:
-        """Stops an analysis, where it still runs. `is_told` says whether the log tells why."""
+        """Stops an analysis, if it still runs. `is_told` says whether the log tells why."""
         if is_told:
             self.log.say("analysis", f"{run.title()} is stopped: {why}")
         if ending := run.stop(grace, why):
             self.ending.append(ending)
 
     def end(self, why: str, grace: float = GRACE) -> None:
-        """Stops the analyses, where some run. `why` is told, where it is not empty; one with a name
-        that has ended has told its result."""
+        """Stops the analyses, if some run. `why` is told, if it is not empty; one with a name that
+        has ended has told its result."""
         if self.running is None:
             return
         for run in self.running.runs:
@@ -164,10 +164,10 @@ class AnalysisRunner:
         """Keeps how the analyses stand, for who shows it."""
         if self.running:
             judged = self.running.judged
-            self.memory.results.take(judged.number, judged.kind, self.running.told())
+            self.memory.results.take(judged.number, judged.kind, self.running.results())
 
     def end_at_last(self) -> None:
-        """Stops the analyses where the controller ends, and waits for their end for a moment."""
+        """Stops the analyses when the controller ends, and waits for their end for a moment."""
         self.end("the controller ends", LAST_GRACE)
         deadline = time.monotonic() + 2 * LAST_GRACE
         for ending in self.ending:

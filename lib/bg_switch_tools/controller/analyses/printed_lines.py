@@ -15,7 +15,7 @@ BREAK = 0.02  # seconds after a whole piece: a command that prints without end l
 
 
 def shown(line: bytes) -> str:
-    """A line as it is kept: what stands last in it where it was written over, in printable
+    """A line as it is kept: the part that stands last if it was written over, in printable
     characters, and not at any length."""
     parts = [part for part in line.split(b"\r") if part.strip()]
     text = parts[-1][: 4 * LONGEST_LINE].decode("utf-8", "replace") if parts else ""
@@ -26,8 +26,8 @@ def last_shown(text: bytes) -> list[str]:
     """The last lines of a text that show something, as they are kept. Not all of its lines are
     looked at: a command may print much."""
     lines = text.rsplit(b"\n", MOST_LOOKED_AT)[-MOST_LOOKED_AT:]
-    told = filter(None, map(shown, reversed(lines)))
-    return [*itertools.islice(told, MOST_LINES)][::-1]
+    shown_lines = filter(None, map(shown, reversed(lines)))
+    return [*itertools.islice(shown_lines, MOST_LINES)][::-1]
 
 
 class PrintedLines:
@@ -68,9 +68,9 @@ class PrintedLines:
         text, end, self.rest = (self.rest + piece).rpartition(b"\n")
         if self.rest and (is_end or len(self.rest) >= PIECE):
             text, end, self.rest = text + end + self.rest, b"\n", b""
-        if end and (told := last_shown(text)):
+        if end and (last_lines := last_shown(text)):
             with self.lock:
-                self.kept.extend(told)
+                self.kept.extend(last_lines)
         if not self.prefix:
             self._pass_on(piece)
         elif end:
@@ -78,7 +78,7 @@ class PrintedLines:
 
     @staticmethod
     def _pass_on(text: bytes) -> None:
-        """Writes it to standard error; where nobody takes it, the command goes on all the same."""
+        """Writes it to standard error; if nobody takes it, the command goes on all the same."""
         with contextlib.suppress(OSError):
             while text:
                 text = text[os.write(TO_STDERR, text) :]

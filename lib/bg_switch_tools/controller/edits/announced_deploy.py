@@ -16,8 +16,8 @@ class AnnouncedDeploy:
     """Looks at a plan and at the state file that its controller keeps beside it."""
 
     def __init__(self, path: str, awaited: Collection[str] = (), text: bytes | None = None) -> None:
-        """`awaited` are the names of the revisions whose deploy is awaited, `text` is the plan where
-        it was read already. `PlanError` where the file is not a plan."""
+        """`awaited` are the names of the revisions whose deploy is awaited, `text` is the plan if
+        it was read already. `PlanError` if the file is not a plan."""
         self.file = PlanFile(path, text)
         self.plan: Plan = self.file.first()
         self.was_read = True  # and not looked at yet
@@ -44,7 +44,7 @@ class AnnouncedDeploy:
         self.overtaken.pop(last.name, None)
 
     def look(self) -> Announcement:
-        """The plan's last revision, where it was not deployed for the plan yet. A plan that turns
+        """The plan's last revision, if it was not deployed for the plan yet. A plan that turns
         wrong announces what it did before, as the controller continues by the one before."""
         if not self.was_read:
             with contextlib.suppress(PlanError):
@@ -63,8 +63,8 @@ class AnnouncedDeploy:
             return Announcement(overtaken=overtaken)
         controller = life_of(self.path)
         refusal, trouble = (
-            next((each.reason for each in told if each.revision == last), "")
-            for told in (state.held, state.failing)
+            next((each.reason for each in held_revisions if each.revision == last), "")
+            for held_revisions in (state.held, state.failing)
         )
         return Announcement(
             last.name, refusal, controller.text if controller.is_wrong else "", trouble, overtaken
@@ -73,8 +73,7 @@ class AnnouncedDeploy:
 
 def held_back(path: str, plan: Plan | None = None) -> list[HeldBack]:
     """What the controller of a plan holds back of the revisions that the plan names, also since the
-    start of its last one fails; none where no state tells it. The plan is read where it is not
-    given."""
+    start of its last one fails; empty if no state tells it. The plan is read if it is not given."""
     try:
         state = StateFile(path).read()[0]
         plan = plan or PlanFile(path).first()

@@ -14,10 +14,12 @@ from bg_switch_tools.controller.state.unopened import why_plan_opens_none
 def _wrong_analyses(plan: Plan) -> list[str]:
     """A problem for each analysis of these tools that would end at once by its words, which takes a
     good revision back."""
-    told = {place: words_of_tool(command) for place, command in plan.analyses.by_place().items()}
+    words_by_place = {
+        place: words_of_tool(command) for place, command in plan.analyses.by_place().items()
+    }
     return [
         f"{place}: {fault}"
-        for place, words in told.items()
+        for place, words in words_by_place.items()
         if words is not None and (fault := fault_of_words(words))
     ]
 
@@ -34,7 +36,7 @@ def _misfits(plan: Plan, rollout: str) -> list[str]:
 
 def problems_of(path: str, plan: Plan, rollout: str | None) -> list[str]:
     """What is wrong with the plan of this file, a line each. `rollout` is the file of the Rollout
-    with which the switch is started; None where it is not named."""
+    with which the switch is started; None if it is not named."""
     opens_none = why_plan_opens_none(path, plan)
     return [
         *missing_commands(plan, os.path.dirname(os.path.abspath(path))),

@@ -19,22 +19,22 @@ class OtherPortsError(PlanError):
 
 
 def judge_ports(path: str, plan: Plan, revision: PlannedRevision) -> None:
-    """`OtherPortsError` where the name of the revision has other ports: by the history and the
-    state, which an edit of the plan can't change, or else by the plan."""
+    """`OtherPortsError` if the name of the revision has other ports: by the history and the state,
+    which an edit of the plan can't change, or else by the plan."""
     problem = why_refused(revision, {**by_name(plan.revisions), **kept_revisions(path)})
     if problem:
         raise OtherPortsError([problem])
 
 
-def with_last(told: object, name: str, ports: Sequence[int]) -> object:
-    """The value of a plan with this revision as its last one. One of this name is moved; where
-    there are too many, the first one goes."""
-    if not isinstance(told, dict) or not isinstance(told.get("revisions"), list):
-        return told
-    named = [one for one in told["revisions"] if isinstance(one, dict) and one.get("name") == name]
-    others = [one for one in told["revisions"] if one not in named]
+def with_last(value: object, name: str, ports: Sequence[int]) -> object:
+    """The value of a plan with this revision as its last one. One of this name is moved; if there
+    are too many, the first one goes."""
+    if not isinstance(value, dict) or not isinstance(value.get("revisions"), list):
+        return value
+    named = [one for one in value["revisions"] if isinstance(one, dict) and one.get("name") == name]
+    others = [one for one in value["revisions"] if one not in named]
     last = {**(named[-1] if named else {}), "name": name, "ports": list(ports)}
-    return {**told, "revisions": [*others[-(MOST_REVISIONS - 1) :], last]}
+    return {**value, "revisions": [*others[-(MOST_REVISIONS - 1) :], last]}
 
 
 def _unsigned(_: PlanEdit) -> None:
@@ -52,7 +52,7 @@ def _make_like(descriptor: int, before: os.stat_result) -> None:
 
 
 def _put_in_place(path: str, text: bytes) -> None:
-    """Writes a file in one step, which keeps its mode and owner; where it is a link, the file that
+    """Writes a file in one step, which keeps its mode and owner; if it is a link, the file that
     this leads to."""
     whole = os.path.realpath(path)
     before = os.stat(whole)
@@ -68,9 +68,9 @@ def make_last(
     plan: OpenPlan, revision: PlannedRevision, sign: Callable[[PlanEdit], None] = _unsigned
 ) -> PlanEdit:
     """Makes a revision the last one of a plan's file, in one step. A file that names it last with
-    these ports stays as it is. `sign` is given the edit before it is in place. `PlanError` where
-    the result is not a plan, or the name has other ports (`OtherPortsError`), and `OSError` where
-    the file can't be written, or another edit does not end: then nothing is changed."""
+    these ports stays as it is. `sign` is given the edit before it is in place. `PlanError` if the
+    result is not a plan, or the name has other ports (`OtherPortsError`), and `OSError` if the file
+    can't be written, or another edit does not end: then nothing is changed."""
     with EditLock(plan.path):
         try:
             text = plan.latest()
@@ -80,14 +80,14 @@ def make_last(
         if plan_of(text).last == revision:
             return PlanEdit(text, text)
         try:
-            told = decoded(text)
+            value = decoded(text)
         except ValueError:
             raise PlanError(
                 [
                     "it is YAML, whose comments this edit would lose: name the revision in the file by hand"
                 ]
             ) from None
-        whole = with_last(told, revision.name, revision.ports)
+        whole = with_last(value, revision.name, revision.ports)
         edit = PlanEdit(text, (json.dumps(whole, indent=2) + "\n").encode("ascii"))
         plan_of(edit.after)
         sign(edit)

@@ -25,7 +25,7 @@ class EditLock:
         self.descriptor = -1
 
     def __enter__(self) -> None:
-        """Waits for the lock. `EditInProgressError` after `longest` seconds; `OSError` where the
+        """Waits for the lock. `EditInProgressError` after `longest` seconds; `OSError` if the
         folder takes no file."""
         # a lock needs no right to write
         self.descriptor = os.open(self.path, os.O_RDONLY | os.O_CREAT | os.O_CLOEXEC, 0o644)

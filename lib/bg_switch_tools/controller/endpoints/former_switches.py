@@ -35,7 +35,7 @@ def is_gone(control: Control) -> bool:
 
 
 def _names_at(control: Control) -> set[str] | None:
-    """The revisions that a switch needs; None where it does not answer."""
+    """The revisions that a switch needs; None if it does not answer."""
     try:
         report = ask_report(control, ANSWER)
     except UnreachableError:
@@ -59,7 +59,7 @@ class FormerSwitches:
         self.next = 0.0
 
     def names(self, control: Control) -> set[str] | None:
-        """The names of the revisions that are needed there; None where one of the switches does not
+        """The names of the revisions that are needed there; None if one of the switches does not
         tell, so that any may be. `control` is what the plan names now."""
         if not self.memory.state.former:
             return set()
@@ -72,8 +72,10 @@ class FormerSwitches:
                     if former != control and not is_gone(former)
                 )
             )
-            told = [_names_at(former) for former in self.memory.state.former]
+            names_of_each = [_names_at(former) for former in self.memory.state.former]
             self.needed = (
-                None if None in told else {name for names in told if names for name in names}
+                None
+                if None in names_of_each
+                else {name for names in names_of_each if names for name in names}
             )
         return self.needed

@@ -19,7 +19,7 @@ from bg_switch_tools.switch.reports import Report
 FIRST_PAUSE, LONGEST_PAUSE = (1.0, 60.0)
 MOST_AT_ONCE = 16  # commands that run at a time
 GRACE = 5.0  # seconds between SIGTERM and SIGKILL for a command that took too long
-LAST_GRACE = 0.5  # the same where the controller ends
+LAST_GRACE = 0.5  # the same when the controller ends
 
 Key = tuple[PlannedRevision, int]  # a revision, and one of its ports
 
@@ -27,13 +27,13 @@ Key = tuple[PlannedRevision, int]  # a revision, and one of its ports
 def words_for(command: Sequence[str], revision: PlannedRevision, port: int) -> list[str]:
     """The words of a command for an endpoint. `{number}` is its place among the ports of the
     revision, from 1."""
-    told = {
+    values = {
         "{port}": str(port),
         "{revision}": revision.name,
         "{number}": str(revision.ports.index(port) + 1),
     }
     words = list(command)
-    for name, value in told.items():
+    for name, value in values.items():
         words = [word.replace(name, value) for word in words]
     return words
 
@@ -41,7 +41,7 @@ def words_for(command: Sequence[str], revision: PlannedRevision, port: int) -> l
 @dataclasses.dataclass
 class Endpoint:
     """What is known of the commands of one endpoint. `done` is the kind of the latest one that has
-    succeeded; `failed` says how the latest one has failed, and is empty where none has since."""
+    succeeded; `failed` says how the latest one has failed, and is empty if none has since."""
 
     kind: str = ""
     group: Group | None = None
@@ -299,7 +299,7 @@ class Launcher:
         endpoint.pause = min(2 * endpoint.pause, LONGEST_PAUSE)
 
     def begin_end(self) -> None:
-        """Begins to end the commands that run, where the controller ends. The next controller runs
+        """Begins to end the commands that run, when the controller ends. The next controller runs
         them again."""
         self.endings += [
             each.group.stop(LAST_GRACE) for each in self.endpoints.values() if each.group

@@ -22,7 +22,7 @@ THREADS = concurrent.futures.ThreadPoolExecutor(MOST_AT_ONCE, "probe")
 
 
 class MalformedResponseError(http.client.HTTPException):
-    """An endpoint's response is none of HTTP/1, or is not whole."""
+    """An endpoint's response is not HTTP/1, or is not whole."""
 
 
 class Lines(io.BufferedReader):
@@ -98,21 +98,21 @@ def _get(connected: socket.socket, port: int, path: str) -> int:
 
 async def _connected(port: int) -> socket.socket:
     """A connection to an endpoint, which blocks its reader."""
-    made = socket.socket()
+    connection = socket.socket()
     try:
-        made.setblocking(False)
-        await asyncio.get_running_loop().sock_connect(made, (HOST, port))
-        made.setblocking(True)
-        return made
+        connection.setblocking(False)
+        await asyncio.get_running_loop().sock_connect(connection, (HOST, port))
+        connection.setblocking(True)
+        return connection
     except BaseException:
-        made.close()
+        connection.close()
         raise
 
 
 async def status_of(port: int, health: Health) -> int:
-    """The status that an endpoint answers a probe with. `TimeoutError` where the whole takes longer
-    than the limit. The connection is cut then, and where the caller is cancelled, so that no thread
-    waits for it any more. `RuntimeError` where no thread can be started."""
+    """The status that an endpoint answers a probe with. `TimeoutError` if the whole takes longer
+    than the limit. The connection is cut then, and also if the caller is cancelled, so that no
+    thread waits for it any more. `RuntimeError` if no thread can be started."""
     async with asyncio.timeout(health.timeout):
         connected = await _connected(port)
         try:

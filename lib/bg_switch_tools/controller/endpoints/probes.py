@@ -11,15 +11,15 @@ from collections.abc import Collection, Iterable, Sequence
 from bg_switch_tools.controller.endpoints.probe_request import status_of
 from bg_switch_tools.controller.plan.plan import Health
 
-# Where the system refuses the controller itself a descriptor or memory, a probe says nothing of its
+# If the system refuses the controller itself a descriptor or memory, a probe says nothing of its
 # endpoint.
 OWN_FAULTS = (errno.EMFILE, errno.ENFILE, errno.ENOBUFS, errno.ENOMEM)
 END = 1.0  # seconds within which the probes that run are cut
 
 
 async def is_up(port: int, health: Health) -> bool | None:
-    """Whether an endpoint answers whole, with a status from 200 to 399, within the limit; None
-    where no probe could be made."""
+    """Whether an endpoint answers whole, with a status from 200 to 399, within the limit; None if
+    no probe could be made."""
     try:
         return 200 <= await status_of(port, health) < 400
     except OSError as error:
@@ -85,8 +85,8 @@ class Probes:
             await asyncio.sleep(begun + self.health.interval - self.loop.time())
 
     def _take_in(self, port: int, up: bool | None) -> None:
-        """The first probe alone decides; later on an endpoint is down after so many failures in a
-        row."""
+        """The first probe alone decides; later on an endpoint is down after `health.failures`
+        failures in a row."""
         if up is True:
             self.failed[port] = 0
             self.failing_since.pop(port, None)
@@ -101,29 +101,28 @@ class Probes:
         self.failed.pop(port, None)
 
     def is_down(self, port: int) -> bool | None:
-        """Whether an endpoint is down; None where it was not probed yet."""
+        """Whether an endpoint is down; None if it was not probed yet."""
         failed = self.failed.get(port)
         return None if failed is None else failed >= self.health.failures
 
     def _downs(self, ports: Iterable[int]) -> list[bool] | None:
-        """Whether each of these endpoints is down, or None where one was not probed yet."""
+        """Whether each of these endpoints is down, or None if one was not probed yet."""
         downs = [self.is_down(port) for port in ports]
         return None if None in downs else [down is True for down in downs]
 
     def first_up(self, ports: Iterable[int]) -> int | None:
-        """How many of the first of these endpoints are up, or None where one was not probed yet."""
+        """How many of the first of these endpoints are up, or None if one was not probed yet."""
         downs = self._downs(ports)
         return None if downs is None else [*downs, True].index(True)
 
     def count_up(self, ports: Iterable[int]) -> int | None:
-        """How many of these endpoints are up, or None where one was not probed yet."""
+        """How many of these endpoints are up, or None if one was not probed yet."""
         downs = self._downs(ports)
         return None if downs is None else downs.count(False)
 
     def outage(self, ports: Sequence[int]) -> float:
-        """For how many seconds no probe of these endpoints has succeeded, where all of them are
-        down; else 0. The seconds count from the first failed probe of the endpoint that failed
-        last."""
+        """For how many seconds no probe of these endpoints has succeeded, if all of them are down;
+        else 0. The seconds count from the first failed probe of the endpoint that failed last."""
         since = [self.failing_since.get(port) for port in ports]
         if not ports or None in since or not all(self.is_down(port) for port in ports):
             return 0.0

@@ -37,8 +37,8 @@ class Event:
 
     def line(self) -> bytes:
         """The event as a line of JSON, without the members that it has not."""
-        told = {key: value for key, value in dataclasses.asdict(self).items() if value}
-        return (json.dumps(told) + "\n").encode("ascii")
+        members = {key: value for key, value in dataclasses.asdict(self).items() if value}
+        return (json.dumps(members) + "\n").encode("ascii")
 
 
 def _is_time(text: object) -> bool:
@@ -48,39 +48,39 @@ def _is_time(text: object) -> bool:
         return False
 
 
-def _ports(told: object) -> tuple[int, ...]:
-    return tuple(port for port in told if isinstance(port, int)) if isinstance(told, list) else ()
+def _ports(value: object) -> tuple[int, ...]:
+    return tuple(port for port in value if isinstance(port, int)) if isinstance(value, list) else ()
 
 
 def read_event(line: bytes) -> Event | None:
-    """The event of a line; None where it is none."""
+    """The event of a line; None if the line is not an event."""
     try:
-        told = decoded(line)
+        members = decoded(line)
     except ValueError:
         return None
     if (
-        not isinstance(told, dict)
-        or told.get("event") not in KINDS
-        or not _is_time(told.get("time"))
+        not isinstance(members, dict)
+        or members.get("event") not in KINDS
+        or not _is_time(members.get("time"))
     ):
         return None
-    name, number = told.get("name", ""), told.get("number", 0)
+    name, number = members.get("name", ""), members.get("number", 0)
     if (
         not isinstance(name, str)
         or type(number) is not int
-        or (told["event"] != LOST and not NAME.fullmatch(name))
+        or (members["event"] != LOST and not NAME.fullmatch(name))
     ):
         return None
     by, how = (
         text if isinstance(text, str) and text.isprintable() else ""
-        for text in (told.get("by"), told.get("how"))
+        for text in (members.get("by"), members.get("how"))
     )
-    ports, analyses = _ports(told.get("ports")), read_results(told.get("analyses"))
-    return Event(told["time"], told["event"], name, number, by, how, ports, analyses)
+    ports, analyses = _ports(members.get("ports")), read_results(members.get("analyses"))
+    return Event(members["time"], members["event"], name, number, by, how, ports, analyses)
 
 
 def seconds_between(begin: str, end: str) -> float:
-    """The seconds from one time to a later one; 0 where the clock was set back."""
+    """The seconds from one time to a later one; 0 if the clock was set back."""
     first, last = (datetime.datetime.fromisoformat(time) for time in (begin, end))
     return max((last - first).total_seconds(), 0.0)
 
@@ -88,7 +88,7 @@ def seconds_between(begin: str, end: str) -> float:
 @dataclasses.dataclass
 class Attempt:
     """An attempt. `how` and `ended` are empty while it runs. It was live for `seconds`, and has
-    been since `live_since` where that is not empty."""
+    been since `live_since` if that is not empty."""
 
     name: str
     number: int

@@ -18,7 +18,7 @@ class HistoryFile:
         self.older = self.path + OLDER
 
     def append(self, event: Event) -> None:
-        """Adds an event. `OSError` where the file can't be written."""
+        """Adds an event. `OSError` if the file can't be written."""
         line = event.line()
         descriptor = self._opened(len(line) + 1)
         try:
@@ -29,7 +29,7 @@ class HistoryFile:
             os.close(descriptor)
 
     def _opened(self, more: int) -> int:
-        """The file, opened to add so many bytes."""
+        """The file, opened to add `more` bytes."""
         try:
             if os.stat(self.path).st_size + more > MOST_BYTES:
                 os.replace(self.path, self.older)
@@ -44,7 +44,7 @@ class HistoryFile:
         return size == 0 or os.pread(descriptor, 1, size - 1) == b"\n"
 
     def read(self) -> tuple[Attempts, int]:
-        """The attempts, and how many lines can't be read. `OSError` where a file can't be read."""
+        """The attempts, and how many lines can't be read. `OSError` if a file can't be read."""
         attempts, unreadable = Attempts(), 0
         for line in (line for path in (self.older, self.path) for line in self._lines(path)):
             event = read_event(line)

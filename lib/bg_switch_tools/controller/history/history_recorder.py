@@ -134,7 +134,7 @@ class HistoryRecorder:
         return newest if newest and not newest.how else None
 
     def _beginning(self, report: Report) -> str:
-        """How an attempt has begun since the report before; empty where none has."""
+        """How an attempt has begun since the report before; empty if none has."""
         before, newest = self.attempts.newest, report.newest
         if before is None or self.attempts.is_lost:
             return OPENED if newest == report.stable else DEPLOYED
@@ -163,8 +163,8 @@ class HistoryRecorder:
         return self.author.name() or PLAN
 
     def _note(self, event: Event) -> None:
-        """Adds an event. Where the file can't be written, the event is lost there, and the log
-        tells it once."""
+        """Adds an event. If the file can't be written, the event is lost there, and the log tells
+        it once."""
         self.attempts.take(event)
         try:
             self.file.append(event)

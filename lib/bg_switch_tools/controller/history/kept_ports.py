@@ -13,8 +13,7 @@ def by_name(revisions: Iterable[PlannedRevision]) -> dict[str, PlannedRevision]:
 
 
 def kept_in_history(plan_path: str) -> dict[str, PlannedRevision]:
-    """The revisions that the history of a plan has with their ports; none where it can't be
-    read."""
+    """The revisions that the history of a plan has with their ports; empty if it can't be read."""
     try:
         attempts = HistoryFile(plan_path).read()[0].all
     except OSError:
@@ -34,7 +33,7 @@ def kept_revisions(plan_path: str) -> dict[str, PlannedRevision]:
 
 
 def why_refused(revision: PlannedRevision, kept: Kept) -> str:
-    """Why a revision can't have its ports: its name has other ones. Empty where it has not."""
+    """Why a revision can't have its ports: its name has other ones. Empty if it can."""
     before = kept.get(revision.name)
     if before is None or before.ports == revision.ports:
         return ""

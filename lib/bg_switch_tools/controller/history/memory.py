@@ -22,23 +22,23 @@ Revisions = Mapping[str, PlannedRevision]  # by their names
 
 @dataclasses.dataclass(frozen=True)
 class Known:
-    """What is known of the ports of a book's revisions. `asked` is the name of the revision for
-    whose ports the switch is asked; empty where there is none. It is not in `revisions`, and
-    nothing is reported of it before the answer.
+    """What is known of the ports of a book's revisions. `asked_name` is the name of the revision
+    for whose ports the switch is asked; empty if there is no such revision. It is not in
+    `revisions`, and nothing is reported of it before the answer.
     """
 
     revisions: Revisions
-    asked: str = ""
+    asked_name: str = ""
 
 
 class Memory:
     """The state. `is_fresh` says that nothing is known of this plan's rounds before. `kept` are the
     revisions that were opened or deployed with the ports that they have here: no edit of the plan
-    changes them. `other` is the state in the file where it is of another plan: it stays there until
-    a book is open."""
+    changes them. `other` is the state in the file if it is of another plan: it stays there until a
+    book is open."""
 
     def __init__(self, plan_path: str, plan: Plan, log: Log) -> None:
-        """Reads the state file. Where it can't be used, the log says what is done, and why."""
+        """Reads the state file. If it can't be used, the log says what is done, and why."""
         self.file = StateFile(plan_path)
         self.results = AnalysisResults(plan_path)
         self.log = log
@@ -49,7 +49,7 @@ class Memory:
         self.is_failing = False
         self.is_ahead = False  # whether the moment of the switch is not believed
         self.unknown_stable: str | None = None
-        self.asked = ""  # the name of the newest revision, in the round in which the switch is asked for its ports
+        self.asked_name = ""  # the name of the newest revision, in the round in which the switch is asked for its ports
         self.kept = self.kept_before(plan_path)
         self._read(plan)
 
@@ -91,7 +91,7 @@ class Memory:
         self.other = None
 
     def why_not_opened(self, plan: Plan) -> str:
-        """Why a switch without a book is not opened by this plan, and what to do; empty where it is
+        """Why a switch without a book is not opened by this plan, and what to do; empty if it is
         opened."""
         return why_not_opened(self.other or self.state, self.file.path, plan)
 
@@ -152,18 +152,18 @@ class Memory:
             {
                 name: revision
                 for name, revision in self.revisions(plan).items()
-                if name != self.asked
+                if name != self.asked_name
             },
-            self.asked,
+            self.asked_name,
         )
 
     def known(self, plan: Plan, name: str) -> PlannedRevision | None:
-        """The revision of this name, where its ports are known."""
+        """The revision of this name, if its ports are known."""
         return self.revisions(plan).get(name)
 
     def set_deployed(self, revision: PlannedRevision | None) -> None:
-        """Remembers that this revision was deployed because the plan names it last; None where none
-        was."""
+        """Remembers that this revision was deployed because the plan names it last; None if no
+        revision was."""
         self.is_fresh = False
         self._keep(dataclasses.replace(self.state, deployed=revision))
 
@@ -218,8 +218,8 @@ class Memory:
 
     def to_open(self, plan: Plan) -> tuple[PlannedRevision, str]:
         """The revision that a book is to be opened with, and why this one: the stable one, with the
-        ports that were live, or those of the plan where they were not known; and the plan's first
-        one where none is known."""
+        ports that were live, or those of the plan if they were not known; and the plan's first one
+        if none is known."""
         stable = self.state.stable or plan.named(self.state.unknown)
         if stable:
             return stable, "which was stable"
@@ -265,8 +265,8 @@ class Memory:
         )
 
     def live(self, plan: Plan, name: str) -> PlannedRevision | None:
-        """The stable revision, by its name, with the ports that it has in the book; None where they
-        are not known. Those of the plan are taken once, where no revision is known that was stable
+        """The stable revision, by its name, with the ports that it has in the book; None if they
+        are not known. Those of the plan are taken once, if no revision is known that was stable
         before."""
         stable = self.state.stable
         if name in self.kept:
@@ -284,7 +284,7 @@ class Memory:
             self._keep(dataclasses.replace(self.state, started=revisions))
 
     def set_former(self, controls: tuple[Control, ...]) -> None:
-        """Remembers the control ports and sockets that the plan named before, the latest ones where
+        """Remembers the control ports and sockets that the plan named before, the latest ones if
         there are too many."""
         distinct = tuple(dict.fromkeys(controls))[-MOST_PORTS:]
         if distinct != self.state.former:
@@ -296,8 +296,8 @@ class Memory:
             self._keep(dataclasses.replace(self.state, commands=processes))
 
     def _keep(self, state: State) -> None:
-        """Writes the state where it has changed; where the moment alone has, at most every
-        `MOMENT_AGE` seconds."""
+        """Writes the state if it has changed; if the moment alone has, at most every `MOMENT_AGE`
+        seconds."""
         is_due = (
             not self.state.keeps(state)
             or self.is_failing

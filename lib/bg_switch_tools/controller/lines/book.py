@@ -20,7 +20,7 @@ class Book:
     def __init__(self, log: Log) -> None:
         self.log = log
         self.latest: Report | None = None  # the latest report of the book that is open
-        self.seen = 0.0  # the time of the latest report
+        self.seen_at = 0.0  # the time of the latest report
         self.lost: Report | None = (
             None  # the latest report of the book that was open before, up to the next opening
         )
@@ -29,12 +29,12 @@ class Book:
         self.refused: dict[Line, float] = {}  # by the line: from when on its refusal is told again
 
     def report(self, connection: Connection) -> Report | None:
-        """The report, or None where no book is open."""
+        """The report, or None if no book is open."""
         report = connection.ask_report()
         self.has_sent = False
         if self.latest and (report is None or is_another_book(self.latest, report)):
             self.log.say("switch", "the switch was started again: the book that was open is gone")
-            self.log.say("switch", last_seen(self.latest, time.monotonic() - self.seen))
+            self.log.say("switch", last_seen(self.latest, time.monotonic() - self.seen_at))
             self.lost = self.latest
             self.leave()
             self.was_lost = True
@@ -55,7 +55,7 @@ class Book:
             self.log.say("switch", f"a book is open: phase {report.phase}, {selected}")
         for change in changes(self.latest, report) if self.latest else []:
             self.log.say("change", change)
-        self.latest, self.seen = report, time.monotonic()
+        self.latest, self.seen_at = report, time.monotonic()
 
     def open_report(self, connection: Connection) -> Report:
         """The report of a book that was open before on this connection."""
@@ -69,8 +69,8 @@ class Book:
         return self.note(line, connection.carry_out(line))
 
     def note(self, line: Line, reply: Reply) -> Reply:
-        """Puts the reply to a line into the log: that of a tick only where it is refused, a refusal
-        once a minute, also where the line has another moment or time limit each time."""
+        """Puts the reply to a line into the log: that of a tick only if it is refused, a refusal
+        once a minute, even if the line has another moment or time limit each time."""
         is_tick, now = isinstance(line, Tick), time.monotonic()
         known_by = ANY_TICK if is_tick else without_time_limit(line)
         if reply.was_carried_out:

@@ -23,8 +23,8 @@ class LineSource(Protocol):
         """The revision that a book is to be opened with, and why this one."""
 
     def take_opened(self, plan: Plan, opened: PlannedRevision) -> PlannedRevision | None:
-        """A book was opened with this revision. Gives the revision that the source deploys next,
-        where it knows of one."""
+        """A book was opened with this revision. Gives the revision that the source deploys next, if
+        it knows of one."""
 
     def lose_book(self) -> None:
         """The book of the reports before is gone."""
@@ -33,11 +33,11 @@ class LineSource(Protocol):
         """The first step of a round with a report."""
 
     def coming(self, plan: Plan, report: Report) -> PlannedRevision | None:
-        """The revision that is deployed next, whose endpoints are started before; None where none
-        is."""
+        """The revision that is deployed next, whose endpoints are started before; None if there is
+        none."""
 
     def next_line(self, plan: Plan, report: Report) -> Line | None:
-        """The line to be sent now; None where none is. It is sent at once."""
+        """The line to be sent now; None if there is no line. It is sent at once."""
 
     def take_reply(self, plan: Plan, report: Report, line: Line, reply: Reply) -> bool:
         """Takes in the reply of the switch to a line of `next_line`, which was asked for with this
@@ -49,7 +49,7 @@ class LineSource(Protocol):
         """Whether no verdict of an analysis is to be handed in."""
 
     def why_not_judged(self, plan: Plan, report: Report) -> str:
-        """Why no analysis is to run in the phase of this report; empty where one may."""
+        """Why no analysis is to run in the phase of this report; empty if one may."""
 
     def may_hand_in(self, report: Report, verdict: Verdict, fault: str) -> bool:
         """Whether the verdict of an analysis is to be handed in now. `fault` says why it is an

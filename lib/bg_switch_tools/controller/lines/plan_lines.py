@@ -24,8 +24,8 @@ class PlanLines:
         return self.memory.to_open(plan)
 
     def take_opened(self, plan: Plan, opened: PlannedRevision) -> PlannedRevision | None:
-        """The plan's last revision is deployed again after an opening where its attempt ran and
-        nobody had undone it."""
+        """The plan's last revision is deployed again after an opening if its attempt ran and nobody
+        had undone it."""
         state, last = self.memory.state, plan.last
         if state.deployed == last and state.attempt == last:
             self.log.say("plan", f"the attempt of {last.name}, which ran, is begun again")
@@ -53,7 +53,7 @@ class PlanLines:
                 each.revision for each in self.memory.state.held
             ]
             is_asked = self._is_unnoted(plan, report) and not is_known and not self.pause.is_on
-            self.memory.asked = last.name if is_asked else ""
+            self.memory.asked_name = last.name if is_asked else ""
             return
         if existing is None:
             self.log.say("plan", f"{last.name} does not exist yet, so it is deployed")
@@ -65,9 +65,8 @@ class PlanLines:
         self.memory.set_deployed(last if existing and existing != report.newest else None)
 
     def coming(self, plan: Plan, report: Report) -> PlannedRevision | None:
-        """The plan's last revision, where it is to be deployed: once, so that what is undone by
-        hand stays undone until the plan names another, and never with other ports than its name
-        has."""
+        """The plan's last revision, if it is to be deployed: once, so that what is undone by hand
+        stays undone until the plan names another, and never with other ports than its name has."""
         last = plan.last
         if (
             last == self.memory.state.deployed

@@ -49,7 +49,7 @@ class Health:
 
 @dataclasses.dataclass(frozen=True)
 class PlannedAnalysis:
-    """A command that judges a revision. `name` is empty where the command is the only one of its
+    """A command that judges a revision. `name` is empty if the command is the only one of its
     analysis, and stands in the plan without a list."""
 
     command: tuple[str, ...]
@@ -98,9 +98,8 @@ class Commands:
 @dataclasses.dataclass(frozen=True)
 class Plan(Revisions):
     """A whole plan. `control` is where its switch takes lines. `revisions` go from the first one to
-    the one that is to be live. `services` are the ports of the active and the preview service,
-    where the plan names them. `redispatch` says whether the switch passes over endpoints that are
-    down.
+    the one that is to be live. `services` are the ports of the active and the preview service, if
+    the plan names them. `redispatch` says whether the switch passes over endpoints that are down.
     """
 
     control: Control

@@ -11,12 +11,12 @@ KNOWN = 8  # texts of plans whose values are kept
 
 @functools.lru_cache(maxsize=KNOWN)
 def plan_of(text: bytes) -> Plan:
-    """The plan of a text. `PlanError` where it is none."""
+    """The plan of a text. `PlanError` if it is not a plan."""
     return read_plan(text)
 
 
 def read_whole_plan(path: str) -> Plan:
-    """The plan of a file. `PlanError` where it is none, or can't be read."""
+    """The plan of a file. `PlanError` if it is not a plan, or can't be read."""
     return PlanFile(path).first()
 
 
@@ -25,8 +25,7 @@ def unreadable(error: OSError) -> PlanError:
 
 
 class PlanEdit(NamedTuple):
-    """An edit of a plan: its text before and after, which are one where nothing was to be
-    changed."""
+    """An edit of a plan: its text before and after, which are one if nothing was to be changed."""
 
     before: bytes
     after: bytes
@@ -60,13 +59,13 @@ class OpenPlan:
         self.descriptor = -1
 
     def text(self) -> bytes:
-        """The text, as it was when the command has read it. `OSError` where it can't be read."""
+        """The text, as it was when the command has read it. `OSError` if it can't be read."""
         if self.stat is None:
             self._read()
         return self.read_text
 
     def latest(self) -> bytes:
-        """The text as it is now. It is read again only where another one has taken its place."""
+        """The text as it is now. It is read again only if another one has taken its place."""
         if self.stat is None or not _is_same(os.stat(self.path), self.stat):
             self._read()
         return self.read_text
@@ -84,13 +83,13 @@ class PlanFile:
     """Reads a plan, and notices what has become of its file."""
 
     def __init__(self, path: str, text: bytes | None = None) -> None:
-        """`text` is that of the file, where the caller has read it already."""
+        """`text` is that of the file, if the caller has read it already."""
         self.path = path
-        self.text = text  # what was read last; None where it could not be read
+        self.text = text  # what was read last; None if it could not be read
         self.was_readable = True
 
     def first(self) -> Plan:
-        """The plan, for the first time. `PlanError` where the file is none, or can't be read."""
+        """The plan, for the first time. `PlanError` if the file is not a plan, or can't be read."""
         if self.text is None:
             try:
                 self.text = self._bytes()
@@ -103,8 +102,8 @@ class PlanFile:
             return file.read(LARGEST + 1)
 
     def read(self) -> Plan | None:
-        """The plan, or None where the file is as it was at the last read. `PlanError` where it is
-        no plan any more."""
+        """The plan, or None if the file is as it was at the last read. `PlanError` if it is no
+        longer a plan."""
         try:
             text = self._bytes()
         except OSError as error:

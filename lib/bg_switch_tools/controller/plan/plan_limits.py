@@ -16,21 +16,21 @@ EVERY, EVERY_SECONDS = ("--every", "--interval"), 5.0
 
 
 def option(words: Sequence[str], *names: str) -> float | None:
-    """The number that an option of a command has, in seconds where it is a duration: `--name 5`,
-    `--name=5s` or `--name 1m`. `names` are those of the option. None where the command does not
-    have it."""
-    told = [after for word, after in zip(words, words[1:]) if word in names]
-    told += [
+    """The number that an option of a command has, in seconds if it is a duration: `--name 5`,
+    `--name=5s` or `--name 1m`. `names` are those of the option. None if the command does not have
+    it."""
+    values = [after for word, after in zip(words, words[1:]) if word in names]
+    values += [
         word.partition("=")[2] for word in words if word.partition("=")[0] in names and "=" in word
     ]
     try:
-        return duration_of(told[-1]) if told else None
+        return duration_of(values[-1]) if values else None
     except argparse.ArgumentTypeError:
         return None
 
 
 def words_of_tool(command: Sequence[str]) -> Sequence[str] | None:
-    """The words that a command gives to the analysis of these tools; None where it runs another
+    """The words that a command gives to the analysis of these tools; None if it runs another
     program."""
     begin = list(itertools.takewhile(lambda word: not word.startswith("--"), command))
     place = next(
@@ -40,8 +40,7 @@ def words_of_tool(command: Sequence[str]) -> Sequence[str] | None:
 
 
 def _length(words: Sequence[str]) -> tuple[float, str] | None:
-    """The seconds that an analysis takes, and the options that say so; None where they say
-    nothing."""
+    """The seconds that an analysis takes, and the options that say so; None if they say nothing."""
     seconds, count, delay = (
         option(words, "--seconds"),
         option(words, "--count"),

@@ -48,9 +48,13 @@ class PlanError(Exception):
         self.problems = problems
 
 
-def seconds(judge: Judge, told: JsonObject, key: str, place: str, default: float) -> float:
+def seconds(judge: Judge, members: JsonObject, key: str, place: str, default: float) -> float:
     return judge.member(
-        told, key, place, lambda value, at: judge.number(value, at, LEAST_SECONDS, LONGEST), default
+        members,
+        key,
+        place,
+        lambda value, at: judge.number(value, at, LEAST_SECONDS, LONGEST),
+        default,
     )
 
 
@@ -60,9 +64,9 @@ def read_control(judge: Judge, members: JsonObject) -> Control:
     return judge.member(members, "control", "", judge.control, none)
 
 
-def read_health(judge: Judge, told: object, place: str) -> Health:
+def read_health(judge: Judge, json_value: object, place: str) -> Health:
     members, default = (
-        judge.members(told, place, ("path", "interval", "timeout", "failures")),
+        judge.members(json_value, place, ("path", "interval", "timeout", "failures")),
         Health(),
     )
     return Health(
@@ -79,8 +83,8 @@ def read_health(judge: Judge, told: object, place: str) -> Health:
     )
 
 
-def read_named_analysis(judge: Judge, told: object, place: str) -> PlannedAnalysis:
-    members = judge.members(told, place, ("name", "command"), ("name", "command"))
+def read_named_analysis(judge: Judge, value: object, place: str) -> PlannedAnalysis:
+    members = judge.members(value, place, ("name", "command"), ("name", "command"))
     return PlannedAnalysis(
         judge.member(members, "command", place, judge.command, ()),
         judge.member(members, "name", place, judge.name, ""),
@@ -88,7 +92,7 @@ def read_named_analysis(judge: Judge, told: object, place: str) -> PlannedAnalys
 
 
 def note_repeated(judge: Judge, names: Sequence[str], number: int, place: str) -> None:
-    """Notes the name of the item of this number where an item before it in the list has it too."""
+    """Notes the name of the item of this number if an item before it in the list has it too."""
     name = names[number]
     if name and name in names[:number]:
         judge.note(
@@ -98,24 +102,24 @@ def note_repeated(judge: Judge, names: Sequence[str], number: int, place: str) -
 
 
 def read_commands_of_analysis(
-    judge: Judge, told: object, place: str
+    judge: Judge, value: object, place: str
 ) -> tuple[PlannedAnalysis, ...]:
     """A command alone, or a list of analyses that each have a name."""
-    if not isinstance(told, list) or not any(isinstance(one, dict) for one in told):
-        return (PlannedAnalysis(judge.command(told, place)),)
-    if len(told) > MOST_AT_ONCE:
+    if not isinstance(value, list) or not any(isinstance(one, dict) for one in value):
+        return (PlannedAnalysis(judge.command(value, place)),)
+    if len(value) > MOST_AT_ONCE:
         judge.note(place, f"it is not a list of 1 to {MOST_AT_ONCE} analyses")
         return ()
     several = tuple(
-        read_named_analysis(judge, one, f"{place}[{number}]") for number, one in enumerate(told)
+        read_named_analysis(judge, one, f"{place}[{number}]") for number, one in enumerate(value)
     )
     for number in range(len(several)):
         note_repeated(judge, [each.name for each in several], number, place)
     return several
 
 
-def read_analyses(judge: Judge, told: object, place: str) -> Analyses:
-    members = judge.members(told, place, ("pre", "post", "seconds"))
+def read_analyses(judge: Judge, value: object, place: str) -> Analyses:
+    members = judge.members(value, place, ("pre", "post", "seconds"))
     commands = {
         name: read_commands_of_analysis(judge, members[name], f"{place}.{name}")
         for name in ("pre", "post")
@@ -124,8 +128,8 @@ def read_analyses(judge: Judge, told: object, place: str) -> Analyses:
     return Analyses(commands, seconds(judge, members, "seconds", place, Analyses.seconds))
 
 
-def read_progress(judge: Judge, told: object, place: str) -> Progress:
-    members = judge.members(told, place, ("seconds", "abort", "outage"))
+def read_progress(judge: Judge, value: object, place: str) -> Progress:
+    members = judge.members(value, place, ("seconds", "abort", "outage"))
     return Progress(
         seconds(judge, members, "seconds", place, Progress.seconds),
         judge.member(members, "abort", place, judge.flag, Progress.abort),
@@ -141,9 +145,9 @@ def read_commands(judge: Judge, members: JsonObject) -> Commands:
     return Commands(start, stop, notify, seconds(judge, members, "timeout", "", Commands.timeout))
 
 
-def read_revision(judge: Judge, told: object, place: str) -> PlannedRevision:
+def read_revision(judge: Judge, value: object, place: str) -> PlannedRevision:
     """A revision. An object that `judge` finds nothing wrong with has a name and ports."""
-    members = judge.members(told, place, ("name", "ports"), ("name", "ports"))
+    members = judge.members(value, place, ("name", "ports"), ("name", "ports"))
     return PlannedRevision(
         judge.member(members, "name", place, judge.name, ""),
         judge.member(members, "ports", place, judge.ports, ()),
@@ -189,27 +193,27 @@ def compare_ports(judge: Judge, plan: Plan) -> None:
                 )
 
 
-def read_revisions(judge: Judge, told: object, place: str) -> tuple[PlannedRevision, ...]:
-    if not isinstance(told, list) or not 1 <= len(told) <= MOST_REVISIONS:
+def read_revisions(judge: Judge, value: object, place: str) -> tuple[PlannedRevision, ...]:
+    if not isinstance(value, list) or not 1 <= len(value) <= MOST_REVISIONS:
         judge.note(place, f"it is not a list of 1 to {MOST_REVISIONS} revisions")
         return ()
     revisions = tuple(
-        read_revision(judge, one, f"{place}[{number}]") for number, one in enumerate(told)
+        read_revision(judge, one, f"{place}[{number}]") for number, one in enumerate(value)
     )
     compare(judge, revisions, place)
     return revisions
 
 
 def read_plan(text: bytes) -> Plan:
-    """The plan of a file's bytes. `PlanError` with all of its problems where it is none."""
+    """The plan of a file's bytes. `PlanError` with all of its problems if it is not a plan."""
     judge = Judge()
     if len(text) > LARGEST:
         raise PlanError([f"it has more than {LARGEST} bytes"])
     try:
-        told = value_of(text)
+        json_value = value_of(text)
     except ValueError as error:
         raise PlanError([str(error)]) from None
-    members = judge.members(told, "", KEYS, ("control", "revisions"))
+    members = judge.members(json_value, "", KEYS, ("control", "revisions"))
     judge.member(members, SCHEMA, "", judge.text, "")
 
     def port(value: object, place: str) -> int:

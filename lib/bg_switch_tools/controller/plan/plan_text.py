@@ -1,4 +1,4 @@
-"""The text of a plan: JSON, or YAML where Debian's python3-yaml is installed. Both give the same
+"""The text of a plan: JSON, or YAML if Debian's python3-yaml is installed. Both give the same
 values."""
 import importlib
 from typing import Any
@@ -11,7 +11,7 @@ DEEPEST = 100  # levels of a text in YAML
 
 
 def _yaml() -> Any:
-    """The library, or None where it is not installed."""
+    """The library, or None if it is not installed."""
     try:
         return importlib.import_module("yaml")
     except ImportError:
@@ -46,7 +46,7 @@ def _key(loader: Any, node: Any) -> str:
 
 
 def _value_of_yaml(yaml: Any, text: bytes) -> object:
-    """The value of a text in YAML. `ValueError` where it is none, or has what JSON does not
+    """The value of a text in YAML. `ValueError` if it is not YAML, or has what JSON does not
     have."""
     try:
         loader = yaml.SafeLoader(text.decode("utf-8"))
@@ -65,8 +65,8 @@ def _value_of_yaml(yaml: Any, text: bytes) -> object:
 
 
 def value_of(text: bytes) -> object:
-    """The value of a plan's text. `ValueError` where it is neither JSON nor YAML; a text that
-    begins with a bracket is JSON."""
+    """The value of a plan's text. `ValueError` if it is neither JSON nor YAML; a text that begins
+    with a bracket is JSON."""
     try:
         return decoded(text)
     except ValueError as error:

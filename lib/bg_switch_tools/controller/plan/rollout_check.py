@@ -9,27 +9,27 @@ STRATEGY = "spec.strategy"
 ANALYSES = {"pre": "prePromotionAnalysis", "post": "postPromotionAnalysis"}
 
 
-def _member(told: object, *keys: str) -> object:
-    """What stands in an object below these keys; None where nothing does."""
+def _member(value: object, *keys: str) -> object:
+    """The value in an object below these keys; None if there is none."""
     for key in keys:
-        told = told.get(key) if isinstance(told, JsonObject) else None
-    return told
+        value = value.get(key) if isinstance(value, JsonObject) else None
+    return value
 
 
-def _strategy_problems(told: object) -> list[str]:
+def _strategy_problems(rollout: object) -> list[str]:
     """What is wrong with the strategy itself, as far as the switch does not say what to do."""
-    if _member(told, "spec", "strategy", "canary") is not None:
+    if _member(rollout, "spec", "strategy", "canary") is not None:
         return [
             f"{STRATEGY}.canary: the switch has no canary: it moves all live traffic at once. Write {STRATEGY}.blueGreen in its place; "
             "its previewService gets requests of testers before the switch"
         ]
-    if _member(told, "spec", "strategy", "blueGreen") is None:
+    if _member(rollout, "spec", "strategy", "blueGreen") is None:
         return [f"{STRATEGY}.blueGreen is missing"]
     return []
 
 
-def _replicas_problems(told: object, plan: Plan) -> list[str]:
-    replicas, ports = _member(told, "spec", "replicas"), len(plan.first.ports)
+def _replicas_problems(rollout: object, plan: Plan) -> list[str]:
+    replicas, ports = _member(rollout, "spec", "replicas"), len(plan.first.ports)
     if not isinstance(replicas, int) or replicas == ports:
         return []
     return [
@@ -39,12 +39,12 @@ def _replicas_problems(told: object, plan: Plan) -> list[str]:
     ]
 
 
-def _analysis_problems(told: object, plan: Plan) -> list[str]:
+def _analysis_problems(rollout: object, plan: Plan) -> list[str]:
     return [
         f"{STRATEGY}.blueGreen.{key} is missing, so the command analyses.{name} of the plan is never run: {{}} is enough"
         for name, key in ANALYSES.items()
         if name in plan.analyses.commands
-        and _member(told, "spec", "strategy", "blueGreen", key) is None
+        and _member(rollout, "spec", "strategy", "blueGreen", key) is None
     ]
 
 
@@ -54,10 +54,10 @@ def rollout_problems(text: bytes, plan: Plan) -> list[str]:
     if len(text) > LARGEST:
         return [f"it has more than {LARGEST} bytes"]
     try:
-        told = decoded(text)
+        rollout = decoded(text)
     except ValueError as error:
         return [f"it is not JSON: {error}"]
-    return _strategy_problems(told) or [
-        *_replicas_problems(told, plan),
-        *_analysis_problems(told, plan),
+    return _strategy_problems(rollout) or [
+        *_replicas_problems(rollout, plan),
+        *_analysis_problems(rollout, plan),
     ]

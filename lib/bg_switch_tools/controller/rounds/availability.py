@@ -46,8 +46,8 @@ class DownPorts:
         self.next = 0.0
 
     def tell(self, connection: Connection, ports: tuple[int, ...]) -> None:
-        """Sends the line where the ports have changed, or some time has passed. Each change goes
-        into the log."""
+        """Sends the line if the ports have changed, or some time has passed. Each change goes into
+        the log."""
         is_due = time.monotonic() >= self.next
         if not is_due and (not self.is_known or ports == self.sent):
             return
@@ -90,9 +90,9 @@ class Availability:
         self.dark = None
 
     def count(self, plan: Plan, ports: tuple[int, ...]) -> int | None:
-        """How many endpoints take requests: all that are up, or, where the switch does not pass
-        over those that are down, the first ones up to one that is down. None where one was not
-        probed yet."""
+        """How many endpoints take requests: all that are up, or, if the switch does not pass over
+        those that are down, the first ones up to one that is down. None if one was not probed
+        yet."""
         passes_over = plan.redispatch and self.down.is_known
         return self.probes.count_up(ports) if passes_over else self.probes.first_up(ports)
 
@@ -118,7 +118,7 @@ class Availability:
                 self.down_ports(revisions[each.name] for each in first if each.name in revisions),
             )
         for number, revision in report.revisions.items():
-            if revision.name == known.asked:
+            if revision.name == known.asked_name:
                 continue
             planned = revisions.get(revision.name)
             if planned is None:

@@ -57,7 +57,7 @@ class BookOpener:
         self.sent = self.book.lost = None
 
     def open(self, connection: Connection, plan: Plan) -> bool:
-        """Opens the book. False where that has to wait, or is refused."""
+        """Opens the book. False if that has to wait, or is refused."""
         now, (revision, why) = time.monotonic(), self.source.to_open(plan)
         if now < self.next or self._is_refused(plan) or self._waits_for_endpoints(plan, revision):
             return False
@@ -74,7 +74,7 @@ class BookOpener:
         return False
 
     def _refuse(self, why: str) -> None:
-        """Tells each minute why clients wait. `OpeningError` where no book was open yet."""
+        """Tells each minute why clients wait. `OpeningError` if no book was open yet."""
         if not self.has_had_book:
             raise OpeningError(why)
         self.next = time.monotonic() + AGAIN

@@ -105,8 +105,8 @@ class Controller:
         self._watch_endpoints()
 
     def do_round(self, connection: Connection) -> float:
-        """One round. Gives the seconds until the next one. `UnreachableError` where the switch
-        stops answering in the middle."""
+        """One round. Gives the seconds until the next one. `UnreachableError` if the switch stops
+        answering in the middle."""
         self.pause.look()
         self.held.look(self.plan)
         report = self._open_book(connection)
@@ -141,8 +141,7 @@ class Controller:
             self.memory.write()
 
     def _open_book(self, connection: Connection) -> Report | None:
-        """The report of the book, which is opened where none is open; None where that has to
-        wait."""
+        """The report of the book, which is opened if none is open; None if that has to wait."""
         report = self.book.report(connection)
         if self.book.was_lost:
             self._forget_book()
@@ -169,7 +168,7 @@ class Controller:
         self.ask_source_from = 0.0
 
     def _tick(self, connection: Connection, report: Report) -> Report:
-        """Ticks each second. Where somebody has ticked further, or the book was open before, the
+        """Ticks each second. If somebody has ticked further, or the book was open before, the
         seconds count on from there."""
         self.clock.follow(report.moment)
         if self.clock.moment() <= report.moment:
@@ -190,8 +189,8 @@ class Controller:
             self.analyses.judge(self.book, connection, self.plan, report, self.source)
 
     def _limit_progress(self, connection: Connection, report: Report) -> None:
-        """Tells of an attempt whose endpoints are not there in time, and aborts it where the plan
-        says so."""
+        """Tells of an attempt whose endpoints are not there in time, and aborts it if the plan says
+        so."""
         newest, limit = report.newest, self.plan.progress
         waited = self.progress.waited(report, time.monotonic())
         if waited < limit.seconds:

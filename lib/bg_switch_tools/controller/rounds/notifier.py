@@ -17,7 +17,7 @@ MOST_AT_ONCE = 4
 MOST_PENDING = 256  # events; a later one is dropped
 GRACE = 2.0  # seconds between SIGTERM and SIGKILL
 MINUTE = 60.0  # seconds between two lines of the log that tell of failures
-LAST_WAIT = 0.5  # seconds that the events that wait have where the controller ends
+LAST_WAIT = 0.5  # seconds that the events that wait have when the controller ends
 LAST_JOIN = 0.2  # seconds after that for the threads
 
 

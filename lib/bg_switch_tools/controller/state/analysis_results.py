@@ -29,8 +29,8 @@ PAUSE = 1.0  # seconds between two writes for new lines alone
 
 @dataclasses.dataclass(frozen=True)
 class AnalysisResult:
-    """What an analysis comes to. `analysis` is `pre` or `post`; `name` is empty where the plan has
-    one command for it. `reason` says why it is an error, or why it was stopped. `last` are the last
+    """What an analysis comes to. `analysis` is `pre` or `post`; `name` is empty if the plan has one
+    command for it. `reason` says why it is an error, or why it was stopped. `last` are the last
     lines that it has printed."""
 
     analysis: str
@@ -51,21 +51,21 @@ class AnalysisResult:
 
     def outcome(self) -> str:
         """Its result with the reason, and the last lines."""
-        told = ", ".join(filter(None, (self.result, self.reason)))
-        return f"{told}: {' / '.join(self.last)}" if self.last else told
+        text = ", ".join(filter(None, (self.result, self.reason)))
+        return f"{text}: {' / '.join(self.last)}" if self.last else text
 
 
-def read_result(told: object) -> AnalysisResult | None:
-    """The result of a value of JSON; None where it is none."""
-    if not isinstance(told, dict):
+def read_result(value: object) -> AnalysisResult | None:
+    """The result of a value of JSON; None if the value is not a result."""
+    if not isinstance(value, dict):
         return None
-    texts = [told.get(key, "") for key in ("analysis", "name", "result", "reason")]
+    texts = [value.get(key, "") for key in ("analysis", "name", "result", "reason")]
     analysis, name, result, reason = (
         text if isinstance(text, str) and text.isprintable() else "" for text in texts
     )
     if analysis not in KINDS or result not in RESULTS or name and not NAME.fullmatch(name):
         return None
-    lines = told.get("last")
+    lines = value.get("last")
     last = [line for line in lines if isinstance(line, str)] if isinstance(lines, list) else []
     return AnalysisResult(
         analysis,
@@ -76,9 +76,9 @@ def read_result(told: object) -> AnalysisResult | None:
     )
 
 
-def read_results(told: object) -> tuple[AnalysisResult, ...]:
-    """The results of a list of JSON, without what is none."""
-    found = [read_result(one) for one in told[:MOST_RESULTS]] if isinstance(told, list) else []
+def read_results(value: object) -> tuple[AnalysisResult, ...]:
+    """The results of a list of JSON, without the values that are not results."""
+    found = [read_result(one) for one in value[:MOST_RESULTS]] if isinstance(value, list) else []
     return tuple(result for result in found if result)
 
 
@@ -132,23 +132,23 @@ class ResultsFile:
         self.path = plan_path + SUFFIX + ANALYSES
 
     def read(self) -> AttemptResults:
-        """The results; none where the file is not there, or is none."""
+        """The results; empty if the file does not exist, or has no results."""
         try:
             with open(self.path, "rb") as file:
-                told = decoded(file.read(LARGEST))
+                value = decoded(file.read(LARGEST))
         except (OSError, ValueError):
             return AttemptResults()
-        if not isinstance(told, JsonObject):
+        if not isinstance(value, JsonObject):
             return AttemptResults()
-        revision, number, how = (told.get(key) for key in ("revision", "number", "how"))
+        revision, number, how = (value.get(key) for key in ("revision", "number", "how"))
         if not isinstance(revision, str) or not NAME.fullmatch(revision) or type(number) is not int:
             return AttemptResults()
         known = how if isinstance(how, str) and how.isprintable() else ""
-        return AttemptResults(revision, number, known, read_results(told.get("analyses")))
+        return AttemptResults(revision, number, known, read_results(value.get("analyses")))
 
     def write(self, results: AttemptResults) -> None:
         """Puts the file in place for all to read, without waiting for the disk: after a crash of
-        the system the analyses run again. `OSError` where the folder takes no file."""
+        the system the analyses run again. `OSError` if the folder takes no file."""
         fresh = f"{self.path}.new"
         with open(fresh, "wb") as file:
             file.write((json.dumps(results.as_json()) + "\n").encode("ascii"))
@@ -180,8 +180,8 @@ class AnalysisResults:
         """Takes in how the analyses `pre` or `post` of the revision of this number stand. Those of
         an attempt that is not the newest any more are not kept."""
         if number == self.attempt.number:
-            told = self.attempt.with_results(kind, results)
-            self._keep(told.ended(told.how) if told.how else told)
+            attempt = self.attempt.with_results(kind, results)
+            self._keep(attempt.ended(attempt.how) if attempt.how else attempt)
 
     def end(self, revision: str, number: int, how: str) -> tuple[AnalysisResult, ...]:
         """The attempt of this revision has ended. Gives the results of its analyses that have

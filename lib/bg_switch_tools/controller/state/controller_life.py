@@ -21,7 +21,7 @@ class Life(enum.Enum):
 
 
 class ControllerLife(NamedTuple):
-    """How a controller lives. `text` says what is wrong; empty where nothing is."""
+    """How a controller lives. `text` says what is wrong; empty if nothing is."""
 
     life: Life
     text: str = ""

@@ -13,7 +13,7 @@ UNKNOWN = "somebody"
 
 
 class Paused(NamedTuple):
-    """Who has paused the controller, and when (ISO 8601; empty where the file does not tell)."""
+    """Who has paused the controller, and when (ISO 8601; empty if the file does not tell)."""
 
     who: str
     when: str
@@ -22,8 +22,8 @@ class Paused(NamedTuple):
         return f"paused by {self.who}" + (f" since {self.when}" if self.when else "")
 
 
-def _text_of(told: object, key: str) -> str:
-    value = told.get(key) if isinstance(told, dict) else None
+def _text_of(members: object, key: str) -> str:
+    value = members.get(key) if isinstance(members, dict) else None
     return value if isinstance(value, str) and value.isprintable() else ""
 
 
@@ -35,16 +35,15 @@ class PauseFile:
         self.path = plan_path + SUFFIX + PAUSED
 
     def read(self) -> Paused | None:
-        """Who has paused the controller; None where nobody has. `OSError` where that can't be
-        told."""
+        """Who has paused the controller; None if nobody has. `OSError` if that can't be told."""
         try:
             with open(self.path, "rb") as file:
-                told = decoded(file.read(MOST_BYTES))
+                members = decoded(file.read(MOST_BYTES))
         except FileNotFoundError:
             return None
         except (ValueError, PermissionError):
-            told = None
-        return Paused(_text_of(told, "who") or UNKNOWN, _text_of(told, "when"))
+            members = None
+        return Paused(_text_of(members, "who") or UNKNOWN, _text_of(members, "when"))
 
     def pause(self) -> Paused:
         """Pauses the controller in the caller's name. Gives who has paused it, which may be
@@ -78,7 +77,7 @@ class Pause:
         return self.paused is not None
 
     def look(self) -> None:
-        """Reads the file. Where that fails, the pause stays as it was."""
+        """Reads the file. If that fails, the pause stays as it was."""
         try:
             paused = self.file.read()
         except OSError:

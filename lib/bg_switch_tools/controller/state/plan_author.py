@@ -20,7 +20,7 @@ PLAN = "plan"  # by whom: an edit of the plan by other means than bgctl
 
 
 def login_name() -> str:
-    """The login name of who runs this process; that of who called sudo(8), where root runs it by
+    """The login name of who runs this process; that of who called sudo(8), if root runs it by
     that."""
     user = os.getuid()
     if user == 0 and os.environ.get("SUDO_USER"):
@@ -45,10 +45,10 @@ class Overtaken:
         return f"{self.name} was overtaken before its deploy: the plan names {self.by} last"
 
 
-def _read_overtaken(told: object) -> Overtaken | None:
+def _read_overtaken(json_value: object) -> Overtaken | None:
     values = (
-        [told.get(field.name) for field in dataclasses.fields(Overtaken)]
-        if isinstance(told, dict)
+        [json_value.get(field.name) for field in dataclasses.fields(Overtaken)]
+        if isinstance(json_value, dict)
         else []
     )
     texts = [value for value in values if isinstance(value, str) and value.isprintable()]
@@ -57,10 +57,10 @@ def _read_overtaken(told: object) -> Overtaken | None:
     return Overtaken(*texts)
 
 
-def write_for_all(path: str, told: Mapping[str, object]) -> None:
+def write_for_all(path: str, members: Mapping[str, object]) -> None:
     """Writes an object of JSON that a controller of another user can read, whatever the umask
     is."""
-    write_whole(path, (json.dumps(told) + "\n").encode("ascii"))
+    write_whole(path, (json.dumps(members) + "\n").encode("ascii"))
     os.chmod(path, 0o644)
 
 
@@ -78,15 +78,15 @@ class Author:
 
     def sign(self, edit: PlanEdit) -> None:
         """Notes the caller as the author of an edit that is about to be put in place, and what it
-        overtakes. `OSError` where the file can't be written."""
+        overtakes. `OSError` if the file can't be written."""
         when = local_time()
-        told = {
+        members = {
             "who": login_name(),
             "when": when,
             "digest": _digest(edit.after),
             "overtaken": [dataclasses.asdict(each) for each in self._overtaken_by(edit, when)],
         }
-        write_for_all(self.path, told)
+        write_for_all(self.path, members)
 
     def _overtaken_by(self, edit: PlanEdit, when: str) -> list[Overtaken]:
         """What is overtaken, once an edit is in place; what went before the latest deploy is
@@ -105,28 +105,30 @@ class Author:
         )
         return [*self.overtaken(edit.before), *more][-MOST_OVERTAKEN:]
 
-    def _told(self, text: bytes | None) -> Mapping[str, object]:
-        """What the file says of the plan of this text, or where it is None of the plan's file as it
-        is now; nothing where nobody has edited it with bgctl since."""
+    def _members(self, text: bytes | None) -> Mapping[str, object]:
+        """What the file says of the plan of this text, or, if it is None, of the plan's file as it
+        is now; empty if nobody has edited it with bgctl since."""
         try:
             with open(self.path, "rb") as file:
-                told = decoded(file.read(MOST_BYTES))
+                members = decoded(file.read(MOST_BYTES))
             if text is None:
                 with open(self.plan_path, "rb") as plan:
                     text = plan.read(LARGEST + 1)
         except (OSError, ValueError):
             return {}
-        return told if isinstance(told, dict) and told.get("digest") == _digest(text) else {}
+        return (
+            members if isinstance(members, dict) and members.get("digest") == _digest(text) else {}
+        )
 
     def name(self, text: bytes | None = None) -> str | None:
-        """The author of the plan of this text, or of the plan's file as it is now; None where nobody
+        """The author of the plan of this text, or of the plan's file as it is now; None if nobody
         has edited it with bgctl since."""
-        who = self._told(text).get("who")
+        who = self._members(text).get("who")
         return who[:LONGEST_NAME] if isinstance(who, str) and who else None
 
     def overtaken(self, text: bytes | None = None) -> list[Overtaken]:
         """The revisions that the edits with bgctl have overtaken, up to the plan of this text, or to
         the plan's file as it is now, the oldest first."""
-        told = self._told(text).get("overtaken")
-        found = [_read_overtaken(one) for one in told] if isinstance(told, list) else []
+        values = self._members(text).get("overtaken")
+        found = [_read_overtaken(one) for one in values] if isinstance(values, list) else []
         return [one for one in found if one is not None]

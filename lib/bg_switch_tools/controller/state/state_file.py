@@ -63,12 +63,12 @@ class State:
     """`stable` is the revision that was stable last, of those whose ports are known. `deployed` is
     the plan's last revision that was deployed because the plan names it. `attempt` is the newest
     revision while its attempt runs. `since` is the time at which the moment was 0, in seconds of
-    the system's clock (0 where that is not known). `analyses` are the processes of the analyses that
-    run. `started` are the revisions that were started and not stopped yet, `commands` the
-    processes of the commands that start and stop them and run. `former` are the control ports and
-    sockets that the plan named before. `ports` are the revisions of the book whose ports are known for sure,
-    `held` those of the plan that are held back. `unknown` is the name of the stable revision where
-    its ports are not known, and those of none before are; else it is empty. `failing` are the
+    the system's clock (0 if that is not known). `analyses` are the processes of the analyses that
+    run. `started` are the revisions that were started and not stopped yet, `commands` the processes
+    of the commands that start and stop them and run. `former` are the control ports and sockets
+    that the plan named before. `ports` are the revisions of the book whose ports are known for
+    sure, `held` those of the plan that are held back. `unknown` is the name of the stable revision
+    if its ports are not known, and those of none before are; else it is empty. `failing` are the
     revisions whose command `start` has failed and has not succeeded since."""
 
     moment: int = 0
@@ -106,19 +106,19 @@ class StateError(Exception):
     """There is no state to go on by. The text says why."""
 
 
-def _told(revision: PlannedRevision | None) -> object:
+def _revision_object(revision: PlannedRevision | None) -> object:
     return revision and {"name": revision.name, "ports": list(revision.ports)}
 
 
-def _told_held(held: tuple[HeldBack, ...]) -> object:
-    return [{"revision": _told(each.revision), "reason": each.reason} for each in held]
+def _held_objects(held: tuple[HeldBack, ...]) -> object:
+    return [{"revision": _revision_object(each.revision), "reason": each.reason} for each in held]
 
 
-def _told_analyses(analyses: tuple[ProcessId, ...]) -> dict[str, object]:
+def _analyses_object(analyses: tuple[ProcessId, ...]) -> dict[str, object]:
     """The processes of the analyses: one as a file has it that has no list of them."""
-    told = [dataclasses.asdict(process) for process in analyses]
-    return {"analysis": told[0] if len(told) == 1 else None} | (
-        {"analyses": told} if len(told) > 1 else {}
+    processes = [dataclasses.asdict(process) for process in analyses]
+    return {"analysis": processes[0] if len(processes) == 1 else None} | (
+        {"analyses": processes} if len(processes) > 1 else {}
     )
 
 
@@ -128,18 +128,18 @@ def written(state: State) -> bytes:
         json.dumps(
             {
                 "moment": state.moment,
-                "stable": _told(state.stable),
-                "deployed": _told(state.deployed),
-                "attempt": _told(state.attempt),
+                "stable": _revision_object(state.stable),
+                "deployed": _revision_object(state.deployed),
+                "attempt": _revision_object(state.attempt),
                 "since": state.since,
-                **_told_analyses(state.analyses),
-                "started": [_told(revision) for revision in state.started],
+                **_analyses_object(state.analyses),
+                "started": [_revision_object(revision) for revision in state.started],
                 "commands": [dataclasses.asdict(command) for command in state.commands],
                 "former": list(state.former),
-                "ports": [_told(revision) for revision in state.ports],
-                "held": _told_held(state.held),
+                "ports": [_revision_object(revision) for revision in state.ports],
+                "held": _held_objects(state.held),
                 "unknown": state.unknown,
-                "failing": _told_held(state.failing),
+                "failing": _held_objects(state.failing),
             },
             indent=1,
         )
@@ -147,16 +147,16 @@ def written(state: State) -> bytes:
     ).encode("ascii")
 
 
-def _read_revision(judge: Judge, told: object, place: str) -> PlannedRevision:
-    members = judge.members(told, place, ("name", "ports"), ("name", "ports"))
+def _read_revision(judge: Judge, value: object, place: str) -> PlannedRevision:
+    members = judge.members(value, place, ("name", "ports"), ("name", "ports"))
     return PlannedRevision(
         judge.member(members, "name", place, judge.name, ""),
         judge.member(members, "ports", place, judge.ports, ()),
     )
 
 
-def _read_process(judge: Judge, told: object, place: str) -> ProcessId:
-    members = judge.members(told, place, ("pid", "start"), ("pid", "start"))
+def _read_process(judge: Judge, json_value: object, place: str) -> ProcessId:
+    members = judge.members(json_value, place, ("pid", "start"), ("pid", "start"))
     pid, start = (
         judge.member(
             members,
@@ -170,17 +170,17 @@ def _read_process(judge: Judge, told: object, place: str) -> ProcessId:
     return ProcessId(pid, start)
 
 
-def _read_held(judge: Judge, told: object, place: str) -> HeldBack:
-    members = judge.members(told, place, ("revision", "reason"), ("revision", "reason"))
+def _read_held(judge: Judge, value: object, place: str) -> HeldBack:
+    members = judge.members(value, place, ("revision", "reason"), ("revision", "reason"))
     reason = judge.member(members, "reason", place, judge.text, "")
     return HeldBack(
         _read_revision(judge, members.get("revision"), f"{place}.revision"), reason[:LONGEST_REASON]
     )
 
 
-def _read_list(judge: Judge, told: object, place: str) -> list[object]:
-    if isinstance(told, list) and len(told) <= MOST_STARTED:
-        return told
+def _read_list(judge: Judge, value: object, place: str) -> list[object]:
+    if isinstance(value, list) and len(value) <= MOST_STARTED:
+        return value
     judge.note(place, f"it is not a list of at most {MOST_STARTED}")
     return []
 
@@ -239,19 +239,19 @@ def _read_values(judge: Judge, members: JsonObject) -> State:
 
 
 def read_state(text: bytes) -> State:
-    """The state of a file's bytes. `StateError` where they are cut, or are none: a name and ports
-    of it are those of a plan."""
+    """The state of a file's bytes. `StateError` if they are cut, or are none: a name and ports of
+    it are those of a plan."""
     judge = Judge()
     if not text.strip():
         raise StateError("is empty")
     try:
-        told = decoded(text)
+        value = decoded(text)
     except ValueError as error:
         is_cut = text.startswith(b"{") and not text.endswith(b"}\n")
         raise StateError("is cut" if is_cut else f"is not a state file: {error}") from None
-    if not isinstance(told, JsonObject):
+    if not isinstance(value, JsonObject):
         raise StateError("is not a state file: it has no object")
-    members = judge.members(told, "", (*NEEDED, *LATER), NEEDED)
+    members = judge.members(value, "", (*NEEDED, *LATER), NEEDED)
     state = State() if judge.problems else _read_values(judge, members)
     if judge.problems:
         raise StateError(f"is not a state file: {'; '.join(judge.problems)}")
@@ -282,7 +282,7 @@ def _why_neither(file: str, copy: str) -> str:
 
 
 class StateFile:
-    """The state file of a plan, and a copy of it, which is read where the file itself can't be
+    """The state file of a plan, and a copy of it, which is read if the file itself can't be
     used."""
 
     def __init__(self, plan_path: str) -> None:
@@ -290,8 +290,8 @@ class StateFile:
         self.copy = self.path + COPY
 
     def read(self) -> tuple[State, str]:
-        """The state, and why that of the copy was taken; an empty text where it is that of the file
-        itself. `StateError` where neither can be used."""
+        """The state, and why that of the copy was taken; an empty text if it is that of the file
+        itself. `StateError` if neither can be used."""
         try:
             return self._read_one(self.path), ""
         except StateError as reason:
@@ -312,7 +312,7 @@ class StateFile:
             raise StateError(f"can't be read: {error.strerror}") from None
 
     def write(self, state: State) -> None:
-        """Writes the file and its copy, one after the other. `OSError` where the folder takes no
+        """Writes the file and its copy, one after the other. `OSError` if the folder takes no
         file."""
         text = written(state)
         write_whole(self.path, text)
@@ -328,8 +328,8 @@ class StateLock:
     process ends, however. The time of the file's last change shows that its holder goes on."""
 
     def __init__(self, plan_path: str, other: str = "another controller runs this plan") -> None:
-        """Takes the lock. `StateLockedError` where another process has it, which is told as
-        `other`; `OSError` where the folder takes no file."""
+        """Takes the lock. `StateLockedError` if another process has it, which is told as `other`;
+        `OSError` if the folder takes no file."""
         self.path = plan_path + SUFFIX + LOCK
         self.descriptor = os.open(self.path, os.O_RDWR | os.O_CREAT, 0o644)
         self.next = 0.0  # from when on the file is touched again
@@ -363,7 +363,7 @@ class StateLock:
                 os.utime(self.descriptor)
 
     def release(self) -> None:
-        """Lets the lock go, where that was not done before."""
+        """Lets the lock go, if that was not done before."""
         descriptor, self.descriptor = self.descriptor, -1
         if descriptor >= 0:
             os.close(descriptor)

@@ -13,7 +13,7 @@ def _reset(path: str, plan: Plan) -> str:
 
 
 def _why_foreign(state: State, path: str, plan: Plan) -> str:
-    """What is to be done where the plan has no name of the state."""
+    """What to do if the plan has no name of the state."""
     stable, deployed = (
         state.unknown or state.stable and state.stable.name,
         state.deployed and state.deployed.name,
@@ -34,8 +34,8 @@ def _why_foreign(state: State, path: str, plan: Plan) -> str:
 
 
 def why_not_opened(state: State, path: str, plan: Plan) -> str:
-    """Why a switch without a book is not opened by this plan, where this is the state in the file
-    of this path, and what to do. Empty where it is opened."""
+    """Why a switch without a book is not opened by this plan, with this state in the file of this
+    path, and what to do. Empty if it is opened."""
     if not state.belongs_to(plan):
         return f"no switch is opened by this plan: {_why_foreign(state, path, plan)}"
     if state.unknown and state.stable is None and plan.named(state.unknown) is None:
@@ -47,7 +47,7 @@ def why_not_opened(state: State, path: str, plan: Plan) -> str:
 
 
 def why_plan_opens_none(plan_path: str, plan: Plan) -> str:
-    """The same by the state beside a plan; empty where there is none."""
+    """The same by the state beside a plan; empty if there is no such state."""
     file = StateFile(plan_path)
     try:
         return why_not_opened(file.read()[0], file.path, plan)

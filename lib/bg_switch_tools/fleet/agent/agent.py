@@ -32,12 +32,12 @@ class Lease:
         self.has_failed = False  # whether the latest call has
 
     def due(self) -> float:
-        """The seconds until it is to be renewed, 0 or less where that is now."""
+        """The seconds until it is to be renewed, 0 or less if that is now."""
         return self.refreshed + self.seconds / 4 - self.now() if self.number else 0.0
 
     def hold(self) -> bool:
-        """Grants or refreshes it. False where it has ended since, and another one was granted.
-        `StoreError` where neither can be done."""
+        """Grants or refreshes it. False if it has ended since, and another one was granted.
+        `StoreError` if neither can be done."""
         due = self.due()
         if due > 0:
             return True
@@ -51,7 +51,7 @@ class Lease:
         return is_refreshed or not had_one
 
     def _refresh(self) -> bool:
-        """Refreshes it, and grants another one where it is gone. Gives whether it was there."""
+        """Refreshes it, and grants another one if it is gone. Gives whether it was there."""
         if self.number and not self._was_ended() and self.store.refresh(self.number) > 0:
             return True
         self.number = 0
@@ -82,7 +82,7 @@ class Trouble:
         self.next = 0.0
 
     def begin(self, why: str) -> None:
-        """It does not work now. `why` is told where it is due."""
+        """It does not work now. `why` is told if it is due."""
         now = self.now()
         if self.since is None:
             self.since, self.next = now, now + MINUTE
@@ -92,7 +92,7 @@ class Trouble:
             self.say(f"{self.what}, for {now - self.since:.0f} seconds now: {why}")
 
     def end(self, over: str) -> None:
-        """It works. `over` is told where it did not before."""
+        """It works. `over` is told if it did not work before."""
         if self.since is not None:
             self.say(f"{over}, after {self.now() - self.since:.0f} seconds")
         self.since = None
@@ -109,8 +109,8 @@ class Read(NamedTuple):
 
 
 class FleetAgent:
-    """The store's side of a machine. Where the store gives no answer, everything stays as it is,
-    and the log says so once.
+    """The store's side of a machine. If the store gives no answer, everything stays as it is, and
+    the log says so once.
 
     `fetch` and `write` wait for the store, and may be called by a thread of their own; all else is
     for the thread of the machine.
@@ -131,7 +131,7 @@ class FleetAgent:
         self.now = now
         self.lease = Lease(store, now, seconds)
         self.is_anew = False  # whether the lease had ended while the agent rested
-        self.seen: Snapshot | None = None  # the latest read; None where it has failed
+        self.snapshot: Snapshot | None = None  # the latest read; None if it has failed
         self.silence = Trouble(
             lambda text: say("fleet", text),
             now,
@@ -163,8 +163,8 @@ class FleetAgent:
             return Read(self.now(), None, str(fault), is_anew)
 
     def keep(self) -> bool:
-        """Keeps the lease of an agent that rests. False where that has failed, came late, or was
-        the first time after one of these."""
+        """Keeps the lease of an agent that rests. False if that has failed, came late, or was the
+        first time after one of these."""
         gaps = self.lease.gaps
         try:
             self.is_anew = not self.lease.hold() or self.is_anew
@@ -196,21 +196,21 @@ class FleetAgent:
             self.say("fleet", "the lease of the machine had ended: the fleet has taken it as away")
         if read.snapshot is None:
             self.silence.begin(read.fault)
-            self.seen = None
+            self.snapshot = None
             self.machine.lose_store()
             return
         self.silence.end("the store answers again")
-        self.seen = read.snapshot
-        self.machine.take_read(self.seen, read.begun)
+        self.snapshot = read.snapshot
+        self.machine.take_read(self.snapshot, read.begun)
         if self.machine.fault != self.told_fault:
             self.told_fault = self.machine.fault
             if self.told_fault:
                 self.say("fleet", self.told_fault)
 
     def tell(self, report: Report | None) -> None:
-        """Writes what the machine reports, where that has changed since the read of this round."""
-        if self.seen:
-            self.write(self.seen, self.text(report))
+        """Writes what the machine reports, if that has changed since the read of this round."""
+        if self.snapshot:
+            self.write(self.snapshot, self.text(report))
 
     def text(self, report: Report | None) -> str:
         """What the machine reports, as its key has it."""

@@ -18,8 +18,8 @@ ID_TEXT = re.compile(r"[0-9a-f]{32}")
 
 def path_of(file: FleetFile, state: pathlib.Path | None) -> str:
     """The path before the endings of an agent's files. `state` is that path, or a folder, in which
-    the names of the fleet and of the host tell the agents apart; where it is left out, the folder
-    is that of systemd's unit, or else that of the fleet file.
+    the names of the fleet and of the host tell the agents apart; if it is left out, the folder is
+    that of systemd's unit, or else that of the fleet file.
     """
     if state is not None and not state.is_dir():
         return str(state)
@@ -48,21 +48,21 @@ def machine_id(path: str, say: Say) -> str:
 
 def _kept_id(path: pathlib.Path, say: Say) -> str:
     try:
-        told = path.read_text(encoding="ascii").strip()
+        text = path.read_text(encoding="ascii").strip()
     except (OSError, ValueError):
-        told = ""
-    if ID_TEXT.fullmatch(told):
-        return told
-    made = secrets.token_hex(16)
+        text = ""
+    if ID_TEXT.fullmatch(text):
+        return text
+    new_id = secrets.token_hex(16)
     try:
-        write_whole(str(path), f"{made}\n".encode("ascii"))
+        write_whole(str(path), f"{new_id}\n".encode("ascii"))
     except OSError as error:
         say(
             "state",
             f"the id of this machine can't be kept in {path}: {error.strerror}; an agent that is started again has to wait until "
             "the lease of this one has ended",
         )
-    return made
+    return new_id
 
 
 class StateKeeper:
@@ -85,7 +85,7 @@ class StateKeeper:
             return MachineState()
 
     def keep(self, state: MachineState) -> None:
-        """Keeps a state. Where that fails, `keep_again` tries it again."""
+        """Keeps a state. If that fails, `keep_again` tries it again."""
         try:
             self.file.write(state)
         except OSError as error:

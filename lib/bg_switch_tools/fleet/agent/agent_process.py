@@ -49,8 +49,8 @@ MakeStore = Callable[[float], Store]  # is given the seconds within which a call
 class AgentArguments:
     """How an agent is run. `state` is the path beside which it keeps its files, or a folder for
     them: left out, it is the folder of the state of systemd's unit, or else that of the fleet file.
-    `round_seconds` are those between two reads of the store where no key changes; more than one
-    counts as one, since no line goes forward by an older read."""
+    `round_seconds` are those between two reads of the store if no key changes; more than one counts
+    as one, since no line goes forward by an older read."""
 
     state: pathlib.Path | None = None
     round_seconds: float = TURN
@@ -269,8 +269,8 @@ class PlainLog(Log):
     """A log in which a text of another machine, of a person or of a plan moves no cursor, and makes
     no line of its own."""
 
-    def _object(self, event: str, text: str, told: Mapping[str, object]) -> dict[str, object]:
-        return super()._object(event, plain(text), told)
+    def _object(self, event: str, text: str, members: Mapping[str, object]) -> dict[str, object]:
+        return super()._object(event, plain(text), members)
 
 
 def tell(text: str) -> None:
@@ -279,7 +279,7 @@ def tell(text: str) -> None:
 
 
 def start_faults(file: FleetFile) -> list[str]:
-    """Why no agent can run by this fleet file, a sentence each; none where one can."""
+    """Why no agent can run by this fleet file, a sentence each; empty if one can."""
     if file.machine is None:
         return [
             "the fleet file has neither host nor control: it is one for people, and no agent runs by it"
@@ -294,9 +294,9 @@ def start_faults(file: FleetFile) -> list[str]:
 
 def run_agent(file: FleetFile, arguments: AgentArguments) -> int:
     """Runs the agent of a machine until SIGTERM or ctrl-C. Gives the exit status: `DONE`; `REFUSED`
-    where the fleet file is none of a machine, where the Rollout lets its switch promote by itself,
-    and where an agent runs here already; `TAKEN` where another machine reports as its host; `FAULT`
-    after a fault of its own."""
+    if the fleet file is not that of a machine, if the Rollout lets its switch promote by itself,
+    and if an agent runs here already; `TAKEN` if another machine reports as its host; `FAULT` after
+    a fault of its own."""
     faults = start_faults(file)
     for fault in faults:
         tell(fault)

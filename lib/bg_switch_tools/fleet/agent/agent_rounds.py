@@ -33,7 +33,7 @@ class AgentRounds:
         self.make_controller = make_controller
         self.rollout = RolloutFile(self.machine.settings.rollout)
         self.rollout_faults: list[str] = []
-        self.unopened = ""  # why the switch can't be opened; empty where it can
+        self.unopened = ""  # why the switch can't be opened; empty if it can
         self.probes = probes
         self.silence = SwitchSilence(log, MINUTE)
         self.controller: Controller | None = None  # from the first plan on
@@ -66,7 +66,7 @@ class AgentRounds:
 
     def _round(self, connection: Connection) -> tuple[Report | None, float]:
         """The report after the round, and the seconds until the next one. A switch without a book
-        is opened only where its Rollout fits a fleet."""
+        is opened only if its Rollout fits a fleet."""
         controller = self.controller
         if controller is None or self.rollout_faults:
             report = connection.ask_report()
@@ -127,7 +127,7 @@ class AgentRounds:
             self.controller.notifier.end()
 
     def end_at_once(self) -> None:
-        """Ends what runs where the rounds hang. Another thread may call it."""
+        """Ends what runs if the rounds hang. Another thread may call it."""
         if self.controller:
             self.controller.launcher.begin_end()
             self.controller.analyses.end_at_last()

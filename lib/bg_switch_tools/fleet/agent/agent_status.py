@@ -10,7 +10,7 @@ from bg_switch_tools.switch.json_values import Judge, decoded
 
 SUFFIX = ".agent"
 VERSION = 1
-PERIOD = 5.0  # seconds after which the file is written again, also where nothing has changed
+PERIOD = 5.0  # seconds after which the file is written again, even if nothing has changed
 STALE = 3 * PERIOD  # seconds after which a file is of an agent that hangs or was killed
 GREATEST = 1 << 40
 
@@ -34,8 +34,7 @@ class AgentStatus:
         return json.dumps({"version": VERSION, **vars(self)}) + "\n"
 
     def lost_seconds(self, now: float) -> float:
-        """For how many seconds the store has given no answer at this Unix time; 0 where it
-        answers."""
+        """For how many seconds the store has given no answer at this Unix time; 0 if it answers."""
         return max(now - self.lost, 0.0) if self.lost else 0.0
 
     def is_stale(self, now: float) -> bool:
@@ -44,13 +43,13 @@ class AgentStatus:
 
 
 def read_agent_status(text: bytes) -> AgentStatus:
-    """The status of a file's bytes. `UnreadableError` where they are none of this version."""
+    """The status of a file's bytes. `UnreadableError` if they are none of this version."""
     judge, keys = Judge(), ("version", *(field.name for field in dataclasses.fields(AgentStatus)))
     try:
-        told = decoded(text)
+        value = decoded(text)
     except ValueError as error:
         raise UnreadableError(f"it is not JSON: {error}") from None
-    members = judge.members(told, "", keys, keys)
+    members = judge.members(value, "", keys, keys)
     if judge.problems or members["version"] != VERSION:
         raise UnreadableError("; ".join(judge.problems) or f"its version is not {VERSION}")
     times = {
@@ -76,8 +75,8 @@ class AgentStatusFile:
         self.status = status
 
     def keep(self, read: float, lost: float) -> None:
-        """Writes the file where it is due. A folder that takes none is passed over: the log has
-        told it of the state."""
+        """Writes the file if it is due. A folder that can't be written to is passed over: the log
+        has told it of the state."""
         now = time.time()
         is_due = (
             bool(lost) != bool(self.status.lost)

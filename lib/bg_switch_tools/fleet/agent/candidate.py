@@ -45,7 +45,7 @@ class Candidate:
         # that are gone, since an etcd that is back lets leases last longer: so the lead is given up,
         # and each machine reports to the next leader, which may be this one.
         self.has_lost = False
-        self.seen: Snapshot | None = None  # the latest read; None where it has failed
+        self.snapshot: Snapshot | None = None  # the latest read; None if it has failed
         self.clock = StageClock()
         self.told_fault = ""
         self.told_dropped: tuple[str, int] = ("", 0)  # with the `changed` revision of its order
@@ -75,8 +75,8 @@ class Candidate:
         return pending is not None and self.send(pending)
 
     def look(self) -> Pending | None:
-        """Reads, and decides what to write; None where nothing is to be written."""
-        self.seen = None
+        """Reads, and decides what to write; None if nothing is to be written."""
+        self.snapshot = None
         try:
             self._hold(self.leads)
             snapshot = self.store.read()
@@ -85,7 +85,7 @@ class Candidate:
         except StoreError as fault:
             self._lose(fault)
             return None
-        self.seen = snapshot
+        self.snapshot = snapshot
         self.silence.end("the store answers the candidate again")
         self._see(snapshot)
         key = View(snapshot).key(LEADER)
@@ -138,7 +138,7 @@ class Candidate:
 
     def may_rest(self) -> bool:
         """Whether nothing is to be decided by the latest read until a key changes."""
-        return self.seen is not None and not self.has_lost and is_at_rest(View(self.seen))
+        return self.snapshot is not None and not self.has_lost and is_at_rest(View(self.snapshot))
 
     def due(self) -> float:
         """The seconds until the lease of a leader is to be renewed; a candidate that does not lead
@@ -146,8 +146,8 @@ class Candidate:
         return self.lease.due() if self.leads else math.inf
 
     def keep(self) -> bool:
-        """Keeps the lease of a leader that rests. False where that has failed, came late, or was
-        the first time after one of these, or where another lease was granted."""
+        """Keeps the lease of a leader that rests. False if that has failed, came late, or was the
+        first time after one of these, or if another lease was granted."""
         gaps = self.lease.gaps
         try:
             self._hold(self.leads)
@@ -160,7 +160,7 @@ class Candidate:
         """Notes since when the stage lasts, whoever leads."""
         try:
             self.clock.see(View(snapshot).record, self.now())
-        except UnreadableError:  # which is told where this one leads
+        except UnreadableError:  # which is told if this one leads
             return
 
     def _decide(self, snapshot: Snapshot) -> Pending | None:
@@ -176,7 +176,7 @@ class Candidate:
         return Pending(write) if write else None
 
     def _tell_fault(self, fault: str) -> None:
-        """Tells why less is decided than could be, once; empty where that is over."""
+        """Tells why less is decided than could be, once; empty if that is over."""
         if fault and fault != self.told_fault:
             self.say("leader", fault)
         self.told_fault = fault
@@ -189,15 +189,15 @@ class Candidate:
 
     def _tell_dropped(self, write: Write) -> None:
         """Tells of an order that is dropped, once. It is told before the write, so that no order
-        goes without a line, also where this process ends meanwhile."""
+        goes without a line, even if this process ends meanwhile."""
         order = next((compare.value for compare in write.compares if compare.name == ORDER), 0)
         if write.dropped and (write.dropped, order) != self.told_dropped:
             self.told_dropped = (write.dropped, order)
             self.say("leader", write.dropped)
 
     def send(self, pending: Pending) -> bool:
-        """Writes what was decided. Gives whether it was written: not where something has changed
-        since the read."""
+        """Writes what was decided. Gives whether it was written: not if something has changed since
+        the read."""
         write = pending.write
         self._tell_dropped(write)
         try:

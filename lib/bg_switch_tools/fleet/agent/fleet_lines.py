@@ -20,7 +20,7 @@ from bg_switch_tools.switch.replies import TOO_LATE, UNKNOWN_WORD, Reply
 from bg_switch_tools.switch.reports import Report
 
 
-# By an answer to a promote: what else is told of it, where people see it.
+# By an answer to a promote: what else is told of it, in a place that people see.
 MORE_OF: Mapping[Reply, str] = {
     UNKNOWN_WORD: ", since this switch does not know the line `before`: upgrade it"
 }
@@ -69,7 +69,7 @@ class FleetLines:
 
     def _promote(self, report: Report) -> Line | None:
         """The line by which the switch promotes, unless the read of the record is too old by then:
-        the agent and the switch may be stopped on the way. None where it is too old already."""
+        the agent and the switch may be stopped on the way. None if it is too old already."""
         machine = self.machine
         if machine.record is None or machine.read_at is None or machine.promotes_before is None:
             return None
@@ -88,8 +88,8 @@ class FleetLines:
         """Takes in a reply. A line that was too late is no fault of the machine: it is decided anew
         by the next read."""
         if reply != TOO_LATE:
-            sent, told = without_time_limit(line), f"{reply}{MORE_OF.get(reply, '')}"
-            self.machine.take_reply(sent, reply.was_carried_out, told, report, self.now())
+            sent, reply_text = without_time_limit(line), f"{reply}{MORE_OF.get(reply, '')}"
+            self.machine.take_reply(sent, reply.was_carried_out, reply_text, report, self.now())
         return False
 
     def is_paused(self) -> bool:

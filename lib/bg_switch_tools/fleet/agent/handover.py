@@ -38,7 +38,7 @@ class Handover:
 
     def await_text(self) -> str | None:
         """Waits until a round was done with all reads that were put. Gives what the machine reports
-        after it: None where that is nothing, and where the agent ends."""
+        after it: None if it reports nothing, or if the agent ends."""
         with self._condition:
             put = self._put
             self._condition.wait_for(lambda: self._done >= put or self._has_ended)
@@ -51,14 +51,14 @@ class Handover:
             return self._rounds
 
     def await_round(self, rounds: int) -> None:
-        """Waits until more rounds are over than so many, or the agent ends."""
+        """Waits until more than `rounds` rounds are over, or the agent ends."""
         with self._condition:
             self._condition.wait_for(lambda: self._rounds > rounds or self._has_ended)
 
     # ---- the thread of the rounds ----
 
     def await_reads(self, seconds: float) -> list[Read]:
-        """Waits until a read was put, but for so many seconds at most. Gives those that were not
+        """Waits until a read was put, but for at most `seconds` seconds. Gives those that were not
         taken yet, the oldest first."""
         with self._condition:
             self._condition.wait_for(lambda: self._reads or self._has_ended, seconds)

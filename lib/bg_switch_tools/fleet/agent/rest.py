@@ -51,7 +51,7 @@ class Standing:
         self.wakes: Sequence[Wake] = ()
         self._lock = threading.Lock()
         self._after: int | None = (
-            None  # the watch tells of changes after it; None where none stands
+            None  # the watch tells of changes after it; None if no watch stands
         )
         self._cut: Callable[[], None] | None = None
 
@@ -89,10 +89,10 @@ class Resting(Protocol):
     """What a thread does while it rests."""
 
     def due(self) -> float:
-        """The seconds until something is to be kept, 0 or less where that is now."""
+        """The seconds until something is to be kept, 0 or less if that is now."""
 
     def keep(self) -> bool:
-        """Keeps it. False where that tells that the store was not reached for a while."""
+        """Keeps it. False if that tells that the store was not reached for a while."""
 
 
 class Rest:
@@ -104,13 +104,13 @@ class Rest:
         self.now = now
 
     def pause(self, seconds: float) -> bool:
-        """Waits until the thread is woken, but for so many seconds at most. Gives whether it was
+        """Waits until the thread is woken, but for at most `seconds` seconds. Gives whether it was
         woken."""
         return self.wake.wait(seconds, SHORTEST)
 
     def last(self, revision: int, seconds: float, resting: Resting) -> None:
-        """Rests after a read of this revision, until the next one is due. Where no watch tells of
-        all changes after it, that is after so many seconds, unless one does by then."""
+        """Rests after a read of this revision, until the next one is due. If no watch tells of all
+        changes after it, that is after `seconds` seconds, unless one does by then."""
         if not self.standing.covers(revision) and self.pause(seconds):
             return
         begun = time.monotonic()

@@ -1,5 +1,5 @@
 """The threads of an agent that wait for its store: they read and write, lead, and wake one another
-where a key has changed."""
+when a key has changed."""
 import threading
 
 from bg_switch_tools.fleet.agent.agent import FleetAgent
@@ -26,8 +26,7 @@ class StoreTurns:
         seconds: float,
         stopping: threading.Event,
     ) -> None:
-        """`seconds` are those between two reads where no key changes and the agent may not
-        rest."""
+        """`seconds` are those between two reads if no key changes and the agent may not rest."""
         self.agent = agent
         self.handover = handover
         self.seconds = seconds
@@ -65,7 +64,7 @@ class StoreTurns:
         return self.agent.may_rest(read.snapshot, text)
 
     def _doubt(self) -> None:
-        """Begins the watch anew where the store answers again: it may have hung since."""
+        """Begins the watch anew when the store answers again: it may have hung since."""
         has_failed, gaps = self.has_failed, self.gaps
         self.has_failed, self.gaps = False, self.agent.lease.gaps
         if has_failed or self.gaps != gaps:
@@ -87,7 +86,7 @@ class Leading:
     def __init__(
         self, candidate: Candidate, standing: Standing, seconds: float, stopping: threading.Event
     ) -> None:
-        """`seconds` are those between two reads of a leader where no key changes and it may not
+        """`seconds` are those between two reads of a leader if no key changes and it may not
         rest."""
         self.candidate = candidate
         self.seconds = seconds
@@ -104,14 +103,14 @@ class Leading:
                 continue
             candidate = self.candidate
             seconds = self.seconds if candidate.leads else ASIDE
-            if candidate.seen and candidate.may_rest():
-                self.rest.last(candidate.seen.revision, seconds, candidate)
+            if candidate.snapshot and candidate.may_rest():
+                self.rest.last(candidate.snapshot.revision, seconds, candidate)
             else:
                 self.rest.pause(seconds)
 
 
 class Watch:
-    """Wakes the other threads where a key has changed since the latest read, and tells them how the
+    """Wakes the other threads if a key has changed since the latest read, and tells them how the
     watch stands."""
 
     def __init__(

@@ -17,8 +17,8 @@ class Wake:
         self._event.clear()
 
     def wait(self, seconds: float, least: float = 0.0) -> bool:
-        """Waits until the thread is woken, but for so many seconds at most, and for at least so
-        many. Gives whether it was woken."""
+        """Waits until the thread is woken, for at most `seconds` and at least `least` seconds.
+        Gives whether it was woken."""
         begun = time.monotonic()
         is_woken = self._event.wait(seconds)
         self._event.clear()

@@ -105,7 +105,7 @@ def is_known_to_be_over(report: Report, known: Known) -> bool:
 
 
 def line_by_record(report: Report, known: Known) -> Event | None:
-    """The line that brings a switch one step nearer to the record; None where nothing is to be
+    """The line that brings a switch one step nearer to the record; None if nothing is to be
     sent."""
     if is_behind(report, known.record):
         return _catch_up(report, known)

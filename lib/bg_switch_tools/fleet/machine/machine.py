@@ -67,13 +67,13 @@ class Machine:
         self.keep = keep
         self.state = state
         self.read_at: float | None = (
-            None  # when the read was begun that `state` is of; None where the latest one has failed
+            None  # when the read was begun that `state` is of; None if the latest one has failed
         )
         self.fault = ""  # why the latest read is not used, or not in full
         self.leader = 0  # the `created` revision of the leader's key, by the latest read; 0: none
         self.failed_at: float | None = None  # since when an attempt that catches up has failed here
         self.refusal = ""  # the latest line that the switch has refused, with its reply
-        self.unfit = ""  # why this machine can't do what the record asks for; empty where it can
+        self.unfit = ""  # why this machine can't do what the record asks for; empty if it can
 
     @property
     def record(self) -> Record | None:
@@ -90,7 +90,7 @@ class Machine:
 
     def plan(self) -> Plan | None:
         """The plan of the machine's controller; None until the plan and the record were read once.
-        `PlanError` where the plan and the settings of the machine contradict one another."""
+        `PlanError` if the plan and the settings of the machine contradict one another."""
         plan, record = self.fleet_plan, self.record
         return (
             machine_plan(plan, self.settings, (record.stable, record.revision))
@@ -127,13 +127,13 @@ class Machine:
     @staticmethod
     def _plan_of(view: View, record: Record) -> FleetPlan | None:
         """The plan by which this machine goes on: that of the attempt while it runs, and then the
-        one that stands. None where neither is known."""
+        one that stands. None if neither is known."""
         if record.is_running and record.plan:
             return record.plan
         return view.standing_plan or record.plan
 
     def _fault_of(self, view: View) -> str:
-        """Why nothing is done by a read; empty where it can be used."""
+        """Why nothing is done by a read; empty if it can be used."""
         other = view.machine(self.host)
         if other and other.machine not in ("", self.machine):
             return f"another machine reports as {self.host}: {MACHINES}{self.host} is of the machine {other.machine}"
@@ -213,8 +213,8 @@ class Machine:
         self._set_joined(Joined())
 
     def permitted_line(self, report: Report, now: float) -> Event | None:
-        """The line to be sent at once; None where none is, where the latest read is too old, or
-        where this machine is unfit. Going back from an attempt that is over needs neither."""
+        """The line to be sent at once; None if there is none, if the latest read is too old, or if
+        this machine is unfit. Going back from an attempt that is over needs neither."""
         if self.record is None:
             return None
         known = self._known(self.record, now)
@@ -223,8 +223,8 @@ class Machine:
         return line if goes_back or self.is_fresh(now) and not self.unfit else None
 
     def coming(self, report: Report, now: float) -> PlannedRevision | None:
-        """The revision that is deployed next, by the record as it is known; None where this machine
-        is unfit."""
+        """The revision that is deployed next, by the record as it is known; None if this machine is
+        unfit."""
         line = (
             line_by_record(report, self._known(self.record, now))
             if self.record and not self.unfit
@@ -235,18 +235,18 @@ class Machine:
         return self.record.fleet_stable if is_behind(report, self.record) else self.record.revision
 
     def take_reply(
-        self, line: Line, was_carried_out: bool, told: str, report: Report, now: float
+        self, line: Line, was_carried_out: bool, reply_text: str, report: Report, now: float
     ) -> None:
-        """Takes in the reply to a line of `permitted_line`, which rests on this report. `told` is
-        what people are told of the reply."""
+        """Takes in the reply to a line of `permitted_line`, which rests on this report.
+        `reply_text` is what people are told of the reply."""
         if not was_carried_out:
-            self.refusal = f"{line}: {told}"
+            self.refusal = f"{line}: {reply_text}"
         elif self.record:
             self.refusal = ""
             self._set_joined(joined_after(line, report, self._known(self.record, now)))
 
     def why_not_judged(self, report: Report, now: float) -> str:
-        """Why no analysis is to run in the phase of this report; empty where one may."""
+        """Why no analysis is to run in the phase of this report; empty if one may."""
         if self.record is None:
             return NO_RECORD
         if not is_of_fleet(report, self._known(self.record, now)):
@@ -269,7 +269,7 @@ class Machine:
         self._set_joined(dataclasses.replace(self.joined, reason=reason))
 
     def report(self, report: Report | None, now: float) -> MachineReport:
-        """What the machine reports to its fleet; without a report of the switch where that gives
+        """What the machine reports to its fleet; without a report of the switch if the switch gives
         none."""
         if report is None:
             return MachineReport(
@@ -280,7 +280,7 @@ class Machine:
                 leader=self.leader,
             )
         active, preview, stable, newest = (report.service(service).name for service in SERVICES)
-        told = MachineReport(
+        machine_report = MachineReport(
             self.machine,
             0,
             WORKING,
@@ -294,7 +294,7 @@ class Machine:
             self.leader,
         )
         if self.record is None:
-            return told
+            return machine_report
         known = self._known(self.record, now)
         state, reason = state_of(report, known)
         has_joined = not is_behind(report, self.record) and known.has_joined(report)
@@ -303,11 +303,11 @@ class Machine:
             state, reason = FAILED, lacks
         attempt = self.record.id if has_joined or lacks else 0
         why = shortened(reason or self.unfit or self.refusal)
-        return dataclasses.replace(told, attempt=attempt, state=state, reason=why)
+        return dataclasses.replace(machine_report, attempt=attempt, state=state, reason=why)
 
     def _lacks(self, report: Report, has_joined: bool) -> str:
-        """Why the attempt that runs can't succeed on this machine; empty where it can, and where
-        the machine catches up first."""
+        """Why the attempt that runs can't succeed on this machine; empty if it can, or if the
+        machine catches up first."""
         if self.record is None or not self.record.is_running or is_behind(report, self.record):
             return ""
         plan = self.fleet_plan

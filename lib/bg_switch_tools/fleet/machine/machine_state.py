@@ -42,13 +42,13 @@ class MachineState:
 
 
 def read_machine_state(text: bytes) -> MachineState:
-    """The state of a file's bytes. `UnreadableError` where they are none of this version."""
+    """The state of a file's bytes. `UnreadableError` if they are none of this version."""
     judge = Judge()
     try:
-        told = decoded(text)
+        value = decoded(text)
     except ValueError as error:
         raise UnreadableError(f"it is not JSON: {error}") from None
-    members = judge.members(told, "", KEYS, KEYS)
+    members = judge.members(value, "", KEYS, KEYS)
     if judge.problems or members["version"] != VERSION:
         raise UnreadableError("; ".join(judge.problems) or f"its version is not {VERSION}")
     joined = judge.members(members["joined"], "joined", JOINED_KEYS, JOINED_KEYS)
@@ -86,9 +86,8 @@ class MachineStateFile:
         self.path = fleet_path + SUFFIX
 
     def read(self) -> MachineState:
-        """The state that was kept; that of a machine that knows nothing where there is no file.
-        `UnreadableError` where the file can't be
-        read: the machine then begins its attempt again."""
+        """The state that was kept; that of a machine that knows nothing if there is no file.
+        `UnreadableError` if the file can't be read: the machine then begins its attempt again."""
         try:
             with open(self.path, "rb") as file:
                 return read_machine_state(file.read())
@@ -98,5 +97,5 @@ class MachineStateFile:
             raise UnreadableError(f"it can't be read: {error.strerror}") from None
 
     def write(self, state: MachineState) -> None:
-        """Keeps a state. `OSError` where the folder takes no file."""
+        """Keeps a state. `OSError` if the folder takes no file."""
         write_whole(self.path, state.text().encode())

@@ -37,8 +37,8 @@ class FleetCondition(Protocol):
     """A condition."""
 
     def outlook(self, view: View) -> Outlook:
-        """Whether it holds by this read, or can come to hold. `UnreadableError` where a key can't
-        be read."""
+        """Whether it holds by this read, or can come to hold. `UnreadableError` if a key can't be
+        read."""
 
 
 def _not_begun(view: View) -> Outlook:
@@ -56,8 +56,8 @@ def _are_ready(view: View, record: Record) -> bool:
 @dataclasses.dataclass(frozen=True)
 class StageIs:
     """The attempt of the plan that stands is that of the revision of this name, and is in this
-    stage. A revision that is the stable one of the fleet was successful, also where the plan
-    deploys another one by now."""
+    stage. A revision that is the stable one of the fleet was successful, even if the plan deploys
+    another one by now."""
 
     name: str
     stage: str
@@ -110,7 +110,7 @@ class Settled:
 
 
 def read_condition(text: str) -> FleetCondition:
-    """The condition of a word. `ConditionError` where it is none."""
+    """The condition of a word. `ConditionError` if the word is not a condition."""
     if text == "settled":
         return Settled()
     name, sign, stage = text.partition("=")
@@ -169,7 +169,7 @@ class FleetConditions:
     """Conditions that are to hold at one time."""
 
     def __init__(self, texts: Sequence[str]) -> None:
-        """`ConditionError` where a text is none."""
+        """`ConditionError` if a text is not a condition."""
         self.texts = list(texts)
         self.conditions = [read_condition(text) for text in texts]
 

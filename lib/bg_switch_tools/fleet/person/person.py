@@ -27,7 +27,7 @@ class Person(NamedTuple):
 
     def agree(self, question: str) -> None:
         """Asks at a terminal. Elsewhere, as in CI, nobody can be asked, and the command goes on.
-        `RefusedError` where the answer is no."""
+        `RefusedError` if the answer is no."""
         if self.is_sure or not sys.stdin.isatty():
             return
         # not on standard output, which may be a file

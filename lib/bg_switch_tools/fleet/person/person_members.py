@@ -10,7 +10,7 @@ from bg_switch_tools.fleet.store.store import Compare
 # etcd takes at most 128 compares in a transaction, and the leader's compares the report of each
 # member.
 MOST_MEMBERS = 100
-TRIES = 5  # until it is refused, where others change the members at the same time
+TRIES = 5  # until it is refused, if others change the members at the same time
 CHANGING = "others change the fleet at the same time; nothing was changed"
 
 
@@ -20,15 +20,15 @@ def members_of(person: Person) -> list[str]:
 
 
 def _running(view: View) -> Record | None:
-    """The record of an attempt that runs, or that a plan is about to begin; None where none
-    does."""
+    """The record of an attempt that runs, or that a plan is about to begin; None if there is no
+    such attempt."""
     record = view.record
     return record if record and (record.is_running or record.id != view.changed(PLAN)) else None
 
 
 def add(person: Person, hosts: Sequence[str]) -> list[str]:
     """Adds members, and says so of each; one that is a member already stays as it is.
-    `RefusedError` where there would be too many."""
+    `RefusedError` if there would be too many."""
     for _ in range(TRIES):
         view = View(person.store.read())
         new = [host for host in dict.fromkeys(hosts) if host not in view.members]
@@ -65,7 +65,7 @@ def _tell_added(view: View, new: Sequence[str]) -> None:
 
 
 def _removal_fault(view: View, hosts: Sequence[str]) -> str:
-    """Why these hosts can't be removed; empty where they can."""
+    """Why these hosts can't be removed; empty if they can."""
     unknown = [host for host in hosts if host not in view.members]
     if unknown:
         return f"nothing was changed: no member is called {', '.join(unknown)}; the members are {', '.join(view.members) or 'none'}"
@@ -88,8 +88,8 @@ def _compares(view: View, hosts: Sequence[str]) -> list[Compare]:
 
 
 def remove(person: Person, hosts: Sequence[str]) -> list[str]:
-    """Removes members, and says so of each. `RefusedError`, also for all of them, where one is no
-    member, and where an attempt runs and no member would be left."""
+    """Removes members, and says so of each. `RefusedError`, also for all of them, if one is not a
+    member, or if an attempt runs and no member would be left."""
     hosts = list(dict.fromkeys(hosts))
     for _ in range(TRIES):
         view = View(person.store.read())

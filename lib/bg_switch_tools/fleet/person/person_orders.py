@@ -21,7 +21,7 @@ from bg_switch_tools.fleet.record.record import (
 from bg_switch_tools.fleet.record.status_text import NOT_BEGUN, attempt_title, plain
 from bg_switch_tools.fleet.store.store import Compare
 
-TRIES = 5  # of an abort, until it is refused, where the record moves at the same time
+TRIES = 5  # of an abort, until it is refused, if the record moves at the same time
 MOVED_ON = "the attempt, its plan or its order has changed since it was read; nothing was changed, and `status` shows how it stands"
 
 
@@ -39,7 +39,7 @@ def _over(view: View, record: Record) -> str:
 
 
 def _unready(view: View, record: Record) -> str:
-    """Why an attempt that runs can't be promoted now; empty where it can."""
+    """Why an attempt that runs can't be promoted now; empty if it can."""
     if record.stage == PROMOTING:
         return f"{attempt_title(record)} is promoting already"
     if view.other_plan:
@@ -52,9 +52,9 @@ def _unready(view: View, record: Record) -> str:
 
 
 def order_fault(view: View, order: str, attempt: int | None) -> str:
-    """Why an order is refused by this read; empty where it can be put. `attempt` is the id of the
-    attempt that the person has seen; None stands for the one of this read. `UnreadableError` where
-    the record can't be read."""
+    """Why an order is refused by this read; empty if it can be put. `attempt` is the id of the
+    attempt that the person has seen; None stands for the one of this read. `UnreadableError` if the
+    record can't be read."""
     record, standing = view.record, view.order
     if record is None:
         return NOT_BEGUN
@@ -71,12 +71,12 @@ def order_fault(view: View, order: str, attempt: int | None) -> str:
 class Ordered(NamedTuple):
     """An order that was put: what is said of it, and the attempt that it is for."""
 
-    told: str
+    sentence: str
     attempt: int
 
 
 def _replaced(view: View, record: Record) -> str:
-    """What is told of the order that an abort takes the place of; empty where there is none."""
+    """What is told of the order that an abort replaces; empty if there is no such order."""
     standing = view.order
     if standing is None or standing.attempt != record.id:
         return ""
@@ -84,9 +84,9 @@ def _replaced(view: View, record: Record) -> str:
 
 
 def give_order(person: Person, order: str, attempt: int | None) -> Ordered:
-    """Puts an order. `RefusedError` where it makes no sense, and where the attempt has moved on
-    since it was read. An abort is tried again then, for the attempt of the first read: it makes
-    sense as long as that one runs."""
+    """Puts an order. `RefusedError` if it makes no sense, or if the attempt has moved on since it
+    was read. An abort is tried again then, for the attempt of the first read: it makes sense as
+    long as that one runs."""
     is_agreed = False
     for _ in range(TRIES if order == ABORT else 1):
         view = View(person.store.read())

@@ -45,7 +45,7 @@ class GivenPlan(NamedTuple):
 
 
 def given_plan(text: str) -> GivenPlan:
-    """The plan of a text. `PlanError` with all of its problems where it is none."""
+    """The plan of a text. `PlanError` with all of its problems if it is not a plan."""
     plan = read_fleet_plan(text)
     try:
         decoded(text.encode())
@@ -55,7 +55,7 @@ def given_plan(text: str) -> GivenPlan:
 
 
 def read_plan_file(path: str) -> GivenPlan:
-    """The plan of a file. `PlanError` where it is none, and `UnreadableFileError` where the file
+    """The plan of a file. `PlanError` if it is not a plan, and `UnreadableFileError` if the file
     can't be read."""
     try:
         with open(path, "rb") as file:
@@ -70,7 +70,7 @@ def read_plan_file(path: str) -> GivenPlan:
 
 def judge_here(plan: FleetPlan, file: FleetFile) -> None:
     """Judges a plan by the fleet file of a machine; that of a person has nothing to judge by.
-    `PlanError` where they contradict one another."""
+    `PlanError` if they contradict one another."""
     if file.machine is None:
         return
     problems = [
@@ -86,15 +86,15 @@ def judge_here(plan: FleetPlan, file: FleetFile) -> None:
 
 
 def check(path: str, file: FleetFile) -> str:
-    """Judges the plan of a file alone, without the store, and says what it deploys. `PlanError`
-    where it is none."""
+    """Judges the plan of a file alone, without the store, and says what it deploys. `PlanError` if
+    it is not a plan."""
     plan = read_plan_file(path).plan
     judge_here(plan, file)
     return f"{path} is a plan of a fleet: it deploys {plan.last.name}"
 
 
 def _plan_before(view: View) -> FleetPlan | None:
-    """The plan that stands; None where none was put, or where it is wrong, which is told."""
+    """The plan that stands; None if no plan was put, or if it is wrong, which it tells."""
     try:
         return view.plan
     except UnreadableError as reason:
@@ -103,8 +103,8 @@ def _plan_before(view: View) -> FleetPlan | None:
 
 
 def _unchanged(plan: FleetPlan, record: Record | None, plan_id: int) -> str:
-    """What is said of a plan that stands already. `RefusedError` where its attempt was aborted,
-    since nothing would come of it."""
+    """What is said of a plan that stands already. `RefusedError` if its attempt was aborted, since
+    nothing would come of it."""
     if record is None or record.id != plan_id:
         return (
             f"nothing is changed: this plan stands already, and waits for a leader (plan {plan_id})"
@@ -125,8 +125,8 @@ class Putting(NamedTuple):
     compared: tuple[str, ...] = (PLAN,)
 
     def put(self, text: str, effect: str) -> str:
-        """Asks, puts, and says which plan it is and what comes of it. `RefusedError` where a
-        compared key has changed."""
+        """Asks, puts, and says which plan it is and what comes of it. `RefusedError` if a compared
+        key has changed."""
         self.person.agree(f"{effect}. Put this plan?")
         compares = [Compare(name, "changed", self.view.changed(name)) for name in self.compared]
         plan_id = self.person.store.write(compares, {PLAN: text})
@@ -148,20 +148,21 @@ class Putting(NamedTuple):
 
 def put_plan(person: Person, path: str, file: FleetFile) -> str:
     """Puts the plan of a file, if it can follow the one that stands, and says what comes of it.
-    `PlanError` where it can't; `RefusedError` where another plan was put since the read."""
-    given = read_plan_file(path)
-    judge_here(given.plan, file)
+    `PlanError` if it can't; `RefusedError` if another plan was put since the read."""
+    new_plan = read_plan_file(path)
+    judge_here(new_plan.plan, file)
     view = View(person.store.read())
     record, before = view.record, _plan_before(view)
-    if before == given.plan:
-        return _unchanged(given.plan, record, view.changed(PLAN))
-    if problems := plan_problems(before, given.plan, record):
+    if before == new_plan.plan:
+        return _unchanged(new_plan.plan, record, view.changed(PLAN))
+    if problems := plan_problems(before, new_plan.plan, record):
         raise PlanError(problems)
-    return Putting(person, view).put(given.text, plan_effect(before, given.plan, record))
+    return Putting(person, view).put(new_plan.text, plan_effect(before, new_plan.plan, record))
 
 
 def _needed(view: View) -> tuple[FleetPlan, Record]:
-    """The plan and the record of a fleet that has begun. `RefusedError` where there is none."""
+    """The plan and the record of a fleet that has begun. `RefusedError` if there is no plan or no
+    record."""
     plan, record = view.plan, view.record
     if plan is None or record is None:
         raise RefusedError("no plan was put" if plan is None else NOT_BEGUN)
@@ -170,7 +171,7 @@ def _needed(view: View) -> tuple[FleetPlan, Record]:
 
 def retry(person: Person) -> str:
     """Puts the plan that stands again, so that its attempt, which was aborted, begins again.
-    `RefusedError` where it was not."""
+    `RefusedError` if it was not."""
     view = View(person.store.read())
     plan, record = _needed(view)
     if view.changed(PLAN) != record.id:
@@ -187,7 +188,7 @@ def retry(person: Person) -> str:
 
 def undo(person: Person, to: str | None) -> str:
     """Puts the plan that stands with the revision last that was stable before the newest one, or
-    the one of this name. `RefusedError` where that is not known, or changes nothing."""
+    the one of this name. `RefusedError` if that is not known, or changes nothing."""
     view = View(person.store.read())
     plan, record = _needed(view)
     is_waiting = view.changed(PLAN) != record.id
@@ -196,15 +197,15 @@ def undo(person: Person, to: str | None) -> str:
         raise RefusedError(
             f"nothing is changed: {target.name} is the last revision of the plan already"
         )
-    told = with_last(value_of(view.snapshot.keys[PLAN].value.encode()), target.name, target.ports)
+    value = with_last(value_of(view.snapshot.keys[PLAN].value.encode()), target.name, target.ports)
     try:
-        given = given_plan(json.dumps(told, indent=2))
+        new_plan = given_plan(json.dumps(value, indent=2))
     except PlanError as wrong:
         raise RefusedError(f"with {target.name} last it would be no plan: {wrong}") from None
-    if problems := plan_problems(plan, given.plan, record):
+    if problems := plan_problems(plan, new_plan.plan, record):
         raise RefusedError(f"with {target.name} last the plan can't follow: {'; '.join(problems)}")
     done = Putting(person, view, (PLAN, ATTEMPT)).put(
-        given.text, plan_effect(plan, given.plan, record)
+        new_plan.text, plan_effect(plan, new_plan.plan, record)
     )
     tell(
         f"the file of your plan still names {plan.last.name} last: put it again only after an edit"

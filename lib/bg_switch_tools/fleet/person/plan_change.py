@@ -16,7 +16,7 @@ def _known(before: FleetPlan | None, record: Record | None) -> dict[str, Planned
 
 
 def plan_problems(before: FleetPlan | None, after: FleetPlan, record: Record | None) -> list[str]:
-    """Why a plan can't follow the one before, a line each with its place; none where it can."""
+    """Why a plan can't follow the one before, a line each with its place; empty if it can."""
     known, found = _known(before, record), []
     for number, revision in enumerate(after.revisions):
         other = known.get(revision.name)

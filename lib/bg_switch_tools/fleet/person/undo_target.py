@@ -6,8 +6,8 @@ from bg_switch_tools.fleet.record.record import Record
 
 
 def _before(plan: FleetPlan, record: Record, is_waiting: bool) -> PlannedRevision:
-    """The revision that was stable before the newest one. The newest one is that of the plan where
-    it waits, and else that of the attempt. `RefusedError` where it can't be told."""
+    """The revision that was stable before the newest one. The newest one is that of the plan if it
+    waits, and else that of the attempt. `RefusedError` if it can't be told."""
     newest = plan.last if is_waiting else record.revision
     # the record of an attempt that was successful keeps the one before
     for stable in (record.fleet_stable, record.stable):
@@ -28,7 +28,7 @@ def revision_to_undo_to(
 ) -> PlannedRevision:
     """The revision that an undo takes again, with its ports: the one of the name `to`, or the one
     that was stable before the newest one. `is_waiting` says that the plan is not yet that of the
-    attempt. `RefusedError` where the revision is not known.
+    attempt. `RefusedError` if the revision is not known.
     """
     if to is None:
         return _before(plan, record, is_waiting)

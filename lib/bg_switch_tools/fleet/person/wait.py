@@ -16,8 +16,8 @@ Lose = Callable[[StoreError], None]
 
 
 class WaitResult(NamedTuple):
-    """How a wait has ended: `DONE`, `REFUSED` where the conditions can't hold any more, `NO_ANSWER`
-    where the time is over or the store refuses the reads; the reason of the latter two; the latest
+    """How a wait has ended: `DONE`, `REFUSED` if the conditions can't hold any more, `NO_ANSWER` if
+    the time is over or the store refuses the reads; the reason of the latter two; the latest
     read."""
 
     status: int
@@ -26,7 +26,7 @@ class WaitResult(NamedTuple):
 
 
 def wait_for_change(store: Store, after: int, seconds: float) -> None:
-    """Waits for a change after this revision of the store, for so many seconds at most, and for a
+    """Waits for a change after this revision of the store, for at most `seconds` seconds, and for a
     pause at least."""
     begun, least = time.monotonic(), min(PAUSE, seconds)
     try:

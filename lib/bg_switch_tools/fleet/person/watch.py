@@ -13,7 +13,7 @@ from bg_switch_tools.switch.watch import CLEAR, fitting
 
 class Drawing:
     """What was drawn. At a terminal the screen is drawn anew; elsewhere a block of plain text is
-    written where it has changed."""
+    written if it has changed."""
 
     def __init__(self, fleet: str) -> None:
         self.fleet = fleet
@@ -37,8 +37,8 @@ class Drawing:
 
 
 def watch(person: Person) -> None:
-    """Draws until it is interrupted. `StoreError` where the first read has no answer; later ones
-    are told below what was read last."""
+    """Draws until it is interrupted. `StoreError` if the first read has no answer; later ones are
+    told below what was read last."""
     snapshot, drawing = person.store.read(), Drawing(person.fleet)
     while True:
         drawing.draw(snapshot)

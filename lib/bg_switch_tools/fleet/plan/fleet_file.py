@@ -54,46 +54,48 @@ class FleetFile(NamedTuple):
     machine: MachineSettings | None = None
 
 
-def read_endpoint(judge: Judge, told: object, place: str) -> StoreEndpoint:
+def read_endpoint(judge: Judge, value: object, place: str) -> StoreEndpoint:
     try:
-        return store_endpoint_of(told if isinstance(told, str) else "")
+        return store_endpoint_of(value if isinstance(value, str) else "")
     except ValueError:
         judge.note(
-            place, f'{shown(told)} is not an endpoint, such as "10.0.0.1:2379" or "[fd00::1]:2379"'
+            place, f'{shown(value)} is not an endpoint, such as "10.0.0.1:2379" or "[fd00::1]:2379"'
         )
     return StoreEndpoint("", 0)
 
 
-def read_endpoints(judge: Judge, told: object, place: str) -> tuple[StoreEndpoint, ...]:
-    if not isinstance(told, list) or not 1 <= len(told) <= MOST_ENDPOINTS:
+def read_endpoints(judge: Judge, value: object, place: str) -> tuple[StoreEndpoint, ...]:
+    if not isinstance(value, list) or not 1 <= len(value) <= MOST_ENDPOINTS:
         judge.note(place, f"it is not a list of 1 to {MOST_ENDPOINTS} endpoints")
         return ()
-    for number, one in enumerate(told):
-        if one in told[:number]:
+    for number, one in enumerate(value):
+        if one in value[:number]:
             judge.note(
-                f"{place}[{number}]", f"{shown(one)} is already at {place}[{told.index(one)}]"
+                f"{place}[{number}]", f"{shown(one)} is already at {place}[{value.index(one)}]"
             )
-    return tuple(read_endpoint(judge, one, f"{place}[{number}]") for number, one in enumerate(told))
+    return tuple(
+        read_endpoint(judge, one, f"{place}[{number}]") for number, one in enumerate(value)
+    )
 
 
-def read_path(judge: Judge, told: object, place: str, folder: str) -> str:
+def read_path(judge: Judge, value: object, place: str, folder: str) -> str:
     """The path of a file, from the folder of the fleet file on."""
-    if isinstance(told, str) and told and is_argument(told):
-        return os.path.join(folder, told)
-    judge.note(place, f"{shown(told)} is not the path of a file")
+    if isinstance(value, str) and value and is_argument(value):
+        return os.path.join(folder, value)
+    judge.note(place, f"{shown(value)} is not the path of a file")
     return ""
 
 
-def read_user(judge: Judge, told: object, place: str) -> str:
+def read_user(judge: Judge, value: object, place: str) -> str:
     """The name of a user of etcd: printable ASCII without spaces."""
-    if isinstance(told, str) and USER.fullmatch(told):
-        return told
-    judge.note(place, f"{shown(told)} is not the name of a user")
+    if isinstance(value, str) and USER.fullmatch(value):
+        return value
+    judge.note(place, f"{shown(value)} is not the name of a user")
     return ""
 
 
-def read_tls(judge: Judge, told: object, place: str, folder: str) -> TlsFiles:
-    members = judge.members(told, place, TlsFiles._fields)
+def read_tls(judge: Judge, json_value: object, place: str, folder: str) -> TlsFiles:
+    members = judge.members(json_value, place, TlsFiles._fields)
     needs_both(judge, members, place, "certificate", "key")
     return TlsFiles(
         *(
@@ -106,29 +108,29 @@ def read_tls(judge: Judge, told: object, place: str, folder: str) -> TlsFiles:
 
 
 def needs_both(judge: Judge, members: JsonObject, place: str, *keys: str) -> None:
-    """Notes the keys of these that are missing where another one is there."""
+    """Notes the keys of these that are missing if another one is there."""
     there = [key for key in keys if key in members]
     for key in keys:
         if there and key not in members:
             judge.note(f"{place}.{key}" if place else key, f"is missing, and {there[0]} is there")
 
 
-def read_analyses(judge: Judge, told: object, place: str) -> dict[str, tuple[str, ...]]:
+def read_analyses(judge: Judge, value: object, place: str) -> dict[str, tuple[str, ...]]:
     """The commands of analyses, by the names that plans have for them."""
-    if not isinstance(told, JsonObject) or len(told) > MOST_ANALYSES:
+    if not isinstance(value, JsonObject) or len(value) > MOST_ANALYSES:
         judge.note(
             place,
             f'it is not an object of at most {MOST_ANALYSES} commands, such as {{"smoke": ["./smoke_test.sh"]}}',
         )
         return {}
-    judge.members(told, place, tuple(told))  # which notes keys that are there twice
-    for name in told:
+    judge.members(value, place, tuple(value))  # which notes keys that are there twice
+    for name in value:
         judge.name(name, place)
-    return {name: judge.command(told[name], f"{place}.{judge.key_shown(name)}") for name in told}
+    return {name: judge.command(value[name], f"{place}.{judge.key_shown(name)}") for name in value}
 
 
 def read_machine(judge: Judge, members: JsonObject, folder: str) -> MachineSettings | None:
-    """What the machine adds; None where the file has no machine."""
+    """What the machine adds; None if the file has no machine."""
     there = [key for key in MACHINE_KEYS if key in members]
     if not there:
         return None
@@ -165,15 +167,15 @@ def _plan(machine: MachineSettings) -> Plan:
 
 def read_fleet_file(text: bytes, folder: str) -> FleetFile:
     """The fleet file of these bytes, which may be YAML as a plan may; paths in it go from this
-    folder on. `FleetFileError` with all of its problems where it is none."""
+    folder on. `FleetFileError` with all of its problems if it is not a fleet file."""
     judge = Judge("the fleet file")
     if len(text) > LARGEST:
         raise FleetFileError([f"it has more than {LARGEST} bytes"])
     try:
-        told = value_of(text)
+        json_value = value_of(text)
     except ValueError as error:
         raise FleetFileError([str(error)]) from None
-    members = judge.members(told, "", KEYS, ("fleet", "etcd"))
+    members = judge.members(json_value, "", KEYS, ("fleet", "etcd"))
     judge.member(members, SCHEMA, "", judge.text, "")
     for keys in TOGETHER:
         needs_both(judge, members, "", *keys)
@@ -201,7 +203,7 @@ def read_fleet_file(text: bytes, folder: str) -> FleetFile:
         ),
     )
     machine = read_machine(judge, members, folder)
-    made = FleetFile(
+    fleet_file = FleetFile(
         judge.member(members, "fleet", "", judge.name, ""),
         etcd,
         folder,
@@ -212,11 +214,11 @@ def read_fleet_file(text: bytes, folder: str) -> FleetFile:
         compare_ports(judge, _plan(machine))
     if judge.problems:
         raise FleetFileError(judge.problems)
-    return made
+    return fleet_file
 
 
 def read_whole_fleet_file(path: str) -> FleetFile:
-    """The fleet file at a path. `FleetFileError` where it is none, or can't be read."""
+    """The fleet file at a path. `FleetFileError` if it is not a fleet file, or can't be read."""
     try:
         with open(path, "rb") as file:
             text = file.read(LARGEST + 1)

@@ -74,23 +74,23 @@ class MachineSettings:
     rollout: str = ""
 
 
-def _read_names(judge: Judge, told: object, place: str) -> Names:
+def _read_names(judge: Judge, value: object, place: str) -> Names:
     """The name of an analysis, or a list of distinct names."""
-    if not isinstance(told, list):
-        return judge.name(told, place)
-    if not 1 <= len(told) <= MOST_AT_ONCE:
+    if not isinstance(value, list):
+        return judge.name(value, place)
+    if not 1 <= len(value) <= MOST_AT_ONCE:
         judge.note(place, f"it is not a list of 1 to {MOST_AT_ONCE} names")
         return ()
-    for number, one in enumerate(told):
-        if one in told[:number]:
+    for number, one in enumerate(value):
+        if one in value[:number]:
             judge.note(
-                f"{place}[{number}]", f"{shown(one)} is already at {place}[{told.index(one)}]"
+                f"{place}[{number}]", f"{shown(one)} is already at {place}[{value.index(one)}]"
             )
-    return tuple(judge.name(one, f"{place}[{number}]") for number, one in enumerate(told))
+    return tuple(judge.name(one, f"{place}[{number}]") for number, one in enumerate(value))
 
 
-def _read_analyses(judge: Judge, told: object, place: str) -> tuple[dict[str, Names], float]:
-    members = judge.members(told, place, (*ANALYSES, "seconds"))
+def _read_analyses(judge: Judge, value: object, place: str) -> tuple[dict[str, Names], float]:
+    members = judge.members(value, place, (*ANALYSES, "seconds"))
     names = {
         key: _read_names(judge, members[key], f"{place}.{key}")
         for key in ANALYSES
@@ -99,12 +99,12 @@ def _read_analyses(judge: Judge, told: object, place: str) -> tuple[dict[str, Na
     return names, seconds(judge, members, "seconds", place, Analyses.seconds)
 
 
-def _read(judge: Judge, told: object) -> FleetPlan:
-    """The plan of a value. It is one where `judge` finds nothing wrong."""
-    if isinstance(told, dict):
-        for key in [key for key in OF_MACHINES if key in told]:
+def _read(judge: Judge, json_value: object) -> FleetPlan:
+    """The plan of a value. It is one if `judge` finds nothing wrong."""
+    if isinstance(json_value, dict):
+        for key in [key for key in OF_MACHINES if key in json_value]:
             judge.note(key, "stands in the fleet file of each machine")
-    members = judge.members(told, "", (*KEYS, *OF_MACHINES), ("revisions",))
+    members = judge.members(json_value, "", (*KEYS, *OF_MACHINES), ("revisions",))
     judge.member(members, SCHEMA, "", judge.text, "")
     none: tuple[dict[str, Names], float] = ({}, Analyses.seconds)
     names, limit = judge.member(
@@ -144,7 +144,7 @@ def _read(judge: Judge, told: object) -> FleetPlan:
 
 
 def _value(text: str) -> object:
-    """The value of a text of JSON. `ValueError` where it is none."""
+    """The value of a text of JSON. `ValueError` if it is not JSON."""
     try:
         return decoded(text.encode())
     except ValueError as error:
@@ -153,16 +153,16 @@ def _value(text: str) -> object:
 
 @functools.lru_cache(maxsize=64)
 def _judged(text: str, may_be_yaml: bool) -> FleetPlan | tuple[str, ...]:
-    """The plan of a text, or the problems of one that is none. Both are kept: a store gives a wrong
-    plan at each read, and to judge it anew may take seconds."""
+    """The plan of a text, or the problems of a text that is not a plan. Both are kept: a store
+    gives a wrong plan at each read, and to judge it anew may take seconds."""
     judge = Judge()
     if len(text.encode()) > LARGEST:
         return (f"it has more than {LARGEST} bytes",)
     try:
-        told = value_of(text.encode()) if may_be_yaml else _value(text)
+        value = value_of(text.encode()) if may_be_yaml else _value(text)
     except ValueError as error:
         return (str(error),)
-    plan = _read(judge, told)
+    plan = _read(judge, value)
     return tuple(judge.problems) or plan
 
 
@@ -174,20 +174,20 @@ def _or_wrong(judged: FleetPlan | tuple[str, ...]) -> FleetPlan:
 
 def read_fleet_plan(text: str) -> FleetPlan:
     """The plan of a text, which may be YAML as a controller's plan may. `PlanError` with all of its
-    problems where it is none."""
+    problems if it is not a plan."""
     return _or_wrong(_judged(text, True))
 
 
 def read_stored_plan(text: str) -> FleetPlan:
-    """The plan of the store, which is JSON. `PlanError` with all of its problems where it is
-    none."""
+    """The plan of the store, which is JSON. `PlanError` with all of its problems if it is not a
+    plan."""
     return _or_wrong(_judged(text, False))
 
 
-def read_kept_plan(told: object) -> FleetPlan:
-    """The plan of a value that `plan_object` has made. `PlanError` where it is none."""
+def read_kept_plan(value: object) -> FleetPlan:
+    """The plan of a value that `plan_object` has made. `PlanError` if it is not a plan."""
     judge = Judge()
-    plan = _read(judge, told)
+    plan = _read(judge, value)
     if judge.problems:
         raise PlanError(judge.problems)
     return plan
@@ -198,7 +198,7 @@ def _each(names: Names) -> tuple[str, ...]:
 
 
 def _planned(names: Names, settings: MachineSettings) -> tuple[PlannedAnalysis, ...] | None:
-    """The analyses of these names; None where the machine has no command for one of them."""
+    """The analyses of these names; None if the machine has no command for one of them."""
     if any(name not in settings.analyses for name in _each(names)):
         return None
     return tuple(
@@ -234,8 +234,8 @@ def machine_plan(
     plan: FleetPlan, settings: MachineSettings, others: tuple[PlannedRevision, ...] = ()
 ) -> Plan:
     """The plan of a machine's controller. `others` are revisions that the plan may name no longer.
-    The leader limits the progress of an attempt, so the controller only tells of it. `PlanError`
-    where a port is one of the switch itself.
+    The leader limits the progress of an attempt, so the controller only tells of it. `PlanError` if
+    a port is one of the switch itself.
     """
     names = {revision.name for revision in plan.revisions}
     known = {revision.name: revision for revision in others if revision.name not in names}
@@ -244,7 +244,7 @@ def machine_plan(
         for key, names in plan.analyses.items()
         if (planned := _planned(names, settings)) is not None
     }
-    made = Plan(
+    controller_plan = Plan(
         settings.control,
         plan.health,
         Analyses(commands, plan.analysis_seconds),
@@ -255,13 +255,13 @@ def machine_plan(
         settings.services,
     )
     judge = Judge()
-    compare_ports(judge, made)
+    compare_ports(judge, controller_plan)
     if judge.problems:
         raise PlanError(judge.problems)
-    return made
+    return controller_plan
 
 
 def missing_analyses(plan: FleetPlan, settings: MachineSettings) -> list[str]:
     """The names of the plan's analyses that the machine has no command for."""
-    told = {name for names in plan.analyses.values() for name in _each(names)}
-    return sorted(told - set(settings.analyses))
+    needed = {name for names in plan.analyses.values() for name in _each(names)}
+    return sorted(needed - set(settings.analyses))

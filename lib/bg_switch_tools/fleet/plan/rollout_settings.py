@@ -7,18 +7,18 @@ KEY = "spec.strategy.blueGreen"
 
 
 def _strategy(text: bytes) -> JsonObject:
-    """The strategy of a Rollout. `ValueError` where the text has none."""
-    told = decoded(text)
+    """The strategy of a Rollout. `ValueError` if the text has none."""
+    value = decoded(text)
     for key in ("spec", "strategy", "blueGreen"):
-        told = told.get(key) if isinstance(told, JsonObject) else None
-    if not isinstance(told, JsonObject):
+        value = value.get(key) if isinstance(value, JsonObject) else None
+    if not isinstance(value, JsonObject):
         raise ValueError(f"it has no {KEY}")
-    return told
+    return value
 
 
 def rollout_faults(text: bytes, has_pre: bool) -> list[str]:
-    """Why a switch with this Rollout (JSON) can't be a machine of a fleet, a sentence each; none
-    where it can. `has_pre` says that the plan of the fleet names an analysis before the switch.
+    """Why a switch with this Rollout (JSON) can't be a machine of a fleet, a sentence each; empty
+    if it can. `has_pre` says that the plan of the fleet names an analysis before the switch.
     Whether it is a Rollout at all, `bg_switch check` judges.
     """
     try:

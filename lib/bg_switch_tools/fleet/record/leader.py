@@ -42,7 +42,7 @@ class Waited(NamedTuple):
 
 
 class Decision(NamedTuple):
-    """What is decided. `record` is None where an order is dropped and nothing else changes. `hosts`
+    """What is decided. `record` is None if an order is dropped and nothing else changes. `hosts`
     are the members whose reports, or whose absence, this rests on. `takes_order` says that the
     order that stands is answered, and removed; `why_dropped` why it is not carried out (empty: it
     is)."""
@@ -55,7 +55,8 @@ class Decision(NamedTuple):
 
 class Write(NamedTuple):
     """A write of the store, with the record that it writes. `dropped` tells of the order that it
-    removes and does not carry out, with who gave it and why; it is empty where there is none."""
+    removes and does not carry out, with who gave it and why; it is empty if there is no such
+    order."""
 
     compares: tuple[Compare, ...]
     puts: dict[str, str]
@@ -67,19 +68,19 @@ class Write(NamedTuple):
 @dataclasses.dataclass(frozen=True)
 class Votes:
     """How the members stand to an attempt that runs. `missing` have no vote in it: they are away,
-    or were when `promoting` was written. `given` are those of the others that report what the stage
-    needs, `awaited` those that do not.
+    or were when `promoting` was written. `voters` are the others that report what the stage needs,
+    `awaited` the others that do not.
     """
 
     members: tuple[str, ...]
     missing: tuple[str, ...]
-    given: tuple[str, ...]
+    voters: tuple[str, ...]
     awaited: tuple[str, ...]
-    failed: str  # a member with a vote that reports `failed`; empty where none does
+    failed: str  # a member with a vote that reports `failed`; empty if none does
     reason: str  # why it did
 
     def are_enough(self, max_missing: int) -> bool:
-        return bool(self.given) and not self.awaited and len(self.missing) <= max_missing
+        return bool(self.voters) and not self.awaited and len(self.missing) <= max_missing
 
 
 def votes_of(view: View, record: Record) -> Votes:
@@ -95,14 +96,14 @@ def votes_of(view: View, record: Record) -> Votes:
         for host, report in reports.items()
         if report and host not in missing
     }
-    given = tuple(host for host, state in states.items() if state == NEEDED[record.stage])
+    voters = tuple(host for host, state in states.items() if state == NEEDED[record.stage])
     failed = next((host for host, state in states.items() if state == FAILED), "")
     report = reports.get(failed)
     return Votes(
         members,
         missing,
-        given,
-        tuple(host for host in states if host not in given),
+        voters,
+        tuple(host for host in states if host not in voters),
         failed,
         report.reason if report else "",
     )
@@ -118,7 +119,7 @@ class StageClock:
         self.begun = self.seen_at = 0.0
         self.is_lost = False  # whether reads have failed since `seen_at`
         self.counted: tuple[int, str] | None = None  # the stage in which this lead counts votes
-        self.given = 0
+        self.vote_count = 0
         self.progressed = 0.0
         self.ready_since: float | None = None
 
@@ -150,12 +151,12 @@ class StageClock:
             return Waited()
         votes = votes_of(view, record)
         if self.counted != self.stage:
-            self.counted, self.given, self.ready_since = self.stage, 0, None
+            self.counted, self.vote_count, self.ready_since = self.stage, 0, None
             self.progressed = now
         is_enough = votes.are_enough(plan_of_attempt(view, record).max_missing)
-        if is_enough or len(votes.given) > self.given:
+        if is_enough or len(votes.voters) > self.vote_count:
             self.progressed = now
-        self.given = len(votes.given)
+        self.vote_count = len(votes.voters)
         self.ready_since = (
             (self.ready_since if self.ready_since is not None else now) if is_enough else None
         )
@@ -164,7 +165,7 @@ class StageClock:
 
 
 def _live_revision(view: View, plan: FleetPlan) -> PlannedRevision | None:
-    """The revision with which a fleet begins: the one that its machines have as stable. None where
+    """The revision with which a fleet begins: the one that its machines have as stable. None if
     that is not known: a member without a report may have any, and a revision that the plan does not
     name has ports that nobody knows.
     """
@@ -249,7 +250,7 @@ def _go_on(
 
 
 def _why_dropped(record: Record, order: PersonOrder) -> str:
-    """Why an order that stands can't be carried out; empty where it can, or could be later."""
+    """Why an order that stands can't be carried out; empty if it can, or could be later."""
     if order.attempt != record.id:
         return f"the attempt of the fleet is {record.id} now"
     if not record.is_running:
@@ -262,7 +263,7 @@ def _why_dropped(record: Record, order: PersonOrder) -> str:
 
 
 def decision_of(view: View, waited: Waited) -> Decision | None:
-    """What a leader decides by these keys; None where everything stays as it is."""
+    """What a leader decides by these keys; None if everything stays as it is."""
     plan, record, order = view.standing_plan, view.record, view.order
     if record is None:
         live = _live_revision(view, plan) if plan else None
@@ -295,9 +296,9 @@ def compares_of(view: View, created: int, decision: Decision) -> tuple[Compare, 
 
 
 def decide(snapshot: Snapshot, created: int, waited: Waited, time: int = 0) -> Write | None:
-    """What a leader writes by this read; None where nothing is to be written. `created` is the
-    `created` revision of its key, `time` the Unix time for the record. `UnreadableError` where the
-    record is none that this version reads.
+    """What a leader writes by this read; None if nothing is to be written. `created` is the
+    `created` revision of its key, `time` the Unix time for the record. `UnreadableError` if this
+    version can't read the record.
     """
     view = View(snapshot)
     decision = decision_of(view, waited)
@@ -315,7 +316,7 @@ def decide(snapshot: Snapshot, created: int, waited: Waited, time: int = 0) -> W
 
 
 def awaited_of(snapshot: Snapshot) -> list[str]:
-    """What the fleet waits for, a text each: for people. None where it waits for nothing.
+    """What the fleet waits for, a text each: for people. Empty if it waits for nothing.
     `UnreadableError` as `decide` has it."""
     view = View(snapshot)
     record = view.record
@@ -333,15 +334,17 @@ def awaited_of(snapshot: Snapshot) -> list[str]:
         )
     if not record.is_running:
         return [
-            f"{host}: {_told(view, host)}"
+            f"{host}: {_report_text(view, host)}"
             for host in view.members
             if not _follows(view, record, host)
         ]
     plan, votes = plan_of_attempt(view, record), votes_of(view, record)
-    found = [f"{host}: {_told(view, host)}" for host in votes.awaited]
+    found = [f"{host}: {_report_text(view, host)}" for host in votes.awaited]
     if len(votes.missing) > plan.max_missing:
         found += [
-            f"{host}: {_told(view, host)}" for host in votes.missing if host not in record.missing
+            f"{host}: {_report_text(view, host)}"
+            for host in votes.missing
+            if host not in record.missing
         ]
     if not votes.members:
         found.append("members")
@@ -361,9 +364,9 @@ def _follows(view: View, record: Record, host: str) -> bool:
     return report is not None and report.follows(record)
 
 
-def _told(view: View, host: str) -> str:
+def _report_text(view: View, host: str) -> str:
     report = view.machine(host)
     if report is None:
         return "is away"
-    told = f"{report.state}, {report.reason}" if report.reason else report.state
-    return told if view.is_current(report) else f"{told}, as an earlier leader was told"
+    text = f"{report.state}, {report.reason}" if report.reason else report.state
+    return text if view.is_current(report) else f"{text}, as an earlier leader was told"

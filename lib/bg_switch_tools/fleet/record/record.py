@@ -95,24 +95,24 @@ class Record:
 
     def text(self) -> str:
         """As the key has it."""
-        told: dict[str, object] = {
+        members: dict[str, object] = {
             "version": VERSION,
             **vars(self),
             "revision": vars(self.revision),
             "stable": vars(self.stable),
         }
-        told["plan"] = plan_object(self.plan) if self.plan else None
-        return json.dumps({key: value for key, value in told.items() if value is not None})
+        members["plan"] = plan_object(self.plan) if self.plan else None
+        return json.dumps({key: value for key, value in members.items() if value is not None})
 
 
 @dataclasses.dataclass(frozen=True)
 class MachineReport:
     """What a machine reports. `leader` is the `created` revision of the leader's key that the
     machine has read before (0: none, or a report of the version before): a report is a vote for
-    that leader alone. `machine` is the id of the machine itself, whatever its host is
-    called. `attempt` is the attempt that its switch has joined (0: none), `state` what came of it,
-    `reason` why it failed or waits. What the switch selects is empty where no book is open or no
-    switch answers."""
+    that leader alone. `machine` is the id of the machine itself, whatever its host is called.
+    `attempt` is the attempt that its switch has joined (0: none), `state` what came of it, `reason`
+    why it failed or waits. What the switch selects is empty if no book is open or no switch
+    answers."""
 
     machine: str
     attempt: int
@@ -154,34 +154,34 @@ class PersonOrder:
 
 
 def _object(text: str) -> JsonObject:
-    """The members of a text. `UnreadableError` where it is no object of this version."""
+    """The members of a text. `UnreadableError` if it is no object of this version."""
     try:
-        told = decoded(text.encode())
+        value = decoded(text.encode())
     except ValueError as error:
         raise UnreadableError(f"it is not JSON: {error}") from None
-    if not isinstance(told, JsonObject):
+    if not isinstance(value, JsonObject):
         raise UnreadableError("it is not an object")
-    if told.get("version") != VERSION:
+    if value.get("version") != VERSION:
         raise UnreadableError(
-            f"its version is {told.get('version')}, and this program knows version {VERSION}"
+            f"its version is {value.get('version')}, and this program knows version {VERSION}"
         )
-    return told
+    return value
 
 
-def _one_of(judge: Judge, told: object, place: str, known: Sequence[str]) -> str:
-    if isinstance(told, str) and told in known:
-        return told
+def _one_of(judge: Judge, value: object, place: str, known: Sequence[str]) -> str:
+    if isinstance(value, str) and value in known:
+        return value
     judge.note(place, f"is none of {', '.join(known)}")
     return known[0]
 
 
-def _count(judge: Judge, told: object, place: str) -> int:
-    return judge.whole_number(told, place, 0, GREATEST)
+def _count(judge: Judge, value: object, place: str) -> int:
+    return judge.whole_number(value, place, 0, GREATEST)
 
 
-def _texts(judge: Judge, told: object, place: str) -> tuple[str, ...]:
-    if isinstance(told, list) and all(isinstance(text, str) for text in told):
-        return tuple(told)
+def _texts(judge: Judge, value: object, place: str) -> tuple[str, ...]:
+    if isinstance(value, list) and all(isinstance(text, str) for text in value):
+        return tuple(value)
     judge.note(place, "is not a list of texts")
     return ()
 
@@ -197,29 +197,29 @@ def _keys(kind: type) -> tuple[str, ...]:
 
 @functools.lru_cache(maxsize=256)
 def read_record(text: str) -> Record:
-    """The record of a text. `UnreadableError` where it is none."""
+    """The record of a text. `UnreadableError` if it is not a record."""
     judge, keys = Judge(), _keys(Record)
-    told = judge.members(_object(text), "", keys, [key for key in keys if key != "plan"])
+    members = judge.members(_object(text), "", keys, [key for key in keys if key != "plan"])
     _raise_problems(judge)
     record = Record(
-        _count(judge, told["id"], "id"),
-        read_revision(judge, told["revision"], "revision"),
-        read_revision(judge, told["stable"], "stable"),
-        _one_of(judge, told["stage"], "stage", STAGES),
-        judge.text(told["reason"], "reason"),
-        _texts(judge, told["missing"], "missing"),
-        _count(judge, told["by"], "by"),
-        _count(judge, told["time"], "time"),
-        _kept_plan(judge, told["plan"]) if "plan" in told else None,
+        _count(judge, members["id"], "id"),
+        read_revision(judge, members["revision"], "revision"),
+        read_revision(judge, members["stable"], "stable"),
+        _one_of(judge, members["stage"], "stage", STAGES),
+        judge.text(members["reason"], "reason"),
+        _texts(judge, members["missing"], "missing"),
+        _count(judge, members["by"], "by"),
+        _count(judge, members["time"], "time"),
+        _kept_plan(judge, members["plan"]) if "plan" in members else None,
     )
     _raise_problems(judge)
     return record
 
 
-def _kept_plan(judge: Judge, told: object) -> FleetPlan | None:
-    """The plan that a record keeps; None, and a problem, where it is none."""
+def _kept_plan(judge: Judge, value: object) -> FleetPlan | None:
+    """The plan that a record keeps; None, and a problem, if it is not a plan."""
     try:
-        return read_kept_plan(told)
+        return read_kept_plan(value)
     except PlanError as wrong:
         judge.note("plan", "; ".join(wrong.problems))
         return None
@@ -227,21 +227,21 @@ def _kept_plan(judge: Judge, told: object) -> FleetPlan | None:
 
 @functools.lru_cache(maxsize=1024)
 def read_machine_report(text: str) -> MachineReport:
-    """What a machine reports. `UnreadableError` where the text is no report of this version."""
+    """What a machine reports. `UnreadableError` if the text is no report of this version."""
     judge = Judge()
-    told = _object(text)
-    for key in [key for key in _keys(MachineReport) if key not in told and key != "leader"]:
+    members = _object(text)
+    for key in [key for key in _keys(MachineReport) if key not in members and key != "leader"]:
         judge.note(key, "is missing")
     _raise_problems(judge)
     words = {
-        key: shortened(judge.text(told[key], key))
+        key: shortened(judge.text(members[key], key))
         for key in ("machine", "reason", "phase", "active", "preview", "stable", "newest")
     }
     report = MachineReport(
-        attempt=_count(judge, told["attempt"], "attempt"),
-        state=_one_of(judge, told["state"], "state", STATES),
-        available=_count(judge, told["available"], "available"),
-        leader=_count(judge, told.get("leader", 0), "leader"),
+        attempt=_count(judge, members["attempt"], "attempt"),
+        state=_one_of(judge, members["state"], "state", STATES),
+        available=_count(judge, members["available"], "available"),
+        leader=_count(judge, members.get("leader", 0), "leader"),
         **words,
     )
     _raise_problems(judge)
@@ -250,14 +250,14 @@ def read_machine_report(text: str) -> MachineReport:
 
 @functools.lru_cache(maxsize=64)
 def read_order(text: str) -> PersonOrder:
-    """What a person orders. `UnreadableError` where the text is no order of this version."""
+    """What a person orders. `UnreadableError` if the text is no order of this version."""
     judge = Judge()
-    told = judge.members(_object(text), "", _keys(PersonOrder), _keys(PersonOrder))
+    members = judge.members(_object(text), "", _keys(PersonOrder), _keys(PersonOrder))
     _raise_problems(judge)
     order = PersonOrder(
-        _one_of(judge, told["order"], "order", (PROMOTE, ABORT)),
-        _count(judge, told["attempt"], "attempt"),
-        shortened(judge.text(told["by"], "by")),
+        _one_of(judge, members["order"], "order", (PROMOTE, ABORT)),
+        _count(judge, members["attempt"], "attempt"),
+        shortened(judge.text(members["by"], "by")),
     )
     _raise_problems(judge)
     return order
@@ -283,13 +283,13 @@ class View:
         return self.snapshot.keys.get(name)
 
     def changed(self, name: str) -> int:
-        """The `changed` revision of a key; 0 where there is none."""
+        """The `changed` revision of a key; 0 if there is no such key."""
         key = self.key(name)
         return key.changed if key else 0
 
     @property
     def leader(self) -> int:
-        """The `created` revision of the leader's key, which tells one lead from another; 0 where
+        """The `created` revision of the leader's key, which tells one lead from another; 0 if
         nobody leads."""
         key = self.key(LEADER)
         return key.created if key else 0
@@ -301,7 +301,7 @@ class View:
 
     @property
     def plan(self) -> FleetPlan | None:
-        """The plan; None where none was put. `UnreadableError` where it is wrong."""
+        """The plan; None if no plan was put. `UnreadableError` if it is wrong."""
         key = self.key(PLAN)
         try:
             return read_stored_plan(key.value) if key else None
@@ -310,7 +310,7 @@ class View:
 
     @property
     def standing_plan(self) -> FleetPlan | None:
-        """The plan, where one was put that can be read; None where there is none."""
+        """The plan; None if no plan was put that can be read."""
         try:
             return self.plan
         except UnreadableError:
@@ -318,7 +318,7 @@ class View:
 
     @property
     def plan_fault(self) -> str:
-        """Why no plan stands that can be read; empty where one does."""
+        """Why no plan stands that can be read; empty if one does."""
         try:
             return "" if self.plan else "there is no plan"
         except UnreadableError as reason:
@@ -326,15 +326,14 @@ class View:
 
     @property
     def other_plan(self) -> FleetPlan | None:
-        """The plan that stands, where it is another one than that of the attempt of the record;
-        None where it is that one, and where none can be read: that ends no attempt."""
+        """The plan that stands, if it is another one than that of the attempt of the record; None
+        if it is that one, or if no plan can be read: that ends no attempt."""
         record = self.record
         return self.standing_plan if record and record.id != self.changed(PLAN) else None
 
     @property
     def record(self) -> Record | None:
-        """The record; None where none was written. `UnreadableError` where it is of another
-        version."""
+        """The record; None if none was written. `UnreadableError` if it is of another version."""
         key = self.key(ATTEMPT)
         try:
             return read_record(key.value) if key else None
@@ -343,7 +342,7 @@ class View:
 
     @property
     def order(self) -> PersonOrder | None:
-        """What a person orders; None where nobody does. An order that can't be read is one for no
+        """What a person orders; None if nobody does. An order that can't be read is one for no
         attempt."""
         key = self.key(ORDER)
         try:
@@ -353,7 +352,7 @@ class View:
 
     @property
     def order_fault(self) -> str:
-        """Why the order can't be read; empty where it can, and where there is none."""
+        """Why the order can't be read; empty if it can, or if there is no order."""
         key = self.key(ORDER)
         try:
             if key:
@@ -374,7 +373,7 @@ class View:
         )
 
     def machine(self, host: str) -> MachineReport | None:
-        """What a machine reports; None where it is away. A report that can't be read is one of a
+        """What a machine reports; None if it is away. A report that can't be read is one of a
         machine that works."""
         key = self.key(MACHINES + host)
         try:

@@ -21,9 +21,9 @@ from bg_switch_tools.fleet.store.store import Snapshot
 
 
 class MemberStatus(NamedTuple):
-    """A machine. `report` is None where it is away. Without `has_vote` the attempt goes on without
-    it. `awaited` is the state that it has to report before the fleet goes on; it is empty where
-    nothing is awaited from it."""
+    """A machine. `report` is None if it is away. Without `has_vote` the attempt goes on without it.
+    `awaited` is the state that it has to report before the fleet goes on; it is empty if nothing is
+    awaited from it."""
 
     host: str
     report: MachineReport | None
@@ -54,11 +54,10 @@ class MemberStatus(NamedTuple):
 
 class FleetStatus(NamedTuple):
     """How a fleet stands at a revision of the store. `plan_id` is the plan's `changed` revision (0:
-    there is none). `plan` is None where it can't be read, which `problem` tells. The plan waits
-    where it is not that of the attempt: a leader takes it up next.
-    `leader` is the host of the leader, and `wrote` whether it has written the record. `others` are
-    the machines that report and are no members. `problem` says what can't be read; what rests on it
-    is left out.
+    there is none). `plan` is None if it can't be read, which `problem` tells. The plan waits if it
+    is not that of the attempt: a leader takes it up next. `leader` is the host of the leader, and
+    `wrote` whether it has written the record. `others` are the machines that report and are no
+    members. `problem` says what can't be read; what rests on it is left out.
     """
 
     fleet: str

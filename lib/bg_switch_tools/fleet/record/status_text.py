@@ -21,7 +21,7 @@ def attempt_title(record: Record) -> str:
 
 
 def _since(record: Record) -> str:
-    """Since when an attempt is in its stage, by the clock of the leader that wrote it; empty where
+    """Since when an attempt is in its stage, by the clock of the leader that wrote it; empty if
     that is not known."""
     try:
         return f" since {local_time(record.time)}" if record.time else ""

@@ -32,16 +32,16 @@ TIME_TO_LIVE = "/v3/lease/timetolive"
 TARGETS = {"created": ("CREATE", "create_revision"), "changed": ("MOD", "mod_revision")}
 
 
-def encoded(given: str) -> str:
+def encoded(text: str) -> str:
     """A key or a value as the gateway has them: its bytes in base 64."""
-    return base64.b64encode(given.encode()).decode()
+    return base64.b64encode(text.encode()).decode()
 
 
-def text_of(given: str) -> str:
+def text_of(encoded_text: str) -> str:
     """The text of a key or a value. Bytes that are not UTF-8 become replacement characters.
-    `NoAnswerError` where it is not base 64."""
+    `NoAnswerError` if it is not base 64."""
     try:
-        return base64.b64decode(given, validate=True).decode(errors="replace")
+        return base64.b64decode(encoded_text, validate=True).decode(errors="replace")
     except ValueError:
         raise NoAnswerError("its answer has a key or a value that is not base 64") from None
 
@@ -53,7 +53,7 @@ def all_below(prefix: str) -> dict[str, str]:
 
 
 def revision_of(answer: JsonObject) -> int | None:
-    """The revision of a transaction; None where a compare did not hold."""
+    """The revision of a transaction; None if a compare did not hold."""
     return number(member(answer, "header"), "revision") if answer.get("succeeded") is True else None
 
 
@@ -94,7 +94,7 @@ class EtcdStore:
         deletes: Collection[str] = (),
         lease: int = 0,
     ) -> int | None:
-        made: list[object] = [
+        requests: list[object] = [
             {
                 "request_put": {
                     "key": encoded(self.prefix + name),
@@ -104,8 +104,10 @@ class EtcdStore:
             }
             for name, value in puts.items()
         ]
-        made += [{"request_delete_range": {"key": encoded(self.prefix + name)}} for name in deletes]
-        message = {"compare": [self._compare(each) for each in compares], "success": made}
+        requests += [
+            {"request_delete_range": {"key": encoded(self.prefix + name)}} for name in deletes
+        ]
+        message = {"compare": [self._compare(each) for each in compares], "success": requests}
         return self._gateway.call_once(TRANSACTION, message, revision_of)
 
     def _compare(self, compare: Compare) -> dict[str, str]:

@@ -25,61 +25,60 @@ LONGEST_TOLD = 200  # characters of a text of etcd that are repeated
 
 
 class EtcdRefusedError(StoreRefusedError):
-    """The cluster refuses a call, so that it has changed nothing. `code` is that of gRPC, `told`
-    the text of etcd."""
+    """The cluster refuses a call, so that it has changed nothing. `code` is that of gRPC,
+    `etcd_text` the text of etcd."""
 
-    def __init__(self, text: str, code: int, told: str) -> None:
+    def __init__(self, text: str, code: int, etcd_text: str) -> None:
         super().__init__(text)
-        self.code, self.told = code, told
+        self.code, self.etcd_text = code, etcd_text
 
     @property
     def needs_token(self) -> bool:
-        return any(each in self.told for each in NEEDS_TOKEN)
+        return any(each in self.etcd_text for each in NEEDS_TOKEN)
 
 
-def member(told: JsonObject, key: str) -> JsonObject:
-    """An object in an answer. An empty one where it is absent. `NoAnswerError` where it is no
-    object."""
-    value = told.get(key, JsonObject([]))
+def member(answer: JsonObject, key: str) -> JsonObject:
+    """An object in an answer. An empty one if it is absent. `NoAnswerError` if it is no object."""
+    value = answer.get(key, JsonObject([]))
     if not isinstance(value, JsonObject):
         raise NoAnswerError(f"its answer has no object {key}")
     return value
 
 
-def number(told: JsonObject, key: str) -> int:
-    """A whole number in an answer, which the gateway writes as a text, and leaves out where it is
-    0. `NoAnswerError` where it is none."""
-    value = told.get(key, "0")
+def number(answer: JsonObject, key: str) -> int:
+    """A whole number in an answer, which the gateway writes as a text, and leaves out if it is 0.
+    `NoAnswerError` if it is not a number."""
+    value = answer.get(key, "0")
     if isinstance(value, str) and value.isascii() and value.isdecimal() and len(value) <= 20:
         return int(value)
     raise NoAnswerError(f"its answer has no number {key}")
 
 
-def signed_number(told: JsonObject, key: str) -> int:
+def signed_number(answer: JsonObject, key: str) -> int:
     """As `number`, of one that may be below 0."""
-    value = told.get(key, "0")
+    value = answer.get(key, "0")
     if isinstance(value, str) and value.startswith("-"):
         return -number(JsonObject([(key, value[1:])]), key)
-    return number(told, key)
+    return number(answer, key)
 
 
-def text(told: JsonObject, key: str) -> str:
-    """A text in an answer. An empty one where it is absent. `NoAnswerError` where it is no text."""
-    value = told.get(key, "")
+def text(answer: JsonObject, key: str) -> str:
+    """A text in an answer. An empty one if it is absent. `NoAnswerError` if it is no text."""
+    value = answer.get(key, "")
     if not isinstance(value, str):
         raise NoAnswerError(f"its answer has no text {key}")
     return value
 
 
 def object_of(body: bytes, status: int) -> JsonObject:
-    """The object of JSON that an answer has. `NoAnswerError` where it has none; `EtcdRefusedError`
-    where etcd refuses the client's certificate."""
+    """The object of JSON that an answer has. `NoAnswerError` if it has none; `EtcdRefusedError` if
+    etcd refuses the client's certificate."""
     if status == http.HTTPStatus.BAD_REQUEST and COMMON_NAME in body:
-        told = body.decode(errors="replace")
+        refusal = body.decode(errors="replace")
         raise EtcdRefusedError(
             "etcd asks for users, and takes no client certificate with a common name then: use one without",
             DENIED,
-            told,
+            refusal,
         )
     try:
         value = decoded(body)
@@ -90,17 +89,17 @@ def object_of(body: bytes, status: int) -> JsonObject:
     return value
 
 
-def printable(told: object) -> str:
+def printable(value: object) -> str:
     """A text from outside as a fault repeats it: in one line, and not at any length."""
-    return "".join(each if each.isprintable() else "?" for each in str(told)[:LONGEST_TOLD])
+    return "".join(each if each.isprintable() else "?" for each in str(value)[:LONGEST_TOLD])
 
 
-def fault_of(told: JsonObject, status: int, user: str) -> Exception:
+def fault_of(answer: JsonObject, status: int, user: str) -> Exception:
     """What an answer means that is no success, to a call of this user (empty: none):
-    `EtcdRefusedError` where the cluster refuses the call, else `NoAnswerError`."""
-    error, code = told.get("error"), told.get("code")
+    `EtcdRefusedError` if the cluster refuses the call, else `NoAnswerError`."""
+    error, code = answer.get("error"), answer.get("code")
     if error is None:  # from etcd 3.6 on
-        error = told.get("message")
+        error = answer.get("message")
     elif isinstance(error, JsonObject):  # of an answer that goes on
         code, error = error.get("grpc_code", error.get("code")), error.get("message")
     if not isinstance(error, str) or not isinstance(code, int):

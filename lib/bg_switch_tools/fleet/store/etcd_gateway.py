@@ -40,7 +40,7 @@ FIELDS = {"Grpc-Metadata-hasleader": "true", "Accept": "application/json"}
 LONGEST_PASSWORD = 4096  # bytes
 Value = TypeVar("Value")
 Message = Mapping[str, object]
-# of an answer; it raises `NoAnswerError` where the answer can't be read
+# of an answer; it raises `NoAnswerError` if the answer can't be read
 Reader = Callable[[JsonObject], Value]
 
 
@@ -102,8 +102,8 @@ class Gateway:
         self._newest = 0  # the greatest revision that an answer of this cluster had
 
     def call(self, path: str, message: Message, value_of: Reader[Value]) -> Value:
-        """The value of the answer to a call that may be sent twice. `StoreError` where no endpoint
-        gives one, and where etcd refuses the call."""
+        """The value of the answer to a call that may be sent twice. `StoreError` if no endpoint
+        gives one, or if etcd refuses the call."""
         limit = TimeLimit(self.settings.timeout)
         return self._at_an_endpoint(
             limit,
@@ -131,8 +131,8 @@ class Gateway:
             raise StoreError(f"etcd gives no answer: {endpoint}: {fault}{outcome}") from None
 
     def read(self, path: str, message: Message, value_of: Reader[Value]) -> Value:
-        """The value of the answer to a linearizable read. It is a `StoreError` where its revision
-        is below one that was known when the read began: etcd was restored from a backup. What comes
+        """The value of the answer to a linearizable read. It is a `StoreError` if its revision is
+        below one that was known when the read began: etcd was restored from a backup. What comes
         after is taken as it is."""
         with self._lock:
             cluster, known = self._cluster, self._newest
@@ -151,8 +151,8 @@ class Gateway:
 
     def watch(self, call: WatchCall) -> bool:
         """Waits until a watch has an event, or could have missed one after its revision (True), or
-        until its time is over or it is cut (False). `StoreError` where no endpoint takes the watch
-        in time, or keeps it."""
+        until its time is over or it is cut (False). `StoreError` if no endpoint takes the watch in
+        time, or keeps it."""
         return self._at_an_endpoint(
             call.limit, lambda endpoint, share: self._watch(endpoint, call, share)
         )
@@ -208,10 +208,10 @@ class Gateway:
     def _results(self, response: http.client.HTTPResponse) -> Iterator[JsonObject]:
         """The results of an answer that goes on, a line for each."""
         while True:
-            told = object_of(line_of(response), response.status)
-            if "error" in told or response.status != http.HTTPStatus.OK:
-                raise fault_of(told, response.status, self.settings.user)
-            result = member(told, "result")
+            message = object_of(line_of(response), response.status)
+            if "error" in message or response.status != http.HTTPStatus.OK:
+                raise fault_of(message, response.status, self.settings.user)
+            result = member(message, "result")
             self._judge(member(result, "header"))
             yield result
 
@@ -219,8 +219,8 @@ class Gateway:
         self, limit: TimeLimit, ask: Callable[[StoreEndpoint, TimeLimit], Value]
     ) -> Value:
         """What the first endpoint gives that answers. Each that is asked has an equal share of the
-        time that is left. Where none answers for the cluster that is known, the calls after this
-        one go on with another one, if there is one.
+        time that is left. If none answers for the cluster that is known, the calls after this one
+        go on with another one, if there is one.
         """
         faults, endpoints = list[str](), self._endpoints()
         other = ""
@@ -280,10 +280,10 @@ class Gateway:
 
     def _answer_once(self, way: Way, path: str, message: Message) -> JsonObject:
         status, body = self._sent(way, self._post(way.endpoint, path, message))
-        told = object_of(body, status)
-        if "error" in told or status != http.HTTPStatus.OK:
-            raise fault_of(told, status, self.settings.user)
-        answer = member(told, "result") if "result" in told else told
+        response = object_of(body, status)
+        if "error" in response or status != http.HTTPStatus.OK:
+            raise fault_of(response, status, self.settings.user)
+        answer = member(response, "result") if "result" in response else response
         self._judge(member(answer, "header"))
         return answer
 
@@ -329,8 +329,8 @@ class Gateway:
             self._token = token
 
     def _judge(self, header: JsonObject) -> None:
-        """Notes the revision of an answer. `OtherClusterError` where it is not of the cluster of
-        those before: revisions and leases of one cluster mean nothing to another."""
+        """Notes the revision of an answer. `OtherClusterError` if it is not of the cluster of those
+        before: revisions and leases of one cluster mean nothing to another."""
         cluster, revision = number(header, "cluster_id"), number(header, "revision")
         if not cluster:
             raise NoAnswerError("its answer names no cluster")

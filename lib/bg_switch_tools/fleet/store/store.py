@@ -99,18 +99,18 @@ class Store(Protocol):
         lease: int = 0,
     ) -> int | None:
         """Puts and deletes these keys in one step, if all compares hold. Gives the revision of the
-        write, or None where a compare does not hold; nothing is changed then. With a lease, the
-        keys that are put go when the lease ends (0: they stay). A lease that is gone is a
-        `StoreError`. A `StoreError` does not say that nothing was written: the caller reads again.
+        write, or None if a compare does not hold; nothing is changed then. With a lease, the keys
+        that are put go when the lease ends (0: they stay). A lease that is gone is a `StoreError`.
+        A `StoreError` does not say that nothing was written: the caller reads again.
         """
 
     def grant(self, seconds: int) -> int:
-        """Begins a lease of at least so many seconds (1 or more), and gives its number. The store
+        """Begins a lease of at least `seconds` seconds (1 or more), and gives its number. The store
         may choose a longer time."""
 
     def refresh(self, lease: int) -> int:
-        """Lets a lease last for its whole time again. Gives the seconds that it has now, and 0
-        where it is gone."""
+        """Lets a lease last for its whole time again. Gives the seconds that it has now, and 0 if
+        it is gone."""
 
     def seconds_left(self, lease: int) -> int:
         """The whole seconds until the time of a lease is over. Below 0 if it has been over for a
@@ -122,6 +122,6 @@ class Store(Protocol):
 
     def wait(self, after: int, seconds: float, state: WatchState = NO_WATCH_STATE) -> bool:
         """Returns when a key below the prefix was changed or deleted after this revision, or after
-        so many seconds. True where something has, or may have, changed. It may return early without
-        a change. `StoreError`, at once, where the store gives no events: a caller in a loop pauses
+        `seconds` seconds. True if something has, or may have, changed. It may return early without
+        a change. `StoreError`, at once, if the store gives no events: a caller in a loop pauses
         then. `state` is told how the watch stands."""

@@ -13,8 +13,9 @@ from bg_switch_tools.switch.json_values import GREATEST_PORT
 TEXT = re.compile(
     r"(?:\[([0-9A-Fa-f:.]{2,45})\]|([A-Za-z0-9_](?:[A-Za-z0-9._-]{0,251}[A-Za-z0-9_])?)):([1-9][0-9]{0,4})"
 )
-# A connection without traffic is probed after so many seconds, so often, and so many times: a peer
-# that is gone is noticed within twenty seconds, and what stands between keeps the connection.
+# After how many seconds without traffic a connection is probed, at what interval, and how many
+# times: a peer that is gone is noticed within twenty seconds, and what stands between keeps the
+# connection.
 PROBES = (
     (socket.TCP_KEEPIDLE, 10),
     (socket.TCP_KEEPINTVL, 5),
@@ -38,7 +39,7 @@ class StoreEndpoint(NamedTuple):
 
 def store_endpoint_of(text: str) -> StoreEndpoint:
     """The endpoint of a text such as `10.0.0.1:2379`, `store-1:2379` or `[fd00::1]:2379`.
-    `ValueError` where it is none."""
+    `ValueError` if it is not an endpoint."""
     found = TEXT.fullmatch(text)
     if not found or int(found[3]) > GREATEST_PORT:
         raise ValueError(f"{text!r} is not HOST:PORT")
@@ -60,8 +61,7 @@ class Lookups:
         self._running: dict[StoreEndpoint, concurrent.futures.Future[Addresses]] = {}
 
     def addresses(self, endpoint: StoreEndpoint, limit: TimeLimit) -> Addresses:
-        """The addresses of an endpoint. `OSError` where there is none, or where none is found in
-        time."""
+        """The addresses of an endpoint. `OSError` if there is none, or if none is found in time."""
         with self._lock:
             found = self._running.get(endpoint)
             if found is None:
@@ -91,21 +91,21 @@ LOOKUPS = Lookups()
 def connected(
     endpoint: StoreEndpoint, limit: TimeLimit, lookups: Lookups = LOOKUPS
 ) -> socket.socket:
-    """A connection to an endpoint, at the first of its addresses that takes one. `OSError` where
-    none does in time."""
+    """A connection to an endpoint, at the first of its addresses that takes one. `OSError` if none
+    does in time."""
     problem = OSError("it has no address")
     addresses = lookups.addresses(endpoint, limit)
     for place, (family, kind, protocol, _, address) in enumerate(addresses):
-        made = socket.socket(family, kind, protocol)
+        connection = socket.socket(family, kind, protocol)
         try:
-            made.settimeout(limit.share(len(addresses) - place).left())
-            made.connect(address)
-            made.setsockopt(socket.IPPROTO_TCP, socket.TCP_NODELAY, 1)
-            made.setsockopt(socket.SOL_SOCKET, socket.SO_KEEPALIVE, 1)
+            connection.settimeout(limit.share(len(addresses) - place).left())
+            connection.connect(address)
+            connection.setsockopt(socket.IPPROTO_TCP, socket.TCP_NODELAY, 1)
+            connection.setsockopt(socket.SOL_SOCKET, socket.SO_KEEPALIVE, 1)
             for option, value in PROBES:
-                made.setsockopt(socket.IPPROTO_TCP, option, value)
-            return made
+                connection.setsockopt(socket.IPPROTO_TCP, option, value)
+            return connection
         except OSError as error:
-            made.close()
+            connection.close()
             problem = error
     raise problem

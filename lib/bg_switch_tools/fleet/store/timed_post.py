@@ -62,8 +62,8 @@ class _TimedConnection:
     def __init__(self, connection: socket.socket, limit: TimeLimit) -> None:
         self.connection, self.limit = connection, limit
 
-    def sendall(self, given: bytes) -> None:
-        rest = memoryview(given)
+    def sendall(self, data: bytes) -> None:
+        rest = memoryview(data)
         while rest:
             self.connection.settimeout(self.limit.left())
             rest = rest[self.connection.send(rest) :]
@@ -97,8 +97,8 @@ def reason_of(error: Exception) -> str:
 def with_tls(
     connection: socket.socket, context: ssl.SSLContext, host: str, limit: TimeLimit
 ) -> ssl.SSLSocket:
-    """The connection with TLS. `OSError` where the handshake fails; `NoConnectionError` where the
-    peer closes the connection in it, as a server without TLS may."""
+    """The connection with TLS. `OSError` if the handshake fails; `NoConnectionError` if the peer
+    closes the connection in it, as a server without TLS may."""
     connection.settimeout(limit.left())
     try:
         return context.wrap_socket(connection, server_hostname=host)
@@ -111,7 +111,7 @@ class PostConnection:
     user."""
 
     def __init__(self, post: Post, connecting: TimeLimit) -> None:
-        """Connects to the endpoint of a request. `NoConnectionError` where that fails."""
+        """Connects to the endpoint of a request. `NoConnectionError` if that fails."""
         self.endpoint, self.context = post.endpoint, post.context
         self.is_cut = False
         # A cut must not meet a descriptor that is that of another connection by then.
@@ -136,8 +136,8 @@ class PostConnection:
             self._opened.close()
 
     def cut(self) -> None:
-        """Ends a wait that another thread has in this connection, which finds it ended. Nothing
-        where it was closed."""
+        """Ends a wait that another thread has in this connection, which finds it ended. Does
+        nothing if it was closed."""
         self.is_cut = True
         with self._closing, contextlib.suppress(OSError):
             # TLS says no good-bye, since the other thread is in it
@@ -156,7 +156,7 @@ class PostConnection:
         self, post: Post, limit: TimeLimit, is_last: bool
     ) -> Iterator[http.client.HTTPResponse]:
         """The response to a request, whose head has come. `limit` is that of all, also of the reads
-        of the body. `NoAnswerError` where no response comes, and where one of these reads fails. No
+        of the body. `NoAnswerError` if no response comes, or if one of these reads fails. No
         redirection is followed, and nothing is sent again. `is_last` tells the endpoint that no
         other request comes over this connection."""
         ends = {"Connection": "close"} if is_last else {}
@@ -172,7 +172,7 @@ class PostConnection:
             raise NoAnswerError(reason_of(error)) from None
 
     def answer(self, post: Post, limit: TimeLimit, is_last: bool) -> "Answer":
-        """The whole response to a request. `NoAnswerError` where none comes."""
+        """The whole response to a request. `NoAnswerError` if none comes."""
         with self.responding(post, limit, is_last) as response:
             body = response.read(LARGEST + 1)
             if len(body) > LARGEST:
@@ -199,8 +199,9 @@ class KeptConnections:
         self._kept: list[PostConnection] = []
 
     def take(self, post: Post) -> PostConnection | None:
-        """A connection for a request; None where none is kept. The one that was used last comes
-        first. Connections that have ended, or have TLS by files that were replaced, are closed."""
+        """A connection for a request; None if no connection is kept. The one that was used last
+        comes first. Connections that have ended, or have TLS by files that were replaced, are
+        closed."""
         while found := self._popped(post.endpoint):
             if found.context is post.context and found.is_quiet:
                 return found
@@ -225,8 +226,8 @@ class KeptConnections:
 
 
 def line_of(response: http.client.HTTPResponse) -> bytes:
-    """The next line of a response's body; the last one may be without an end. `NoAnswerError` where
-    there is none, or where it is too long."""
+    """The next line of a response's body; the last one may be without an end. `NoAnswerError` if
+    there is none, or if it is too long."""
     line = response.readline(LARGEST + 1)
     if len(line) > LARGEST:
         raise NoAnswerError(f"a line of its answer has more than {LARGEST} bytes")

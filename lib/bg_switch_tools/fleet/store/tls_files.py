@@ -21,16 +21,16 @@ class TlsContexts:
     def __init__(self, files: TlsFiles) -> None:
         self.files = files
         self._lock = threading.Lock()
-        self._seen: list[tuple[int, int, int]] = []
+        self._identities: list[tuple[int, int, int]] = []
         self._context: ssl.SSLContext | None = None
 
     def context(self) -> ssl.SSLContext:
-        """The context of the files as they are now. `OSError` with a sentence where one can't be
+        """The context of the files as they are now. `OSError` with a sentence if one can't be
         used."""
         with self._lock:
-            seen = [self._identity(path) for path in self.files if path]
-            if self._context is None or seen != self._seen:
-                self._context, self._seen = self._made(), seen
+            identities = [self._identity(path) for path in self.files if path]
+            if self._context is None or identities != self._identities:
+                self._context, self._identities = self._new_context(), identities
             return self._context
 
     @staticmethod
@@ -41,7 +41,7 @@ class TlsContexts:
             raise OSError(f"{path} can't be read: {error.strerror}") from None
         return found.st_ino, found.st_mtime_ns, found.st_size
 
-    def _made(self) -> ssl.SSLContext:
+    def _new_context(self) -> ssl.SSLContext:
         try:
             context = ssl.create_default_context(cafile=self.files.ca or None)
         except OSError as error:
