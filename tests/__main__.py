@@ -85,8 +85,10 @@ class ClassRun:
 
     def has_ended(self) -> bool:
         """Whether it has ended. One that has taken too long is ended."""
-        if time.monotonic() > self.begun + LONGEST and time.monotonic() > self.begun + (
-            longest := widened(LONGEST)
+        if (
+            self.process.is_alive()
+            and time.monotonic() > self.begun + LONGEST
+            and time.monotonic() > self.begun + (longest := widened(LONGEST))
         ):
             os.kill(self.process.pid or 0, signal.SIGUSR1)
             self.process.join(TELLING)
