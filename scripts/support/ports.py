@@ -134,6 +134,15 @@ def unread_at(port: int) -> int:
     )
 
 
+def has_delivered(port: int) -> bool:
+    """Whether all that the program of a port has sent on its connections has come to its peers."""
+    return all(
+        fields[QUEUES].startswith("00000000:")
+        for fields in rows_at(port)
+        if fields[STATE] != LISTENS
+    )
+
+
 def is_open(port: int) -> bool:
     """Whether a port of this machine is listened at: a connection would count."""
     return LISTENS in sockets_at(port)

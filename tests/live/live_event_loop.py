@@ -3,6 +3,7 @@ endpoint. Connections of both sides are kept for further requests, or carry one 
 """
 import contextlib
 import os
+import signal
 import socket
 import subprocess
 import threading
@@ -22,7 +23,7 @@ from support.endpoints import (
     reset_at_once,
 )
 from support.messages import BAD_GATEWAY, BAD_REQUEST, CONTINUE, answer, request, response
-from support.ports import connections_at, free_port, unread_at
+from support.ports import connections_at, free_port, has_delivered, unread_at
 from support.switch import LISTENING
 
 # Another program can be tried by hand in its place.
@@ -46,6 +47,14 @@ UNASKED = response(b"nobody asked for this")
 # digits.
 HEAD = len(response(bytes(10_000))) - 10_000
 ONE_READ = response(b"x" * (READ - HEAD))
+# Clients whose uploads, of which a part has come, make a round of the loop long. A round has at most
+# 256 events.
+BUSY = 200
+UPLOAD = (
+    b"POST /upload HTTP/1.1\r\nHost: x\r\nTransfer-Encoding: chunked\r\n\r\n"
+    + b"1\r\na\r\n" * 5_000
+)
+ROUNDS = 10  # that are tried
 
 
 class KeptEndpoint(Endpoint):
@@ -56,6 +65,7 @@ class KeptEndpoint(Endpoint):
         self.requests: list[Request] = []
         self.held = Held(b"held")
         self.may_send_later = threading.Event()
+        self.sent_later = threading.Event()
         super().__init__(self.answer_by_target)
 
     def serve(self, connection: socket.socket) -> None:
@@ -96,6 +106,7 @@ class KeptEndpoint(Endpoint):
             connection.sendall(response(target))
             self.may_send_later.wait(LONGEST)
             connection.sendall(UNASKED)
+            self.sent_later.set()
         elif target == HOLDS:
             self.held(asked_for, connection)
         else:
@@ -106,6 +117,10 @@ class KeptEndpoint(Endpoint):
         if (swallowed := read_request(connection)) is not None:
             self.note(swallowed)
         connection.close()
+
+    def has_sent_later(self) -> bool:
+        """Whether unasked bytes have come to the system of the loop, at a time that comes soon."""
+        return self.sent_later.wait(LONGEST) and comes(lambda: has_delivered(self.port))
 
     def targets(self) -> list[bytes]:
         """The targets of all requests, in the order in which they came."""
@@ -147,6 +162,12 @@ class EventLoop:
         with self.process.stdout:
             printed = self.process.stdout.read()
         check(name, (printed, self.process.wait(processes.LONGEST)), ("", 0))
+
+    def pause(self) -> None:
+        processes.pause(self.process.pid)
+
+    def go_on(self) -> None:
+        os.kill(self.process.pid, signal.SIGCONT)
 
     def count_descriptors(self) -> int:
         return len(processes.descriptors(self.process.pid))
@@ -410,6 +431,44 @@ def unasked_bytes_later() -> None:
         check_clean("the answers after unasked bytes", client)
 
 
+def unasked_bytes_in_a_round() -> None:
+    """A kept connection on which unasked bytes come in the very round in which it would be used again
+    carries no request."""
+    answers = (answer_after_unasked_bytes() for _ in range(ROUNDS))
+    check(
+        "an answer after unasked bytes of the same round",
+        next((one for one in answers if one is not None), None),
+        response(echo(b"/next")),
+    )
+
+
+def answer_after_unasked_bytes() -> bytes | None:
+    """What a client is answered if unasked bytes come on the kept connection to the endpoint after the
+    events of a round were taken, and before its request enters; None if the round was too short.
+    """
+    with running(KEEP) as event_loop, contextlib.ExitStack() as stack:
+        client, refused = (stack.enter_context(KeptClient(event_loop.port)) for _ in range(2))
+        busy = [stack.enter_context(connect(event_loop.port)) for _ in range(BUSY)]
+        check("before a round", client.answer_to(request(SENDS_LATER)), response(SENDS_LATER))
+        check("all clients are accepted", event_loop.has_read(2 + BUSY), True)
+        event_loop.pause()
+        # the events of one round, in their order
+        refused.send(b"BAD\r\n\r\n")
+        client.send(request(b"/next"))
+        for one in busy:
+            one.sendall(UPLOAD)
+        event_loop.go_on()
+        check("a round has begun", refused.answer(), BAD_REQUEST)
+        event_loop.pause()
+        # a request enters only after all that came is read
+        is_in_time = unread_at(event_loop.port) > 0
+        event_loop.endpoint.may_send_later.set()
+        check("unasked bytes come", event_loop.endpoint.has_sent_later(), True)
+        event_loop.go_on()
+        answered = client.answer()
+    return answered if is_in_time else None
+
+
 def fault_behind_a_request() -> None:
     """A fault behind a good request is refused after the answer, and ends the connection."""
     with running(KEEP) as event_loop, KeptClient(event_loop.port) as client:
@@ -527,6 +586,7 @@ if __name__ == "__main__":
             sent_again,
             unasked_bytes,
             unasked_bytes_later,
+            unasked_bytes_in_a_round,
             fault_behind_a_request,
             resets_inside,
             many_clients,

@@ -1,10 +1,10 @@
 //! The connections of clients.
+ghost use Rattle.std.specs.Prelude.{◌≡◌, None, Some, if◌then◌else◌};
+ghost use Rattle.bg_endpoint_side.specs.declared.outcome.GivingUp.TheVariants as why;
 
 use crate::events::Told;
-use crate::forwarding::Forwarding;
-use crate::inside_request::InsideRequest;
 use crate::readiness::Readiness;
-use bg_client_side::ClientConnection;
+use bg_both_sides::BothSides;
 use bg_endpoint_side::GivingUp;
 use std::net::TcpStream;
 
@@ -14,9 +14,12 @@ pub(crate) struct Client {
     pub(crate) ready: Readiness,
     /// Whether the set watches it.
     pub(crate) is_watched: bool,
-    pub(crate) connection: ClientConnection,
-    /// The request that is inside, if one is.
-    pub(crate) inside: Option<InsideRequest>,
+    /// The connection, and the request that is inside.
+    pub(crate) sides: BothSides,
+    /// The seat of the request that is inside, or that is over and has not left yet.
+    pub(crate) seat: Option<usize>,
+    /// The key of the connection to an endpoint that the request has or awaits.
+    pub(crate) endpoint: Option<usize>,
 }
 
 impl Drop for Client {
@@ -26,15 +29,16 @@ impl Drop for Client {
             stream: _,
             ready: _,
             is_watched: _,
-            connection: _,
-            inside: _,
+            sides: _,
+            seat: _,
+            endpoint: _,
         } = self;
     }
 }
 
 impl Client {
     /// A client that was accepted. Its socket may be ready, since no event of it came yet.
-    pub(crate) fn new(stream: TcpStream, connection: ClientConnection) -> Client {
+    pub(crate) fn new(stream: TcpStream, sides: BothSides) -> Client {
         Client {
             stream,
             ready: Readiness {
@@ -44,8 +48,9 @@ impl Client {
                 reset: false,
             },
             is_watched: false,
-            connection,
-            inside: None,
+            sides,
+            seat: None,
+            endpoint: None,
         }
     }
 
@@ -53,41 +58,36 @@ impl Client {
     pub(crate) fn note(&mut self, told: Told) {
         self.ready.note(told);
         if self.ready.reset {
-            self.connection.fail();
+            self.sides.fail();
         }
     }
 
     /// Whether a step is due that waits for nothing.
     pub(crate) fn is_due(&self) -> bool {
-        self.writes() && self.ready.output || self.connection.wants_read() && self.ready.input
+        self.writes() && self.ready.output || self.sides.client().wants_read() && self.ready.input
     }
 
     /// Whether it waits for its client, and not for its request.
     pub(crate) fn waits_for_client(&self) -> bool {
-        self.writes() || self.connection.wants_read()
+        self.writes() || self.sides.client().wants_read()
     }
 
     /// Whether something is to be written.
     pub(crate) fn writes(&self) -> bool {
-        self.connection.owes_continue() || !self.connection.rest().is_empty()
+        self.sides.client().owes_continue() || !self.sides.client().rest().is_empty()
     }
 
     /// Why the request that is inside is given up, if it is.
-    pub(crate) fn why_given_up(&self, is_given_up: bool) -> Option<GivingUp> {
-        if self.connection.has_failed() {
+    pub(crate) fn why_given_up(&self, is_given_up: bool) -> Option<GivingUp>
+        ensures { result ≡ (if self.now.sides.client.facts.has_failed then Some why.ClientGone
+            else if is_given_up then Some why.Drained else None) }
+    {
+        if self.sides.client().has_failed() {
             Some(GivingUp::ClientGone)
         } else if is_given_up {
             Some(GivingUp::Drained)
         } else {
             None
-        }
-    }
-
-    /// Takes out how far the request that is inside is.
-    pub(crate) fn take_forwarding(&mut self) -> Option<Forwarding> {
-        match &mut self.inside {
-            Some(inside) => inside.forwarding.take(),
-            None => None,
         }
     }
 }

@@ -2,6 +2,7 @@
 
 use crate::readiness::Readiness;
 use crate::sockets::{Input, read, write};
+use bg_both_sides::{BothSides, EndpointStep};
 use std::net::TcpStream;
 
 /// A connection to an endpoint, with its socket.
@@ -15,21 +16,65 @@ pub(crate) struct Endpoint {
 }
 
 impl Endpoint {
-    /// Reads the bytes that are there.
-    pub(crate) fn read(&mut self, piece: &mut [u8]) -> Input {
-        let input = read(&self.stream, piece);
-        match input {
-            Input::Came(count) => self.ready.note_read(count, piece.len()),
-            Input::Nothing => self.ready.input = false,
-            Input::End | Input::Failed => {}
-        }
-        input
+    /// Whether neither bytes nor the end of the input are there now. This reads a byte that is there, so the connection
+    /// is of use only if there is none.
+    pub(crate) fn is_silent(&self) -> bool {
+        matches!(read(&self.stream, &mut [0]), Input::Nothing)
     }
 
-    /// Writes what the system takes. `None` if the endpoint takes no byte any more.
-    pub(crate) fn write(&mut self, bytes: &[u8]) -> Option<usize> {
-        let count = write(&self.stream, bytes)?;
-        self.ready.note_write(count, bytes.len());
-        Some(count)
+    /// Whether a step is due of the request that is forwarded on it.
+    pub(crate) fn is_due(&self, sides: &BothSides) -> bool {
+        self.ready.input || self.may_write(sides)
+    }
+
+    fn may_write(&self, sides: &BothSides) -> bool {
+        self.ready.output && !sides.rest_to_endpoint().is_empty()
+    }
+
+    /// Writes what is left of the request, or reads its response.
+    pub(crate) fn serve(
+        &mut self,
+        sides: &mut BothSides,
+        piece: &mut [u8],
+        now: u64,
+    ) -> EndpointStep {
+        if self.may_write(sides) {
+            self.send(sides, now);
+            EndpointStep::GoesOn
+        } else {
+            self.receive(sides, piece, now)
+        }
+    }
+
+    /// Writes what the system takes of the request.
+    fn send(&mut self, sides: &mut BothSides, now: u64) {
+        let rest = sides.rest_to_endpoint();
+        let most = rest.len();
+        match write(&self.stream, rest) {
+            Some(count) => {
+                self.ready.note_write(count, most);
+                sides.endpoint_wrote(count, now);
+            }
+            None => sides.endpoint_reads_no_more(now),
+        }
+    }
+
+    /// Reads what came of the response.
+    fn receive(&mut self, sides: &mut BothSides, piece: &mut [u8], now: u64) -> EndpointStep {
+        if self.ready.end {
+            sides.endpoint_is_ending();
+        }
+        match read(&self.stream, piece) {
+            Input::Came(count) => {
+                self.ready.note_read(count, piece.len());
+                sides.receive(&piece[..count.min(piece.len())], now)
+            }
+            Input::Nothing => {
+                self.ready.input = false;
+                EndpointStep::GoesOn
+            }
+            Input::End => sides.endpoint_ended(now),
+            Input::Failed => sides.endpoint_failed(now),
+        }
     }
 }

@@ -1,6 +1,7 @@
 //! The connections to endpoints of a loop.
 ghost use Rattle.std.specs.Prelude.{◌≡◌, ◌&&◌, not};
 
+use crate::client::Client;
 use crate::endpoint::Endpoint;
 use crate::events::{Source, Told, watch};
 use crate::readiness::Readiness;
@@ -45,16 +46,25 @@ impl<'a> Endpoints<'a> {
         self.connections.get(key)
     }
 
-    pub(crate) fn get_mut(&mut self, key: usize) -> Option<&mut Endpoint> {
-        self.connections.get_mut(key)
+    /// The connection that the request of a client has or awaits.
+    pub(crate) fn used_by(&mut self, client: &Client) -> Option<&mut Endpoint> {
+        self.connections.get_mut(client.endpoint?)
     }
 
-    /// Takes a connection to a port that was kept, for the request of a client.
+    /// Takes a connection to a port that was kept, for the request of a client. Each on which something has come is
+    /// closed: no event has told of it yet, and the request would get it as its response.
     pub(crate) fn take_kept(&mut self, port: u16, client: usize) -> Option<usize> {
-        let kept = self.kept.take(port)?;
-        let endpoint = self.connections.get_mut(kept.key)?;
-        endpoint.client = Some(client);
-        Some(kept.key)
+        for _ in 0..self.kept.get().len() {
+            let key = self.kept.take(port)?.key;
+            if let Some(endpoint) = self.connections.get_mut(key)
+                && endpoint.is_silent()
+            {
+                endpoint.client = Some(client);
+                return Some(key);
+            }
+            self.close(key);
+        }
+        None
     }
 
     /// Dials a port for the request of a client.
@@ -127,6 +137,14 @@ impl<'a> Endpoints<'a> {
 
     pub(crate) fn close(&mut self, key: usize) {
         self.connections.remove(key);
+    }
+
+    /// Closes the connection of the request of a client, and gives the port of its endpoint.
+    pub(crate) fn close_used_by(&mut self, client: &mut Client) -> Option<u16> {
+        let key = client.endpoint.take()?;
+        let port = self.connections.get(key)?.port;
+        self.close(key);
+        Some(port)
     }
 
     /// Closes the connections that no request was on for too long.

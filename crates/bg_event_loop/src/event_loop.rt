@@ -6,7 +6,8 @@ use crate::events::{Source, Told, watch};
 use crate::settings::LoopSettings;
 use crate::slots::Slots;
 use crate::sockets::accept;
-use bg_client_side::{ClientConnection, Fed, Seats};
+use bg_both_sides::BothSides;
+use bg_client_side::{Fed, Seats};
 use bg_sockets::EpollSet;
 use os::EpollEvent;
 use std::alloc::Global;
@@ -89,9 +90,9 @@ impl<'a> EventLoop<'a> {
             let Some(stream) = accept(listener) else {
                 return;
             };
-            let connection = ClientConnection::new(self.alloc, self.settings.clients, self.now);
+            let sides = BothSides::new(self.alloc, self.settings.clients, self.now);
             // without memory, the connection is closed
-            if let Ok(key) = self.clients.put(Client::new(stream, connection)) {
+            if let Ok(key) = self.clients.put(Client::new(stream, sides)) {
                 self.make_due(key);
             }
         }
@@ -130,18 +131,18 @@ impl<'a> EventLoop<'a> {
         if !client.is_due() {
             return false;
         }
-        let fed = client.step(self.alloc, self.piece.as_mut_slice(), self.now);
+        let fed = client.step(self.piece.as_mut_slice(), self.now);
         self.note_fed(key, fed);
         true
     }
 
-    /// Lets a request wait for a seat that has become whole.
+    /// Lets a request wait for a seat that has become whole. It is refused if the most requests wait.
     pub(crate) fn note_fed(&mut self, key: usize, fed: Fed) {
         if fed != Fed::Whole || self.queue.wait(key) {
             return;
         }
         if let Some(client) = self.clients.get_mut(key) {
-            client.refuse(self.alloc, 503, self.now);
+            client.refuse_waiting(self.now);
         }
     }
 
@@ -166,14 +167,14 @@ impl<'a> EventLoop<'a> {
         }
         client.is_watched = true;
         if watch(self.set, &client.stream, Source::Client(key)).is_err() {
-            client.connection.fail();
+            client.sides.fail();
         }
     }
 
     /// Closes the connection of a client that has left.
     fn remove_if_left(&mut self, key: usize) {
         if let Some(client) = self.clients.get(key)
-            && client.connection.has_left()
+            && client.sides.client().has_left()
         {
             self.queue.withdraw(key);
             self.clients.remove(key);

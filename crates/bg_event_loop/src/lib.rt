@@ -1,7 +1,8 @@
 //! An event loop that serves the clients of a port in one thread.
 //!
-//! It carries out what bg_client_side and bg_endpoint_side say, over sockets that never wait. Each loop has an epoll set, the
-//! clients that it accepted, its connections to endpoints, and seats of a book. No call waits but the one for events.
+//! It carries out what bg_both_sides says of each client and of its request, over sockets that never wait. Each loop
+//! has an epoll set, the clients that it accepted, its connections to endpoints, and seats of a book. No call waits but
+//! the one for events.
 //!
 //! The program does not use this crate yet. What is missing: a request whose dial fails is not sent to another endpoint, and
 //! endpoints are not marked; uploads are not paused; neither the number of connections nor the memory of requests and answers
@@ -16,7 +17,6 @@ mod event_loop;
 mod events;
 mod forwarding;
 mod inside;
-mod inside_request;
 mod readiness;
 mod running;
 mod seating;
@@ -25,7 +25,6 @@ mod shutdown;
 mod slots;
 mod sockets;
 mod sweeping;
-mod texts;
 
 pub use running::{LoopContext, run_event_loop};
 pub use settings::{EndpointSettings, LoopSettings};

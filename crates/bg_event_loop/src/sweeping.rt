@@ -32,9 +32,9 @@ impl<'a> EventLoop<'a> {
         let Some(client) = self.clients.get_mut(key) else {
             return;
         };
-        client.connection.look(self.now);
+        client.sides.look(self.now);
         if is_over {
-            client.connection.fail();
+            client.sides.fail();
         }
         self.watch(key);
         self.make_due(key);
@@ -57,7 +57,7 @@ impl<'a> EventLoop<'a> {
         self.closes_at = Some(self.now.saturating_add(self.settings.closing_millis));
         for key in 0..self.clients.bound() {
             if let Some(client) = self.clients.get_mut(key) {
-                client.connection.begin_closing();
+                client.sides.begin_closing();
                 self.make_due(key);
             }
         }
