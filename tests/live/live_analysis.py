@@ -146,6 +146,8 @@ def in_a_plan() -> None:
             str(played.folder),
             played.switch.control,
             health={"path": "/", "interval": 0.3, "failures": 2},
+            # on a slow machine the controller must not end the attempt before the analysis fails
+            progress={"outage": 600},
             analyses={"post": [ANALYSIS, "--log", str(played.log), *LIMITS]},
         )
         plan.write([("web-v1", [played.ports["web-v1"]])])
