@@ -371,7 +371,7 @@ class Runs(unittest.TestCase):
         """A few requests after the last measurement, all of which failed, are not judged with those
         before."""
         self.write_steadily(
-            lambda seconds: requests(20) if seconds < 0.5 else [NOT_FOUND][: seconds > 0.9]
+            lambda seconds: requests(60) if seconds < 0.5 else [NOT_FOUND][: seconds > 0.9]
         )
         ended = self.analysis(
             "--revision",
@@ -639,7 +639,7 @@ class Runs(unittest.TestCase):
         )
         for words, environment in cases:
             self.write_later(Part(2, 10), Part(1, 10, 1.0))
-            ended = self.analysis(*words, "--seconds", "1", *limit, **environment)
+            ended = self.analysis(*words, "--seconds", "3", *limit, **environment)
             self.assertEqual(ended.status, 0, ended.printed)
         self.assertIn(
             "--control tells the port", self.analysis("--revision", "web-v2", *FAST, *limit).printed
