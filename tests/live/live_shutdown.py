@@ -375,7 +375,7 @@ def at_rest() -> None:
             [TOP / "bin" / "operator", str(switch.control), "shutdown", "--yes"],
             capture_output=True,
             text=True,
-            timeout=SOON * 2,
+            timeout=checks.LONGEST_WAIT,
             check=False,
         )
         check("the operator's tool", (run.stdout, run.stderr, run.returncode), ("", "", 0))
