@@ -15,7 +15,7 @@ use Rattle.bg_http_read.specs.Requests.{WroteFor, WroteOnFault, continue_text}
 use Rattle.bg_forward.specs.Clients.{IsReceived, IsServed}
 use Rattle.bg_forward.specs.Connections.{Connection, EndsBy, IsInterim, IsLastText, IsOwed, MayEnd}
 use Rattle.bg_forward.specs.Connections.{ReadOutcome, ReadsAs, Receives, Wrote, WroteLast, WroteUnlessFailed}
-use Rattle.bg_forward.specs.declared.refusal.RefusalBody.{RefusalBody}
+use Rattle.bg_http.specs.declared.refusal.RefusalBody.{RefusalBody}
 use Rattle.bg_forward.specs.declared.serving.End.{End}
 use Rattle.bg_forward.specs.declared.serving.End.TheVariants as end
 

@@ -2,7 +2,7 @@
 use Rattle.std.specs.Prelude.{ℕ, IfSome, List, [], Option, Some}
 use Rattle.bg_rollout.specs.declared.ticket.Ticket.{Ticket}
 use Rattle.bg_forward.specs.Connections.{Connection, ReadOutcome, Receives}
-use Rattle.bg_forward.specs.declared.refusal.RefusalBody.{RefusalBody}
+use Rattle.bg_http.specs.declared.refusal.RefusalBody.{RefusalBody}
 use Rattle.bg_forward.specs.declared.serving.End.{End}
 
 -- if the bytes that a client sent are known: this is the outcome of reading them, and only what is owed to

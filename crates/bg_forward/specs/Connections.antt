@@ -13,8 +13,8 @@ use Rattle.bg_http.specs.declared.request_fault.RequestFault.TheVariants as faul
 use Rattle.bg_http.specs.declared.request_rules.Framing.{Framing}
 use Rattle.bg_http.specs.declared.response.Response.{Response}
 use Rattle.bg_http_read.specs.Requests.{HeadRefused, JudgedHead, ReadsRequest, RequestFails, WroteFor, continue_text}
-use Rattle.bg_forward.specs.RefusalPages.{refusal_page, refused_text}
-use Rattle.bg_forward.specs.declared.refusal.RefusalBody.{RefusalBody}
+use Rattle.bg_http.specs.RefusalPages.{refusal_page, refused_text}
+use Rattle.bg_http.specs.declared.refusal.RefusalBody.{RefusalBody}
 use Rattle.bg_forward.specs.declared.serving.End.{End}
 use Rattle.bg_forward.specs.declared.serving.End.TheVariants as end
 

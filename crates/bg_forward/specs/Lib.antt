@@ -3,7 +3,6 @@ pub mod Causes
 pub mod Clients
 pub mod Connections
 pub mod Reasons
-pub mod RefusalPages
 pub mod ResponseReads
 pub mod Routes
 pub mod Seats

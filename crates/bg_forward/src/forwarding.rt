@@ -1,28 +1,30 @@
 //! Handles a request that entered, and answers its client.
 ghost use Rattle.std.specs.Prelude.{◌≡◌, ◌<◌, ◌⊎◌, ◌++◌, [], false, length, IfErr, IfOk, IfSome, IsTrue, None, OnOk, Ok};
 ghost use Rattle.std.specs.Io.KnownBytes.{Appends, Keeps};
+ghost use Rattle.bg_http.specs.RefusalPages.{refusal_page, refused_text};
 ghost use Rattle.bg_http.specs.Statuses.{is_refusal};
 ghost use Rattle.bg_http.specs.Texts.{request_text, response_text};
+ghost use Rattle.bg_http.specs.declared.refusal.RefusalBody.{RefusalBody};
 ghost use Rattle.bg_http_read.specs.Responses.{ReadsResponse};
 ghost use Rattle.bg_forward.specs.Buffers.{held, stream_of};
 ghost use Rattle.bg_forward.specs.Causes.{IsFound, IsFoundAt};
 ghost use Rattle.bg_forward.specs.Connections.{IsGatewayStatus, MayBeRefused, MayEndInside, ReadOutcome};
 ghost use Rattle.bg_forward.specs.Connections.{WroteLast};
 ghost use Rattle.bg_forward.specs.Reasons.{TellsWhy, reason_status};
-ghost use Rattle.bg_forward.specs.RefusalPages.{refusal_page, refused_text};
 ghost use Rattle.bg_forward.specs.ResponseReads.{IsTaken};
-ghost use Rattle.bg_forward.specs.declared.refusal.RefusalBody.{RefusalBody};
 ghost use Rattle.bg_forward.specs.declared.serving.End.TheVariants as end;
 
 use crate::buffered::Buffered;
 use crate::gate::Gate;
 use crate::reason::Reason;
-use crate::refusal::{RefusalBody, RefusalPage, write_refused};
 use crate::serving::{End, Worker};
 use crate::streams::ClientStream;
 use bg_book::GoOn;
 use bg_dial::{Dial, Dialled};
-use bg_http::{MOST_TURNS, Persistence, Request, Response, write_request, write_response};
+use bg_http::{
+    MOST_TURNS, Persistence, RefusalBody, RefusalPage, Request, Response, write_refusal_with,
+    write_request, write_response,
+};
 use bg_http_read::ResponseParser;
 use bg_ledger::{Names, Seat};
 use std::io;
@@ -339,6 +341,6 @@ fn send_refusal<S: Write>(
     ensures { OnOk result (Appends (S.contents (stream_of client.old))
         (S.contents (stream_of client.new)) (refused_text page status)) }
 {
-    write_refused(status, page, client)?;
+    write_refusal_with(status, page, client)?;
     client.flush()
 }

@@ -5,7 +5,7 @@ ghost use Rattle.bg_forward.specs.Causes.{IsCause};
 ghost use Rattle.bg_forward.specs.Connections.{Connection, ReadOutcome, Receives};
 ghost use Rattle.bg_forward.specs.Routes.{IsRouted};
 ghost use Rattle.bg_forward.specs.Seats.{calls_made, seat_after};
-ghost use Rattle.bg_forward.specs.declared.refusal.RefusalBody.TheVariants as body;
+ghost use Rattle.bg_http.specs.declared.refusal.RefusalBody.TheVariants as body;
 
 use crate::buffered::Buffered;
 use crate::gate::Gate;

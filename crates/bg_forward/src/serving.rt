@@ -9,17 +9,16 @@ ghost use Rattle.bg_forward.specs.Connections.{Connection, EndsBy, MayEnd, ReadO
 ghost use Rattle.bg_forward.specs.Connections.{WroteLast};
 ghost use Rattle.bg_forward.specs.Reasons.{TellsWhy, request_reason};
 ghost use Rattle.bg_forward.specs.Seats.{calls_made, seat_after};
-ghost use Rattle.bg_forward.specs.declared.refusal.RefusalBody.TheVariants as body;
+ghost use Rattle.bg_http.specs.declared.refusal.RefusalBody.TheVariants as body;
 
 use crate::buffered::Buffered;
 use crate::forwarding::{Asked, ForwardOutcome, forward_and_answer, refuse};
 use crate::gate::Gate;
 use crate::reason::Reason;
-use crate::refusal::RefusalBody;
 use crate::streams::ClientStream;
 use bg_book::Ticket;
 use bg_dial::{Dial, Route};
-use bg_http::{Duplex, Request, RequestFault};
+use bg_http::{Duplex, RefusalBody, Request, RequestFault};
 use bg_http_read::read_request;
 use bg_ledger::{Names, Seat};
 use bg_revisions::Service;

@@ -3,11 +3,10 @@ ghost use Rattle.std.specs.Prelude.{◌≡◌, false, ℕ, IfOk, IfSome, IsTrue,
 ghost use Rattle.std.specs.Io.KnownBytes.{Keeps};
 ghost use Rattle.bg_forward.specs.Clients.{IsReceived, IsServed};
 ghost use Rattle.bg_forward.specs.Connections.{MayEnd};
-ghost use Rattle.bg_forward.specs.declared.refusal.RefusalBody.{RefusalBody};
+ghost use Rattle.bg_http.specs.declared.refusal.RefusalBody.{RefusalBody};
 
-use crate::refusal::RefusalBody;
 use crate::serving::Served;
-use bg_http::{MemoryStream, Request, RequestFault};
+use bg_http::{MemoryStream, RefusalBody, Request, RequestFault};
 use bg_revisions::Service;
 use std::io;
 use std::io::Write;

@@ -8,6 +8,7 @@ pub mod Lengths
 pub mod Names
 pub mod FieldPlaces
 pub mod Persistences
+pub mod RefusalPages
 pub mod Removed
 pub mod RequestRules
 pub mod ResponseRules

@@ -1,7 +1,7 @@
 //! Client ports, which give their workers what a test says.
 ghost use Rattle.std.specs.Prelude.{Some};
 ghost use Rattle.bg_forward.specs.Clients.{IsServed};
-ghost use Rattle.bg_forward.specs.declared.refusal.RefusalBody.TheVariants as body;
+ghost use Rattle.bg_http.specs.declared.refusal.RefusalBody.TheVariants as body;
 
 use crate::messages::{CHUNKS_ON, GET, refusal};
 use bg_forward::{Accept, Arrived, RefusalBody, Served, receive_in_memory};

@@ -2,7 +2,7 @@
 ghost use Rattle.std.specs.Prelude.{◌≡◌, length, Some};
 ghost use Rattle.bg_rollout.specs.Gathering.{indices};
 ghost use Rattle.bg_forward.specs.Clients.{IsServed};
-ghost use Rattle.bg_forward.specs.declared.refusal.RefusalBody.TheVariants as body;
+ghost use Rattle.bg_http.specs.declared.refusal.RefusalBody.TheVariants as body;
 ghost use Rattle.bg_forward.specs.Seats.{AllOut, AllWorked};
 ghost use Rattle.bg_ledger.specs.Blanks.{AreAllFor};
 

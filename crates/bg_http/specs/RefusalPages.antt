@@ -6,9 +6,9 @@ use Rattle.bg_http.specs.Texts.{refusal_text}
 use Rattle.bg_http.specs.declared.error_page.ErrorPage.TheVariants as page
 use Rattle.bg_http.specs.declared.request.Request.{Request}
 use Rattle.bg_http.specs.declared.request_fault.RequestFault.{RequestFault}
-use Rattle.bg_forward.specs.declared.refusal.RefusalBody.{RefusalBody}
-use Rattle.bg_forward.specs.declared.refusal.RefusalBody.TheVariants as body
-use Rattle.bg_forward.specs.declared.refusal.RefusalPage.{RefusalPage}
+use Rattle.bg_http.specs.declared.refusal.RefusalBody.{RefusalBody}
+use Rattle.bg_http.specs.declared.refusal.RefusalBody.TheVariants as body
+use Rattle.bg_http.specs.declared.refusal.RefusalPage.{RefusalPage}
 
 -- whether pages are asked for
 abbrev pub body_of : Bool → RefusalBody

@@ -1,11 +1,14 @@
-//! The bodies of refusals.
+//! What the refusals of clients have as their bodies.
 ghost use Rattle.std.specs.Prelude.{◌≡◌, IsTrue, OnOk, Ok, Err};
 ghost use Rattle.std.specs.Io.KnownBytes.{Appends};
-ghost use Rattle.bg_forward.specs.RefusalPages.{body_of, refusal_page, refused_text};
+ghost use Rattle.bg_http.specs.RefusalPages.{body_of, refusal_page, refused_text};
 ghost use Rattle.bg_http.specs.Statuses.{is_refusal};
 ghost use Rattle.bg_http.specs.declared.request_fault.RequestFault.{RequestFault};
 
-use bg_http::{ErrorPage, Request, asks_for_head, page_for, write_error_page, write_refusal};
+use crate::error_page::{ErrorPage, page_for, write_error_page};
+use crate::request::Request;
+use crate::response_rules::asks_for_head;
+use crate::writers::write_refusal;
 use std::io;
 use std::io::Write;
 
@@ -20,10 +23,11 @@ pub enum RefusalBody {
 
 /// The page of one refusal.
 #[derive(Clone, Copy, PartialEq, Eq, Debug, Drop)]
-pub(crate) struct RefusalPage {
-    pub(crate) page: ErrorPage,
-    /// Whether the request is a HEAD, to which the page is not sent.
-    pub(crate) to_head: bool,
+pub struct RefusalPage {
+    /// The page.
+    pub page: ErrorPage,
+    /// Whether the request is a HEAD, to which the page is not sent (RFC 9110 section 9.3.2).
+    pub to_head: bool,
 }
 
 impl RefusalBody {
@@ -39,7 +43,7 @@ impl RefusalBody {
     }
 
     /// The page for a request that is refused after it was read.
-    pub(crate) fn page_for(self, request: &Request) -> Option<RefusalPage>
+    pub fn page_for(self, request: &Request) -> Option<RefusalPage>
         ensures { result ≡ refusal_page self (Ok request.now) }
     {
         match self {
@@ -52,7 +56,7 @@ impl RefusalBody {
     }
 
     /// The page for what is no request: its fields are not interpreted, so the page is a text.
-    pub(crate) fn page_for_fault(self) -> Option<RefusalPage>
+    pub fn page_for_fault(self) -> Option<RefusalPage>
         ensures { (fault : RequestFault) → result ≡ refusal_page self (Err fault) }
     {
         match self {
@@ -65,8 +69,9 @@ impl RefusalBody {
     }
 }
 
-/// Writes a refusal with this page, or with an empty body. On Ok it has written exactly this.
-pub(crate) fn write_refused<W: Write>(
+/// Writes a refusal with this page, or with an empty body. `status` is 400, 413, 431, 501, 502 or
+/// 503. On Ok it has written exactly this.
+pub fn write_refusal_with<W: Write>(
     status: u16,
     page: Option<RefusalPage>,
     writer: &mut W,
