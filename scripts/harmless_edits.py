@@ -1,13 +1,13 @@
 #!/usr/bin/env python3
-"""Shows that try_edits.py can fail: makes some edits harmless, and tries them among the others of
-their crates.
+"""Shows that try_edits.py can fail: makes some edits harmless, and tries them.
 
 usage: scripts/harmless_edits.py [--count N] [--seed N]        20 edits, drawn by seed 1; after `rt ci`, or over built libraries
 
 An edit is made harmless by a comment behind its old text in the place of the new one, so that the
 body means what it meant. try_edits.py has to name each such edit as one that is still proved, and
-has to refuse all others. The script prints each verdict on a harmless edit, and fails if one
-differs. It is no part of the gate.
+has to refuse all others of the same crates. What it has refused in this checkout counts here too,
+and is not tried again. The script prints each verdict on a harmless edit, and fails if one differs.
+It is no part of the gate.
 """
 import argparse
 import contextlib
@@ -15,6 +15,7 @@ import io
 import pathlib
 import random
 import re
+import shutil
 import sys
 import tempfile
 from collections.abc import Sequence
@@ -40,6 +41,9 @@ def copied(top: pathlib.Path, room: pathlib.Path, harmless: Sequence[pathlib.Pat
         for part in LINKED:
             if (folder / part).is_dir():
                 (copy / part).symlink_to(folder / part)
+    if (top / try_edits.KEPT).is_dir():
+        (room / try_edits.KEPT).parent.mkdir()
+        shutil.copytree(top / try_edits.KEPT, room / try_edits.KEPT)
     for path in top.glob(f"crates/*/{try_edits.FOLDER}/*.edit"):
         copy = room / path.relative_to(top)
         copy.parent.mkdir(exist_ok=True)

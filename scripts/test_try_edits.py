@@ -215,6 +215,18 @@ class KeptRefusals(unittest.TestCase):
             self.assertNotEqual(below, alone)
             self.assertNotEqual(sum_with("low: regex\nnumbers: low\n"), below)
 
+    def test_serve_another_checkout_of_the_same_files(self) -> None:
+        with tempfile.TemporaryDirectory() as one, tempfile.TemporaryDirectory() as other:
+            here, there = Repository(one), Repository(other)
+
+            def sum_at(made: Repository) -> bytes:
+                return sum_of(try_edits.repository_at(made.top), "numbers")
+
+            self.assertEqual(sum_at(here), sum_at(there))
+            source = there.folder / "src/lib.rt"
+            source.write_text(source.read_text(encoding="utf-8") + "\n", encoding="utf-8")
+            self.assertNotEqual(sum_at(here), sum_at(there))
+
 
 class Functions(unittest.TestCase):
     def test_names_functions_as_the_prover_does(self) -> None:

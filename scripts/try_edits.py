@@ -39,6 +39,7 @@ from edits.verdicts import Verdict
 
 TOP = pathlib.Path(__file__).resolve().parents[1]
 FOLDER = "wrong-bodies"
+KEPT = "out/tried-edits"
 
 
 @dataclass(frozen=True)
@@ -148,7 +149,7 @@ def main(words: Sequence[str], top: pathlib.Path = TOP) -> int:
             )
             return 2
     passed = failed = 0
-    kept = Kept(top / "out/tried-edits")
+    kept = Kept(top / KEPT)
     at_once = int(os.environ.get("RT_JOBS", "") or len(os.sched_getaffinity(0)))
     for tried in try_crates(repository, names, kept, given.alone, at_once):
         print(tried, flush=True)

@@ -1,5 +1,5 @@
-"""The refusals that earlier runs in this checkout saw, each under the sum of all that it rests
-on."""
+"""The refusals that earlier runs saw, each under the sum of all that it rests on. The sum has no
+path outside of the repository, so the refusals of one checkout serve another."""
 import hashlib
 import pathlib
 from collections.abc import Iterable, Iterator
@@ -15,20 +15,24 @@ def sum_of(repository: Repository, name: str) -> bytes:
     crates = (*all_below(repository.crates, name), name)
     for crate in crates:
         total.update(f"{crate} {repository.crates[crate]}\n".encode())
-    for path in _files(repository, crates):
+    for folder, path in _files(repository, crates):
         text = path.read_bytes()
-        total.update(f"{path} {len(text)}\n".encode() + text)
+        total.update(f"{path.relative_to(folder)} {len(text)}\n".encode() + text)
     return total.digest()
 
 
-def _files(repository: Repository, crates: Iterable[str]) -> Iterator[pathlib.Path]:
-    yield repository.kit / "KIT-ID"
-    yield from sorted(pathlib.Path(__file__).parent.glob("*.py"))
+def _files(
+    repository: Repository, crates: Iterable[str]
+) -> Iterator[tuple[pathlib.Path, pathlib.Path]]:
+    """Each file, behind the folder that its name is relative to."""
+    scripts = pathlib.Path(__file__).parent
+    yield repository.kit, repository.kit / "KIT-ID"
+    yield from ((scripts, it) for it in sorted(scripts.glob("*.py")))
     for crate in crates:
         for part in PARTS:
-            yield from sorted(
-                it for it in (repository.folder(crate) / part).rglob("*") if it.is_file()
-            )
+            for path in sorted((repository.folder(crate) / part).rglob("*")):
+                if path.is_file():
+                    yield repository.top, path
 
 
 class Kept:
