@@ -38,14 +38,8 @@ namesake_answer-same o ports None a b h = refl
 namesake_answer-same o ports (Some q) a b h = rw (h q) refl
 
 pub event-same : (b : Routing) → Compacts b.strategy b.opening b.closed b.past → (x : Control) → event_of (with_compacted b) x ≡ event_of b x
-event-same b c (Tick m) = refl
 event-same b c (Deploy name ports) = rw (← c.answers.namesake_is name, ← c.same.alike.last) refl
-event-same b c (Available r n) = refl
-event-same b c (Verdict analysis result) = refl
-event-same b c Promote = refl
-event-same b c PromoteFull = refl
-event-same b c Abort = refl
-event-same b c Retry = refl
+event-same b c x = refl
 
 awaits-same : (b : Routing) → Compacts b.strategy b.opening b.closed b.past → (analysis : Analysis) → awaits analysis b.strategy (compacted b.past) ≡ awaits analysis b.strategy b.past
 awaits-same b c Pre = sym c.answers.pre

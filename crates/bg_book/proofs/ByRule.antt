@@ -2,9 +2,9 @@
 use Rattle.std.proofs.Common.{◌≡◌, ℕ, Bool, true, false, cond, ◌==◌, ◌&&◌, ◌||◌, List, [], ◌∷◌, refl, ap, ◌∙◌}
 use Rattle.bg_strategy.specs.declared.strategy.Strategy.{Strategy}
 use Rattle.bg_history.specs.declared.entry.Entry.{Entry}
-use Rattle.bg_history.specs.declared.entry.Entry.TheVariants.{Tick, Deploy, Available, Verdict, Promote, PromoteFull, Abort, Retry, Enter, Leave, Outcome}
-use Rattle.bg_history.specs.declared.entry.Outcome.TheVariants.{Ready, Resumed, Switched, Promoted, ScaledDown, Removed}
-use Rattle.bg_history.specs.declared.entry.AnalysisResult.TheVariants.{Successful, Failed, Error}
+use Rattle.bg_history.specs.declared.entry.Entry.TheVariants.{Deploy, Verdict, Abort, Outcome}
+use Rattle.bg_history.specs.declared.entry.Outcome.TheVariants.{Switched}
+use Rattle.bg_history.specs.declared.entry.AnalysisResult.TheVariants.{Failed, Error}
 use Rattle.bg_history.specs.Kept.{Opening}
 use Rattle.bg_history.specs.AttemptBounds.{stable_of}
 use Rattle.bg_history.specs.Selections.{active_of}
@@ -42,24 +42,12 @@ deploys s r name ports before true e =
 deploys s r name ports before false e = stays s (Deploy r name ports) before (ap (λ b. cond b r (active_of before)) e)
 
 pub moves : (s : Strategy) (o : Opening) (e : Entry) (before : List Entry) → is_allowed s o e before ≡ true → moves_by_rule s e before ≡ true
-moves s o (Tick m) before h = stays s (Tick m) before refl
 moves s o (Deploy r name ports) before h = deploys s r name ports before (r == stable_of before) refl
-moves s o (Available r n) before h = stays s (Available r n) before refl
-moves s o (Verdict analysis Successful) before h = stays s (Verdict analysis Successful) before refl
 moves s o (Verdict analysis Failed) before h = returns_to_stable s (Verdict analysis Failed) before refl refl
 moves s o (Verdict analysis Error) before h = returns_to_stable s (Verdict analysis Error) before refl refl
-moves s o Promote before h = stays s Promote before refl
-moves s o PromoteFull before h = stays s PromoteFull before refl
 moves s o Abort before h = returns_to_stable s Abort before refl refl
-moves s o Retry before h = stays s Retry before refl
-moves s o (Enter seat service number r port) before h = stays s (Enter seat service number r port) before refl
-moves s o (Leave seat number r) before h = stays s (Leave seat number r) before refl
-moves s o (Outcome (Ready r)) before h = stays s (Outcome (Ready r)) before refl
-moves s o (Outcome (Resumed r)) before h = stays s (Outcome (Resumed r)) before refl
 moves s o (Outcome (Switched r)) before h = switches s (Outcome (Switched r)) before h
-moves s o (Outcome (Promoted r)) before h = stays s (Outcome (Promoted r)) before refl
-moves s o (Outcome (ScaledDown r)) before h = stays s (Outcome (ScaledDown r)) before refl
-moves s o (Outcome (Removed r)) before h = stays s (Outcome (Removed r)) before refl
+moves s o e before h = stays s e before refl
 
 -- each entry of a legal history moves the active service by the rule or doesn't move it
 pub reached_by_rule : (s : Strategy) (o : Opening) (past : List Entry) → all_allowed s o past ≡ true → is_reached_by_rule s past ≡ true

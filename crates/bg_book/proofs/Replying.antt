@@ -15,7 +15,7 @@ use Rattle.bg_history_laws.specs.Compaction.{Answers, Compacts, Commutes, Same, 
 use Rattle.bg_book.specs.declared.calls.Call.{Call}
 use Rattle.bg_book.specs.declared.calls.Call.TheVariants as call
 use Rattle.bg_history.specs.declared.control.Control.{Control}
-use Rattle.bg_history.specs.declared.control.Control.TheVariants.{Tick, Deploy, Available, Verdict, Promote, PromoteFull, Abort, Retry}
+use Rattle.bg_history.specs.declared.control.Control.TheVariants.{Tick}
 use Rattle.bg_book.specs.declared.calls.Reply.{Reply}
 use Rattle.bg_book.specs.declared.calls.Reply.TheVariants.{Entered, EnterRefused, Left, Done, ControlRefused, NoSuchSeat, SeatBusy, SeatIdle}
 use Rattle.bg_rollout.specs.declared.fault.EnterFault as enter
@@ -172,13 +172,7 @@ kept-leave b new seats new_seats place seat reply k h = absurd h
 -- no event is an Enter
 event-anew : (b : Routing) (past : List Entry) (c : Control) → enters_anew (event_of b c) past ≡ true
 event-anew b past (Tick m) = refl
-event-anew b past (Deploy name ports) = refl
-event-anew b past (Available r n) = refl
-event-anew b past (Verdict analysis result) = refl
-event-anew b past Promote = refl
-event-anew b past PromoteFull = refl
-event-anew b past Abort = refl
-event-anew b past Retry = refl
+event-anew b past c = refl
 
 kept-control : (b new : Routing) (seats new_seats : List Holding) (c : Control) (reply : Reply) → Compaction b
     → ControlStep b seats c reply new new_seats → is_history_full reply ≡ false → Kept b new (λ other. ControlStep (with_compacted b) seats c reply other new_seats)

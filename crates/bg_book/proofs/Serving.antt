@@ -13,7 +13,7 @@ use Rattle.bg_history.specs.Steps.{IsLegal, Step}
 use Rattle.bg_history_laws.specs.OpenRequests.{IsServed, is_leaving, is_outcome}
 use Rattle.bg_ledger.specs.declared.holding.Holding.{Holding}
 use Rattle.bg_history.specs.declared.control.Control.{Control}
-use Rattle.bg_history.specs.declared.control.Control.TheVariants.{Tick, Deploy, Available, Verdict, Promote, PromoteFull, Abort, Retry}
+use Rattle.bg_history.specs.declared.control.Control.TheVariants.{Tick}
 use Rattle.bg_rollout.specs.Changes.{Stepped, with_past, enter_entry}
 use Rattle.bg_rollout.specs.Compaction.{with_compacted}
 use Rattle.bg_rollout.specs.Refusals.{event_of}
@@ -46,23 +46,11 @@ served-stepped keep b new e n records q t is step event other h =
 
 event-no_outcome : (b : Routing) (c : Control) → is_outcome (event_of b c) ≡ false
 event-no_outcome b (Tick m) = refl
-event-no_outcome b (Deploy name ports) = refl
-event-no_outcome b (Available r n) = refl
-event-no_outcome b (Verdict analysis result) = refl
-event-no_outcome b Promote = refl
-event-no_outcome b PromoteFull = refl
-event-no_outcome b Abort = refl
-event-no_outcome b Retry = refl
+event-no_outcome b c = refl
 
 event-no_leaving : (b : Routing) (number : ℕ) (c : Control) → is_leaving number (event_of b c) ≡ false
 event-no_leaving b number (Tick m) = refl
-event-no_leaving b number (Deploy name ports) = refl
-event-no_leaving b number (Available r n) = refl
-event-no_leaving b number (Verdict analysis result) = refl
-event-no_leaving b number Promote = refl
-event-no_leaving b number PromoteFull = refl
-event-no_leaving b number Abort = refl
-event-no_leaving b number Retry = refl
+event-no_leaving b number c = refl
 
 served-enter : StepsKeep → (b new : Routing) (seats new_seats : List Holding) (place : ℕ) (seat : Holding) (service : Service) (reply : Reply) (q : Request) (t : Template)
     → EnterStep b seats place seat service reply new new_seats → IsServedAt b q t → IsServedAt new q t

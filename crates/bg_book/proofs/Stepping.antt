@@ -8,7 +8,7 @@ use Rattle.bg_history.specs.Steps.{is_settled, Follows, with_outcomes}
 use Rattle.bg_history_laws.specs.Work.{work}
 use Rattle.bg_ledger.specs.declared.holding.Holding.{Holding}
 use Rattle.bg_history.specs.declared.control.Control.{Control}
-use Rattle.bg_history.specs.declared.control.Control.TheVariants.{Tick, Deploy, Available, Verdict, Promote, PromoteFull, Abort, Retry}
+use Rattle.bg_history.specs.declared.control.Control.TheVariants.{Tick}
 use Rattle.bg_rollout.specs.Changes.{with_past, Stepped}
 use Rattle.bg_rollout.specs.Refusals.{all_open, event_of}
 use Rattle.bg_rollout.specs.Routing.{Routing}
@@ -56,10 +56,4 @@ reached_few few from new n most reached bound = omega (arith, few from.strategy 
 -- a control doesn't change the open requests
 pub control_opens_none : (b : Routing) (c : Control) (past : List Entry) → all_open (event_of b c ∷ past) ≡ all_open past
 control_opens_none b (Tick m) past = refl
-control_opens_none b (Deploy name ports) past = refl
-control_opens_none b (Available r n) past = refl
-control_opens_none b (Verdict analysis result) past = refl
-control_opens_none b Promote past = refl
-control_opens_none b PromoteFull past = refl
-control_opens_none b Abort past = refl
-control_opens_none b Retry past = refl
+control_opens_none b c past = refl

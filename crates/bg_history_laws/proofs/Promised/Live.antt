@@ -4,8 +4,8 @@ use Rattle.std.proofs.lemmas.Bool.Decides.{nat_tests}
 use Rattle.bg_strategy.specs.declared.strategy.Strategy.{Strategy}
 use Rattle.bg_revisions.specs.declared.revision.Service.TheVariants as service
 use Rattle.bg_history.specs.declared.entry.Entry.{Entry}
-use Rattle.bg_history.specs.declared.entry.Entry.TheVariants.{Tick, Deploy, Available, Verdict, Promote, PromoteFull, Abort, Retry, Enter, Leave, Outcome}
-use Rattle.bg_history.specs.declared.entry.Outcome.TheVariants.{Ready, Resumed, Switched, Promoted, ScaledDown, Removed}
+use Rattle.bg_history.specs.declared.entry.Entry.TheVariants.{Tick, Deploy, Verdict, Abort, Retry, Enter, Outcome}
+use Rattle.bg_history.specs.declared.entry.Outcome.TheVariants.{Ready, Resumed, Switched, Promoted}
 use Rattle.bg_history.specs.declared.entry.Analysis.TheVariants.{Pre}
 use Rattle.bg_history.specs.declared.entry.AnalysisResult.TheVariants.{Successful, Failed, Error}
 use Rattle.bg_history.specs.Kept.{Opening}
@@ -97,23 +97,13 @@ resumed-live : (s : Strategy) (o : Opening) (past : List Entry) → all_allowed 
 resumed-live s o [] a h = absurd (cc)
 resumed-live s o (Outcome (Resumed r) ∷ before) a h = live-more s (Outcome (Resumed r)) before refl (omega arith) (resumes-live s r before (allowed_now s o (Outcome (Resumed r)) before a))
 resumed-live s o (Tick m ∷ before) a h = live-more s (Tick m) before refl (tick-later s o m before (allowed_now s o (Tick m) before a)) (resumed-live s o before (allowed_before s o (Tick m) before a) h)
-resumed-live s o (Available r n ∷ before) a h = live-more s (Available r n) before refl (omega arith) (resumed-live s o before (allowed_before s o (Available r n) before a) h)
-resumed-live s o (Verdict analysis Successful ∷ before) a h =
-    live-more s (Verdict analysis Successful) before refl (omega arith) (resumed-live s o before (allowed_before s o (Verdict analysis Successful) before a) h)
-resumed-live s o (Promote ∷ before) a h = live-more s Promote before refl (omega arith) (resumed-live s o before (allowed_before s o Promote before a) h)
-resumed-live s o (PromoteFull ∷ before) a h = live-more s PromoteFull before refl (omega arith) (resumed-live s o before (allowed_before s o PromoteFull before a) h)
-resumed-live s o (Enter seat v n r port ∷ before) a h = live-more s (Enter seat v n r port) before refl (omega arith) (resumed-live s o before (allowed_before s o (Enter seat v n r port) before a) h)
-resumed-live s o (Leave seat n r ∷ before) a h = live-more s (Leave seat n r) before refl (omega arith) (resumed-live s o before (allowed_before s o (Leave seat n r) before a) h)
-resumed-live s o (Outcome (Ready r) ∷ before) a h = live-more s (Outcome (Ready r)) before refl (omega arith) (resumed-live s o before (allowed_before s o (Outcome (Ready r)) before a) h)
-resumed-live s o (Outcome (Switched r) ∷ before) a h = live-more s (Outcome (Switched r)) before refl (omega arith) (resumed-live s o before (allowed_before s o (Outcome (Switched r)) before a) h)
-resumed-live s o (Outcome (ScaledDown r) ∷ before) a h = live-more s (Outcome (ScaledDown r)) before refl (omega arith) (resumed-live s o before (allowed_before s o (Outcome (ScaledDown r)) before a) h)
-resumed-live s o (Outcome (Removed r) ∷ before) a h = live-more s (Outcome (Removed r)) before refl (omega arith) (resumed-live s o before (allowed_before s o (Outcome (Removed r)) before a) h)
 resumed-live s o (Deploy r name ports ∷ before) a h = absurd (cc)
 resumed-live s o (Retry ∷ before) a h = absurd (cc)
 resumed-live s o (Abort ∷ before) a h = absurd (cc)
 resumed-live s o (Verdict analysis Failed ∷ before) a h = absurd (cc)
 resumed-live s o (Verdict analysis Error ∷ before) a h = absurd (cc)
 resumed-live s o (Outcome (Promoted r) ∷ before) a h = absurd (cc)
+resumed-live s o (e ∷ before) a h = live-more s e before refl (omega arith) (resumed-live s o before (allowed_before s o e before a) h)
 
 -- so a switch comes in an attempt that may go live
 switches-live : (s : Strategy) (o : Opening) (r : ℕ) (past : List Entry) → all_allowed s o past ≡ true → may_switch s r past ≡ true → may_go_live s past ≡ true

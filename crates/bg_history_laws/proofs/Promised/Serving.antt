@@ -3,9 +3,9 @@ use Rattle.std.proofs.Common.{◌≡◌, ℕ, Bool, ◌==◌, true, false, cond,
 use Rattle.std.proofs.lemmas.Option.{same_Some}
 use Rattle.bg_strategy.specs.declared.strategy.Strategy.{Strategy}
 use Rattle.bg_history.specs.declared.entry.Entry.{Entry}
-use Rattle.bg_history.specs.declared.entry.Entry.TheVariants.{Deploy, Retry, Outcome as came}
+use Rattle.bg_history.specs.declared.entry.Entry.TheVariants.{Outcome as came}
 use Rattle.bg_history.specs.declared.entry.Outcome as outcome
-use Rattle.bg_history.specs.declared.entry.Outcome.TheVariants.{Ready, Resumed, Switched, Promoted, ScaledDown, Removed}
+use Rattle.bg_history.specs.declared.entry.Outcome.TheVariants.{ScaledDown}
 use Rattle.bg_history.specs.Kept.{Opening, Template}
 use Rattle.bg_history.specs.Compacted.{compacted}
 use Rattle.bg_history.specs.Sizes.{is_scaled}
@@ -18,8 +18,9 @@ use Rattle.bg_history_laws.specs.Reachable.{exists_scaled, Reachable}
 use Rattle.bg_history_laws.specs.Compaction.{Same}
 use Rattle.bg_history_laws.specs.OpenRequests.{open_request, is_leaving, is_outcome, stays, IsServed}
 use Rattle.bg_history_laws.proofs.Tests.{and_parts, both_ways, equal_itself, equal_numbers}
-use Rattle.bg_history_laws.proofs.Reached.Allowing.{scaled_down, removed}
-use Rattle.bg_history_laws.proofs.Reached.Staying.{stays-Deploy, stays-Retry, stays-Resumed, stays-ScaledDown, stays-Removed}
+use Rattle.bg_history_laws.proofs.Reached.Allowing.{scaled_down}
+use Rattle.bg_history_laws.proofs.Reached.Staying.{stays-kept, stays as stays-scaled}
+use Rattle.bg_history.specs.Marks.{scales_down}
 use Rattle.bg_history_laws.proofs.Promised.Outcomes.{first-allowed}
 use Rattle.bg_history_laws.proofs.Promised.OpenRequests.{found-all, stays-open, stays-template, stays-open_over, stays-template_over}
 use Rattle.bg_history_laws.proofs.Promised.Ports.{has_port, open-ports}
@@ -76,27 +77,26 @@ served-kept s o e past q t h other exists_and_scaled = record {
 -- each other event keeps the request served, whether it is allowed or not
 served-event : (s : Strategy) (o : Opening) (e : Entry) (past : List Entry) (q : Request) (t : Template) → IsServed s o q t past → is_outcome e ≡ false → is_leaving q.number e ≡ false
     → IsServed s o q t (e ∷ past)
-served-event s o (Deploy r name ports) past q t h event other = served-kept s o (Deploy r name ports) past q t h other (stays-Deploy s q.revision r name ports past h.revision)
-served-event s o Retry past q t h event other = served-kept s o Retry past q t h other (stays-Retry s q.revision past h.revision)
 served-event s o (came x) past q t h event other = absurd (cc)
-served-event s o e past q t h event other = served-kept s o e past q t h other h.revision
+served-event s o e past q t h event other = served-kept s o e past q t h other (stays-kept s q.revision e past refl refl h.revision)
+
+-- no allowed outcome scales down the revision of an open request
+other-down : (s : Strategy) (x : outcome.Outcome) (past : List Entry) (o : Opening) (q : Request) (t : Template) → IsServed s o q t past → is_allowed s o (came x) past ≡ true
+    → scales_down q.revision (came x) ≡ false
+other-down s (ScaledDown r) past o q t h may = other (r == q.revision) refl where
+  other : (b : Bool) → (r == q.revision) ≡ b → (r == q.revision) ≡ false
+  other false is = is
+  other true is =
+      let same : r ≡ q.revision = equal_numbers r q.revision is in
+      both_ways (is_empty (open_at q.revision past)) (subst (λ (k : ℕ). is_empty (open_at k past) ≡ true) same (scaled_down s r past may).empty)
+      (open-some (λ x. x.number == q.number) q (open_requests past) h.open_still)
+other-down s x past o q t h may = refl
 
 -- each allowed outcome keeps the request served
 served-outcome : (s : Strategy) (o : Opening) (x : outcome.Outcome) (past : List Entry) (q : Request) (t : Template) → IsServed s o q t past → is_allowed s o (came x) past ≡ true
     → IsServed s o q t (came x ∷ past)
-served-outcome s o (Resumed r) past q t h may = served-kept s o (came (Resumed r)) past q t h refl (stays-Resumed s q.revision r past h.revision)
-served-outcome s o (ScaledDown r) past q t h may =
-    served-kept s o (came (ScaledDown r)) past q t h refl (stays-ScaledDown s q.revision r past (other (r == q.revision) refl) h.revision) where
-      other : (b : Bool) → (r == q.revision) ≡ b → (r == q.revision) ≡ false
-      other false is = is
-      other true is =
-          let same : r ≡ q.revision = equal_numbers r q.revision is in
-          both_ways (is_empty (open_at q.revision past)) (subst (λ (k : ℕ). is_empty (open_at k past) ≡ true) same (scaled_down s r past may).empty)
-          (open-some (λ x. x.number == q.number) q (open_requests past) h.open_still)
-served-outcome s o (Removed r) past q t h may = served-kept s o (came (Removed r)) past q t h refl (stays-Removed s q.revision r past (removed s r past may) h.revision)
-served-outcome s o (Ready r) past q t h may = served-kept s o (came (Ready r)) past q t h refl h.revision
-served-outcome s o (Switched r) past q t h may = served-kept s o (came (Switched r)) past q t h refl h.revision
-served-outcome s o (Promoted r) past q t h may = served-kept s o (came (Promoted r)) past q t h refl h.revision
+served-outcome s o x past q t h may =
+    served-kept s o (came x) past q t h refl (stays-scaled s o q.revision (came x) past may (other-down s x past o q t h may) h.revision)
 
 served-outcomes : (s : Strategy) (o : Opening) (xs : List outcome.Outcome) (past : List Entry) (q : Request) (t : Template) → Follows s xs past → IsServed s o q t past
     → IsServed s o q t (with_outcomes xs past)

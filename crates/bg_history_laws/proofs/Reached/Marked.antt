@@ -2,21 +2,21 @@
 use Rattle.std.proofs.Common.{◌≡◌, ℕ, Bool, true, false, not, ◌==◌, ◌&&◌, ◌||◌, List, [], ◌∷◌, None, is_some, refl, ap, sym, subst, ◌∙◌}
 use Rattle.bg_strategy.specs.declared.strategy.Strategy.{Strategy}
 use Rattle.bg_history.specs.declared.entry.Entry.{Entry}
-use Rattle.bg_history.specs.declared.entry.Entry.TheVariants.{Deploy, Retry, Outcome}
-use Rattle.bg_history.specs.declared.entry.Outcome.TheVariants.{Resumed, ScaledDown, Removed}
+use Rattle.bg_history.specs.declared.entry.Entry.TheVariants.{Deploy, Outcome}
+use Rattle.bg_history.specs.declared.entry.Outcome.TheVariants.{ScaledDown}
 use Rattle.bg_history.specs.Kept.{Opening}
 use Rattle.bg_history.specs.AttemptBounds.{stable_of, newest_of, is_halt}
 use Rattle.bg_history.specs.Selections.{active_of}
-use Rattle.bg_history.specs.Marks.{halts, leaves_active, supersedes, has_abort_delay, aborts, clears}
+use Rattle.bg_history.specs.Marks.{halts, leaves_active, supersedes, has_abort_delay, scales_down, aborts, clears}
 use Rattle.bg_history.specs.Sizes.{is_scaled}
 use Rattle.bg_history.specs.Deadlines.{exists_in, deadline}
 use Rattle.bg_history.specs.Steps.{all_allowed}
 use Rattle.bg_history_laws.specs.Reachable.{exists_scaled}
 use Rattle.bg_history_laws.proofs.Tests.{and_parts, and_both, or_right, equal_itself, equal_numbers}
-use Rattle.bg_history_laws.proofs.Reached.Allowing.{allowed_now, allowed_before, removed}
+use Rattle.bg_history_laws.proofs.Reached.Allowing.{allowed_now, allowed_before}
 use Rattle.bg_history_laws.proofs.Reached.Running.{halt-running}
 use Rattle.bg_history_laws.proofs.Reached.Unmarked.{deadline_by, cleared_unmarked, kept_active}
-use Rattle.bg_history_laws.proofs.Reached.Staying.{stays-Deploy, stays-Retry, stays-Resumed, stays-ScaledDown, stays-Removed}
+use Rattle.bg_history_laws.proofs.Reached.Staying.{stays}
 use Rattle.bg_history_laws.proofs.Reached.Selected.{SelectedScaled, selected_scaled}
 
 -- a revision that left the active service was active
@@ -61,27 +61,20 @@ down_unmarked s r before =
     cleared_unmarked s r (Outcome (ScaledDown r)) before (record { left = kept_active (active_of before == r) true; superseded = refl; aborted = refl })
     (ap (λ b. b || false) (or_right (not (active_of before == r) && (active_of before == r)) (r == r) (equal_itself r)))
 
--- so a revision with a deadline after a scale-down is another one, which is unchanged
-marked-ScaledDown : (s : Strategy) (r q : ℕ) (before : List Entry) → exists_scaled s r before ≡ true → is_some (deadline s r (Outcome (ScaledDown q) ∷ before)) ≡ true
-    → exists_scaled s r (Outcome (ScaledDown q) ∷ before) ≡ true
-marked-ScaledDown s r q before position h = go (q == r) refl where
-  go : (b : Bool) → (q == r) ≡ b → exists_scaled s r (Outcome (ScaledDown q) ∷ before) ≡ true
-  go false is = stays-ScaledDown s r q before is position
+-- so an entry after which a revision has a deadline didn't scale it down
+marked-other : (s : Strategy) (r : ℕ) (e : Entry) (before : List Entry) → is_some (deadline s r (e ∷ before)) ≡ true → scales_down r e ≡ false
+marked-other s r (Outcome (ScaledDown q)) before h = go (q == r) refl where
+  go : (b : Bool) → (q == r) ≡ b → b ≡ false
+  go false is = refl
   go true is =
       let none : deadline s r (Outcome (ScaledDown q) ∷ before) ≡ None = subst (λ (k : ℕ). deadline s r (Outcome (ScaledDown k) ∷ before) ≡ None) (sym (equal_numbers q r is)) (down_unmarked s r before) in
       let never : false ≡ true = sym (ap is_some none) ∙ h in absurd (cc)
+marked-other s r e before h = refl
 
 -- in each past whose entries were allowed, a revision with a deadline exists and is scaled
 pub marked : (s : Strategy) (o : Opening) (r : ℕ) (past : List Entry) → all_allowed s o past ≡ true → is_some (deadline s r past) ≡ true → exists_scaled s r past ≡ true
 marked s o r [] a h = absurd (cc)
 marked s o r (e ∷ before) a h =
     let earlier = allowed_before s o e before a in
-    stays s o r e before a h (marked_before s o r e before a (selected_scaled s o before earlier) (marked s o r before earlier) h) where
-      stays : (s : Strategy) (o : Opening) (r : ℕ) (e : Entry) (before : List Entry) → all_allowed s o (e ∷ before) ≡ true → is_some (deadline s r (e ∷ before)) ≡ true
-          → exists_scaled s r before ≡ true → exists_scaled s r (e ∷ before) ≡ true
-      stays s o r (Deploy q name ports) before a h position = stays-Deploy s r q name ports before position
-      stays s o r Retry before a h position = stays-Retry s r before position
-      stays s o r (Outcome (Resumed q)) before a h position = stays-Resumed s r q before position
-      stays s o r (Outcome (ScaledDown q)) before a h position = marked-ScaledDown s r q before position h
-      stays s o r (Outcome (Removed q)) before a h position = stays-Removed s r q before (removed s q before (allowed_now s o (Outcome (Removed q)) before a)) position
-      stays s o r _ before a h position = position
+    stays s o r e before (allowed_now s o e before a) (marked-other s r e before h)
+    (marked_before s o r e before a (selected_scaled s o before earlier) (marked s o r before earlier) h)

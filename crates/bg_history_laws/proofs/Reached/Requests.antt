@@ -7,8 +7,8 @@ use Rattle.bg_strategy.specs.declared.strategy.Strategy.{Strategy}
 use Rattle.bg_revisions.specs.declared.revision.Service.{Service}
 use Rattle.bg_revisions.specs.declared.revision.Service.TheVariants as service
 use Rattle.bg_history.specs.declared.entry.Entry.{Entry}
-use Rattle.bg_history.specs.declared.entry.Entry.TheVariants.{Deploy, Retry, Enter, Leave, Outcome}
-use Rattle.bg_history.specs.declared.entry.Outcome.TheVariants.{Resumed, ScaledDown, Removed}
+use Rattle.bg_history.specs.declared.entry.Entry.TheVariants.{Enter, Leave, Outcome}
+use Rattle.bg_history.specs.declared.entry.Outcome.TheVariants.{ScaledDown}
 use Rattle.bg_history.specs.Kept.{Opening}
 use Rattle.bg_history.specs.Selections.{active_of, preview_of}
 use Rattle.bg_history.specs.Sizes.{is_scaled, available}
@@ -18,8 +18,8 @@ use Rattle.bg_history.specs.Allowed.{selection, has_value, port_of, may_enter}
 use Rattle.bg_history.specs.Steps.{all_allowed}
 use Rattle.bg_history_laws.specs.Reachable.{exists_scaled}
 use Rattle.bg_history_laws.proofs.Tests.{and_parts, and_both, equal_numbers}
-use Rattle.bg_history_laws.proofs.Reached.Allowing.{allowed_now, allowed_before, scaled_down, removed}
-use Rattle.bg_history_laws.proofs.Reached.Staying.{stays-Deploy, stays-Retry, stays-Resumed, stays-ScaledDown, stays-Removed}
+use Rattle.bg_history_laws.proofs.Reached.Allowing.{allowed_now, allowed_before, scaled_down}
+use Rattle.bg_history_laws.proofs.Reached.Staying.{stays-ScaledDown, stays}
 use Rattle.bg_history_laws.proofs.Reached.Selected.{SelectedScaled, selected_scaled, selected_scaled-preview}
 use Rattle.bg_history_laws.proofs.Lists.{all_filter, all_weaker}
 
@@ -64,25 +64,14 @@ open_scaled s o (Enter seat service number r port ∷ before) a =
     (and_both (exists_scaled s r before) true (entered s service r before (selected_scaled s o before earlier) selected) refl)
 open_scaled s o (Leave seat number r ∷ before) a =
     all_filter (λ q. exists_scaled s q.revision before) (λ q. not (q.number == number)) (open_requests before) (open_scaled s o before (allowed_before s o (Leave seat number r) before a))
-open_scaled s o (Deploy r name ports ∷ before) a =
-    all_weaker (λ q. exists_scaled s q.revision before) (λ q. exists_scaled s q.revision (Deploy r name ports ∷ before)) (λ q. stays-Deploy s q.revision r name ports before)
-    (open_requests before) (open_scaled s o before (allowed_before s o (Deploy r name ports) before a))
-open_scaled s o (Retry ∷ before) a =
-    all_weaker (λ q. exists_scaled s q.revision before) (λ q. exists_scaled s q.revision (Retry ∷ before)) (λ q. stays-Retry s q.revision before)
-    (open_requests before) (open_scaled s o before (allowed_before s o Retry before a))
-open_scaled s o (Outcome (Resumed r) ∷ before) a =
-    all_weaker (λ q. exists_scaled s q.revision before) (λ q. exists_scaled s q.revision (Outcome (Resumed r) ∷ before)) (λ q. stays-Resumed s q.revision r before)
-    (open_requests before) (open_scaled s o before (allowed_before s o (Outcome (Resumed r)) before a))
 open_scaled s o (Outcome (ScaledDown r) ∷ before) a =
     all_elsewhere (λ q. exists_scaled s q.revision before) (λ q. exists_scaled s q.revision (Outcome (ScaledDown r) ∷ before)) r
     (λ q other. stays-ScaledDown s q.revision r before other) (open_requests before)
     (scaled_down s r before (allowed_now s o (Outcome (ScaledDown r)) before a)).empty
     (open_scaled s o before (allowed_before s o (Outcome (ScaledDown r)) before a))
-open_scaled s o (Outcome (Removed r) ∷ before) a =
-    let unscaled = removed s r before (allowed_now s o (Outcome (Removed r)) before a) in
-    all_weaker (λ q. exists_scaled s q.revision before) (λ q. exists_scaled s q.revision (Outcome (Removed r) ∷ before)) (λ q. stays-Removed s q.revision r before unscaled)
-    (open_requests before) (open_scaled s o before (allowed_before s o (Outcome (Removed r)) before a))
-open_scaled s o (e ∷ before) a = open_scaled s o before (allowed_before s o e before a)
+open_scaled s o (e ∷ before) a =
+    all_weaker (λ q. exists_scaled s q.revision before) (λ q. exists_scaled s q.revision (e ∷ before)) (λ q. stays s o q.revision e before (allowed_now s o e before a) refl)
+    (open_requests before) (open_scaled s o before (allowed_before s o e before a))
 
 -- if all requests are at revisions that pass a test, none is at one that fails it
 none_at : (t : ℕ → Bool) (r : ℕ) (xs : List Request) → t r ≡ false → list_all (λ x. t x.revision) xs ≡ true → map (λ x. x.number) (filter (λ x. x.revision == r) xs) ≡ []

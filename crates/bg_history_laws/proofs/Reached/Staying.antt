@@ -7,9 +7,13 @@ use Rattle.bg_history.specs.declared.entry.Entry.TheVariants.{Deploy, Retry, Out
 use Rattle.bg_history.specs.declared.entry.Outcome.TheVariants.{Resumed, ScaledDown, Removed}
 use Rattle.bg_history.specs.Sizes.{begins, desired, is_scaled}
 use Rattle.bg_history.specs.Deadlines.{exists_in}
+use Rattle.bg_history.specs.Kept.{Opening}
+use Rattle.bg_history.specs.Marks.{scales_down}
+use Rattle.bg_history.specs.Allowed.{is_allowed}
 use Rattle.bg_history_laws.specs.Reachable.{exists_scaled}
 use Rattle.bg_history_laws.proofs.Tests.{and_parts, and_both, or_right, equal_numbers}
 use Rattle.bg_history_laws.proofs.Reached.Existing.{exists-Deploy, exists-Removed}
+use Rattle.bg_history_laws.proofs.Reached.Allowing.{removed}
 use Rattle.bg_history_laws.proofs.Reached.Sizes.{at_least-more}
 
 -- a revision with a greater size is still scaled
@@ -60,3 +64,24 @@ stays-Removed s q r before unscaled h =
     let both = and_parts (exists_in q before) (is_scaled s q before) h in
     and_both (exists_in q (Outcome (Removed r) ∷ before)) (is_scaled s q before)
     (exists-Removed q r before ∙ ap (λ b. not b && exists_in q before) (scaled_other s q r before unscaled both.1) ∙ both.0) both.1
+
+-- the entry is a removal
+abbrev pub removes : Entry → Bool
+removes (Outcome (Removed r)) = true
+removes _ = false
+
+-- an entry that neither scales this revision down nor removes one keeps it
+pub stays-kept : (s : Strategy) (q : ℕ) (e : Entry) (before : List Entry) → scales_down q e ≡ false → removes e ≡ false → exists_scaled s q before ≡ true
+    → exists_scaled s q (e ∷ before) ≡ true
+stays-kept s q (Deploy r name ports) before other kept h = stays-Deploy s q r name ports before h
+stays-kept s q Retry before other kept h = stays-Retry s q before h
+stays-kept s q (Outcome (Resumed r)) before other kept h = stays-Resumed s q r before h
+stays-kept s q (Outcome (ScaledDown r)) before other kept h = stays-ScaledDown s q r before other h
+stays-kept s q (Outcome (Removed r)) before other kept h = absurd (cc)
+stays-kept s q _ before other kept h = h
+
+-- an allowed entry that doesn't scale this revision down keeps it
+pub stays : (s : Strategy) (o : Opening) (q : ℕ) (e : Entry) (before : List Entry) → is_allowed s o e before ≡ true → scales_down q e ≡ false → exists_scaled s q before ≡ true
+    → exists_scaled s q (e ∷ before) ≡ true
+stays s o q (Outcome (Removed r)) before a other h = stays-Removed s q r before (removed s r before a) h
+stays s o q e before a other h = stays-kept s q e before other refl h

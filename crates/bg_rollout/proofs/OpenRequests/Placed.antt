@@ -9,7 +9,7 @@ use Rattle.bg_strategy.specs.Label.{is_label}
 use Rattle.bg_revisions.specs.PortLists.{are_ports, are_distinct}
 use Rattle.bg_revisions.specs.declared.revision.Service.{Service}
 use Rattle.bg_history.specs.declared.entry.Entry.{Entry}
-use Rattle.bg_history.specs.declared.entry.Entry.TheVariants.{Tick, Deploy, Available, Verdict, Promote, PromoteFull, Abort, Retry, Enter, Leave, Outcome}
+use Rattle.bg_history.specs.declared.entry.Entry.TheVariants.{Deploy, Enter, Leave}
 use Rattle.bg_history.specs.Kept.{Opening, Template}
 use Rattle.bg_history.specs.Sizes.{available}
 use Rattle.bg_history.specs.Requests.{Request, open_requests, held_by, request_numbers}
@@ -52,20 +52,13 @@ met s o seat service number r port past h =
 -- each open request is at a seat of the book
 pub placed : (s : Strategy) (o : Opening) (past : List Entry) → all_allowed s o past ≡ true → list_all (λ q. nat_lt q.seat o.seats) (open_requests past) ≡ true
 placed s o [] h = refl
-placed s o (Tick m ∷ past) h = placed s o past (and_parts (is_allowed s o (Tick m) past) _ h).1
 placed s o (Deploy r name ports ∷ past) h = placed s o past (and_parts (is_allowed s o (Deploy r name ports) past) _ h).1
-placed s o (Available r n ∷ past) h = placed s o past (and_parts (is_allowed s o (Available r n) past) _ h).1
-placed s o (Verdict a f ∷ past) h = placed s o past (and_parts (is_allowed s o (Verdict a f) past) _ h).1
-placed s o (Promote ∷ past) h = placed s o past (and_parts (is_allowed s o Promote past) _ h).1
-placed s o (PromoteFull ∷ past) h = placed s o past (and_parts (is_allowed s o PromoteFull past) _ h).1
-placed s o (Abort ∷ past) h = placed s o past (and_parts (is_allowed s o Abort past) _ h).1
-placed s o (Retry ∷ past) h = placed s o past (and_parts (is_allowed s o Retry past) _ h).1
-placed s o (Outcome x ∷ past) h = placed s o past (and_parts (is_allowed s o (Outcome x) past) _ h).1
 placed s o (Enter seat service number r port ∷ past) h =
     let both = and_parts (is_allowed s o (Enter seat service number r port) past) _ h in
     all_appended (λ q. nat_lt q.seat o.seats) (open_requests past) _ (placed s o past both.1) (met s o seat service number r port past both.0).within
 placed s o (Leave seat number r ∷ past) h =
     all_kept (λ q. nat_lt q.seat o.seats) _ (open_requests past) (placed s o past (and_parts (is_allowed s o (Leave seat number r) past) _ h).1)
+placed s o (e ∷ past) h = placed s o past (and_parts (is_allowed s o e past) _ h).1
 
 -- a template has one port for each endpoint at full size
 abbrev is_full : ℕ → Option Template → Bool
@@ -85,21 +78,12 @@ full_after replicas (Some t) y h k = h
 
 full : (s : Strategy) (o : Opening) (r : ℕ) (past : List Entry) → are_ports s.replicas o.template.ports ≡ true → all_allowed s o past ≡ true → is_full s.replicas (template o r past) ≡ true
 full s o r [] first h = full_first s.replicas o.template (r == 1) (ports_count s.replicas o.template.ports first)
-full s o r (Tick m ∷ past) first h = full s o r past first (and_parts (is_allowed s o (Tick m) past) _ h).1
 full s o r (Deploy q name ports ∷ past) first h =
     let both = and_parts (is_allowed s o (Deploy q name ports) past) _ h in
     let formed = and_parts (is_label name) (are_ports s.replicas ports) (and_parts _ _ (and_parts _ _ both.0).0).0 in
     full_after s.replicas (template o r past) _ (full s o r past first both.1)
     (full_first s.replicas (record { name = name; ports = ports }) (q == r) (ports_count s.replicas ports formed.1))
-full s o r (Available q n ∷ past) first h = full s o r past first (and_parts (is_allowed s o (Available q n) past) _ h).1
-full s o r (Verdict a f ∷ past) first h = full s o r past first (and_parts (is_allowed s o (Verdict a f) past) _ h).1
-full s o r (Promote ∷ past) first h = full s o r past first (and_parts (is_allowed s o Promote past) _ h).1
-full s o r (PromoteFull ∷ past) first h = full s o r past first (and_parts (is_allowed s o PromoteFull past) _ h).1
-full s o r (Abort ∷ past) first h = full s o r past first (and_parts (is_allowed s o Abort past) _ h).1
-full s o r (Retry ∷ past) first h = full s o r past first (and_parts (is_allowed s o Retry past) _ h).1
-full s o r (Outcome x ∷ past) first h = full s o r past first (and_parts (is_allowed s o (Outcome x) past) _ h).1
-full s o r (Enter seat service number q port ∷ past) first h = full s o r past first (and_parts (is_allowed s o (Enter seat service number q port) past) _ h).1
-full s o r (Leave seat number q ∷ past) first h = full s o r past first (and_parts (is_allowed s o (Leave seat number q) past) _ h).1
+full s o r (e ∷ past) first h = full s o r past first (and_parts (is_allowed s o e past) _ h).1
 
 -- the port of the request is one of its revision's ports
 abbrev pub has_port : Opening → List Entry → Request → Bool
@@ -136,17 +120,9 @@ any_in (Some t) replicas number size port count some most h =
 pub ported : (s : Strategy) (o : Opening) (past : List Entry) → ((past : List Entry) → all_allowed s o past ≡ true → Reachable s o past) → are_ports s.replicas o.template.ports ≡ true
     → all_allowed s o past ≡ true → list_all (has_port o past) (open_requests past) ≡ true
 ported s o [] reach first h = refl
-ported s o (Tick m ∷ past) reach first h = ported s o past reach first (and_parts (is_allowed s o (Tick m) past) _ h).1
 ported s o (Deploy q name ports ∷ past) reach first h =
     all_weaker (has_port o past) (has_port o (Deploy q name ports ∷ past)) (λ x. ports_stay (template o x.revision past) _ x.port) (open_requests past)
     (ported s o past reach first (and_parts (is_allowed s o (Deploy q name ports) past) _ h).1)
-ported s o (Available q n ∷ past) reach first h = ported s o past reach first (and_parts (is_allowed s o (Available q n) past) _ h).1
-ported s o (Verdict a f ∷ past) reach first h = ported s o past reach first (and_parts (is_allowed s o (Verdict a f) past) _ h).1
-ported s o (Promote ∷ past) reach first h = ported s o past reach first (and_parts (is_allowed s o Promote past) _ h).1
-ported s o (PromoteFull ∷ past) reach first h = ported s o past reach first (and_parts (is_allowed s o PromoteFull past) _ h).1
-ported s o (Abort ∷ past) reach first h = ported s o past reach first (and_parts (is_allowed s o Abort past) _ h).1
-ported s o (Retry ∷ past) reach first h = ported s o past reach first (and_parts (is_allowed s o Retry past) _ h).1
-ported s o (Outcome x ∷ past) reach first h = ported s o past reach first (and_parts (is_allowed s o (Outcome x) past) _ h).1
 ported s o (Enter seat service number r port ∷ past) reach first h =
     let both = and_parts (is_allowed s o (Enter seat service number r port) past) _ h in
     let ok = met s o seat service number r port past both.0 in
@@ -156,3 +132,4 @@ ported s o (Enter seat service number r port ∷ past) reach first h =
     (any_in (template o r past) s.replicas number (available r past) port (full s o r past first both.1) ok.endpoint most ok.port_is)
 ported s o (Leave seat number q ∷ past) reach first h =
     all_kept (has_port o past) _ (open_requests past) (ported s o past reach first (and_parts (is_allowed s o (Leave seat number q) past) _ h).1)
+ported s o (e ∷ past) reach first h = ported s o past reach first (and_parts (is_allowed s o e past) _ h).1

@@ -4,7 +4,7 @@ use Rattle.std.proofs.lemmas.Bool.Decides.{nat_tests}
 use Rattle.std.proofs.lemmas.List.Sums.{sum_by-cons}
 use Rattle.std.proofs.lemmas.Option.{slice_get_within, get_or_from_slice_get, same_Some}
 use Rattle.bg_history.specs.declared.entry.Entry.{Entry}
-use Rattle.bg_history.specs.declared.entry.Entry.TheVariants.{Tick, Deploy, Available, Verdict, Promote, PromoteFull, Abort, Retry, Enter, Leave, Outcome}
+use Rattle.bg_history.specs.declared.entry.Entry.TheVariants.{Enter, Leave}
 use Rattle.bg_history.specs.Requests.{Request, open_requests, held_by, entered, given, calls_in, calls_of}
 use Rattle.bg_ledger.specs.declared.holding.Holding.{Holding}
 use Rattle.bg_rollout.specs.Routing.{Routing}
@@ -76,17 +76,9 @@ one_or_none false n m h = omega (arith, h)
 -- the number of a seat's calls is small
 calls_few : (i : ℕ) (past : List Entry) → calls_in i past ≤ length past
 calls_few i [] = omega arith
-calls_few i (Tick m ∷ past) = omega (arith, calls_few i past)
-calls_few i (Deploy r name ports ∷ past) = omega (arith, calls_few i past)
-calls_few i (Available r n ∷ past) = omega (arith, calls_few i past)
-calls_few i (Verdict a f ∷ past) = omega (arith, calls_few i past)
-calls_few i (Promote ∷ past) = omega (arith, calls_few i past)
-calls_few i (PromoteFull ∷ past) = omega (arith, calls_few i past)
-calls_few i (Abort ∷ past) = omega (arith, calls_few i past)
-calls_few i (Retry ∷ past) = omega (arith, calls_few i past)
 calls_few i (Enter seat service number r port ∷ past) = omega (arith, one_or_none (seat == i) (calls_in i past) (length past) (calls_few i past))
 calls_few i (Leave seat number r ∷ past) = omega (arith, one_or_none (seat == i) (calls_in i past) (length past) (calls_few i past))
-calls_few i (Outcome x ∷ past) = omega (arith, calls_few i past)
+calls_few i (e ∷ past) = omega (arith, calls_few i past)
 
 part_of_sum : (xs : List ℕ) (i : ℕ) → slice_index xs i ≤ sum xs
 part_of_sum [] i = omega arith
