@@ -24,7 +24,14 @@ WELL_FORMED = re.compile(r"[a-z]+( ([a-zA-Z][-\w]*|0|[1-9]\d*))*")
 # program itself is asked.
 NOT_OF_THE_RULE = re.compile(r"fault |compacted |refused NotHere")
 # Refusals of the control port, and of a program that has no room.
-NOT_OF_A_BOOK = {"NotHere", "TooLate", "NumbersSpent", "HistoryFull", "OutOfMemory"}
+NOT_OF_A_BOOK = {
+    "NotHere",
+    "TooLate",
+    "JournalFailed",
+    "NumbersSpent",
+    "HistoryFull",
+    "OutOfMemory",
+}
 OF_MANY_REVISIONS = {"TooManyRevisions"}
 
 PLAIN = Strategy(replicas=2, preview_replicas=2)

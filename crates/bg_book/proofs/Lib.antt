@@ -13,3 +13,4 @@ pub mod Replying
 pub mod Promises
 pub mod Serving
 pub mod Settings
+pub mod OrderEntries

@@ -7,3 +7,5 @@ pub mod OpenBooks
 pub mod Promises
 pub mod Room
 pub mod Resuming
+pub mod OrderEntries
+pub mod Recording

@@ -15,11 +15,14 @@ ghost use Rattle.bg_rollout.specs.Routing.{Routing};
 ghost use Rattle.bg_rollout.specs.declared.control_fault.ControlFault.TheVariants as control_fault;
 ghost use Rattle.bg_rollout.specs.declared.fault.EnterFault.TheVariants as enter_fault;
 
+mod recording;
+
 use crate::book::Book;
 use crate::laws as book_laws;
 use bg_ledger::{Names, Seat};
 use bg_revisions::Service;
 use bg_rollout::{Control, ControlFault, EnterFault, GoOn, Left, Ticket};
+pub use recording::{JournalEnd, Recorded};
 use std::sync::{Mutex, Wait};
 
 /// A question about a book, asked under the lock of its desk.

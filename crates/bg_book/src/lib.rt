@@ -11,6 +11,7 @@ mod desk;
 mod fault;
 pub mod laws;
 mod open_book;
+mod order_entries;
 
 pub use bg_rollout::{
     Control, ControlFault, EnterFault, GatherFault, GoOn, JournalFault, Left, Limits, OpenFault,
@@ -18,6 +19,6 @@ pub use bg_rollout::{
 };
 pub use book::Book;
 pub use calls::{Call, Reply};
-pub use desk::{Desk, Question};
+pub use desk::{Desk, JournalEnd, Question, Recorded};
 pub use fault::{ResumeFault, RunFault};
 pub use open_book::OpenBook;

@@ -5,3 +5,5 @@ pub mod LinesInOrder
 pub mod ScriptLines
 pub mod ReplayedBytes
 pub mod FreshBuffer
+pub mod Journaled
+pub mod Survival

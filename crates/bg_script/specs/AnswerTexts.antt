@@ -5,7 +5,7 @@ use Rattle.bg_rollout.specs.FaultNames.{open_fault_name}
 use Rattle.bg_operator.specs.FaultNames.{line_fault_name}
 use Rattle.bg_report.specs.Replies.{refused, reply_text}
 use Rattle.bg_script.specs.declared.answer.Answer.{Answer}
-use Rattle.bg_script.specs.declared.answer.Answer.TheVariants.{Opened, OpenRefused, NotOpen, AlreadyOpen, Made, Compacted, MarkedDown, BadPorts, NotHere, TooLate, OutOfMemory, Unread}
+use Rattle.bg_script.specs.declared.answer.Answer.TheVariants.{Opened, OpenRefused, NotOpen, AlreadyOpen, Made, Compacted, MarkedDown, BadPorts, NotHere, TooLate, Unsaved, JournalFailed, OutOfMemory, Unread}
 
 -- the line of an answer
 abbrev pub answer_text : Answer → List ℕ
@@ -19,6 +19,8 @@ answer_text (MarkedDown count) = codes "ok " ++ decimal count ++ codes "\n"
 answer_text BadPorts = refused (codes "BadPorts")
 answer_text NotHere = refused (codes "NotHere")
 answer_text TooLate = refused (codes "TooLate")
+answer_text (Unsaved count) = codes "unsaved " ++ decimal count ++ codes "\n"
+answer_text JournalFailed = refused (codes "JournalFailed")
 answer_text OutOfMemory = refused (codes "OutOfMemory")
 answer_text (Unread fault) = codes "fault " ++ line_fault_name fault ++ codes "\n"
 

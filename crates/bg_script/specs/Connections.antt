@@ -5,7 +5,7 @@ use Rattle.bg_script.specs.declared.answering.LinesEnd.TheVariants as lines_end
 use Rattle.bg_script.specs.declared.control_connection.ControlEnd.{ControlEnd}
 use Rattle.bg_script.specs.declared.control_connection.ControlEnd.TheVariants as control_end
 use Rattle.bg_script.specs.LineAnswers.{AnswersLines}
-use Rattle.bg_script.specs.LineSteps.{ConnectionClosed, ConnectionOpen}
+use Rattle.bg_script.specs.LineSteps.{Stage, ConnectionClosed, ConnectionOpen}
 
 -- from first to last the lines of xs were answered while no book is open, up to this end; ys are unread
 abbrev pub AnswersBeforeOpen : LinesEnd → Option (List ℕ) → Option (List ℕ) → List ℕ → List ℕ → Type 0
@@ -31,3 +31,10 @@ abbrev pub AnswersAtDesk : (ℕ → Bool) → ControlEnd → Option (List ℕ) �
     → List ℕ → Type 0
 AnswersAtDesk reads end first last xs ys = (faulted : Bool)
     × AnswersLines (ConnectionOpen reads) (end_at_desk end) faulted first last (ConnectionOpen reads) xs ys
+
+-- from first to last the lines of xs were answered from this stage of a desk with a journal on, up to this end; then ys are
+-- unread, and this is the stage
+abbrev pub AnswersAtJournaledDesk : Stage → ControlEnd → Option (List ℕ) → Option (List ℕ) → Stage → List ℕ
+    → List ℕ → Type 0
+AnswersAtJournaledDesk stage end first last next xs ys =
+    (faulted : Bool) × AnswersLines stage (end_at_desk end) faulted first last next xs ys

@@ -2,8 +2,10 @@ pub mod Findings
 pub mod Checks
 pub mod AnswerTexts
 pub mod Clocks
+pub mod Journaling
 pub mod LineSteps
 pub mod LineAnswers
 pub mod Stages
 pub mod Scripts
 pub mod Connections
+pub mod Survival

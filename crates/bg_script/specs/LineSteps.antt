@@ -23,15 +23,18 @@ use Rattle.bg_script.specs.declared.answer.Answer.{Answer}
 use Rattle.bg_script.specs.declared.answer.Answer.TheVariants as answer
 use Rattle.bg_script.specs.AnswerTexts.{answer_text, is_fault}
 use Rattle.bg_script.specs.Clocks.{ReadsInTime}
+use Rattle.bg_script.specs.Journaling.{JournalState, OrderReply}
 
 -- Where a line is answered: in a script while no book is open, and one may be opened with this strategy and this many
--- seats; in a script, by this book with these seats; at a control connection while no book is open; or at a control
--- connection, by the book of a desk, which workers share, with a boot clock that may read so.
+-- seats; in a script, by this book with these seats; at a control connection while no book is open; at a control
+-- connection, by the book of a desk, which workers share, with a boot clock that may read so; or the same with this journal
+-- of its orders.
 pub data Stage : Type 0 where
   Closed : (strategy : Strategy) (seats : ℕ) → Stage
   Running : (book : Routing) (seats : List Holding) → Stage
   ConnectionClosed : Stage
   ConnectionOpen : (reads : ℕ → Bool) → Stage
+  ConnectionJournaled : (reads : ℕ → Bool) (journal : JournalState) → Stage
 
 -- whether a book is open
 abbrev pub is_open : Stage → Bool
@@ -39,6 +42,7 @@ is_open (Closed strategy seats) = false
 is_open (Running book seats) = true
 is_open ConnectionClosed = false
 is_open (ConnectionOpen reads) = true
+is_open (ConnectionJournaled reads journal) = true
 
 -- whether lines are answered at a control connection
 abbrev pub is_connection : Stage → Bool
@@ -46,13 +50,19 @@ is_connection (Closed strategy seats) = false
 is_connection (Running book seats) = false
 is_connection ConnectionClosed = true
 is_connection (ConnectionOpen reads) = true
+is_connection (ConnectionJournaled reads journal) = true
+
+-- whether the orders go to a journal
+abbrev pub is_journaled : Stage → Bool
+is_journaled (ConnectionJournaled reads journal) = true
+is_journaled _ = false
 
 -- how a line may change the stage: it doesn't change whether there is a control connection, a stage without an open
--- book stays until the caller opens one, and the stage of a control connection stays
+-- book stays until the caller opens one, and the stage of a control connection without a journal stays
 pub record MayFollow (old new : Stage) : Type 0 where
   pub connection : is_connection new ≡ is_connection old
   pub closed : is_open old ≡ false → new ≡ old
-  pub stays : is_connection old ≡ true → new ≡ old
+  pub stays : is_connection old ≡ true → is_journaled old ≡ false → new ≡ old
 
 -- what is written for a line: an answer, or the report of a book
 pub data Written : Type 0 where
@@ -90,6 +100,8 @@ OpenStep (Running book seats) name ports written next =
 OpenStep ConnectionClosed name ports written next = ⊥
 OpenStep (ConnectionOpen reads) name ports written next =
     Stays (ConnectionOpen reads) answer.AlreadyOpen written next
+OpenStep (ConnectionJournaled reads journal) name ports written next =
+    Stays (ConnectionJournaled reads journal) answer.AlreadyOpen written next
 
 -- the answer to a call, by the rules of the book
 abbrev pub CallMade : Routing → List Holding → Call → Written → Stage → Type 0
@@ -106,6 +118,8 @@ RequestStep ConnectionClosed request written next =
     Stays ConnectionClosed answer.NotHere written next
 RequestStep (ConnectionOpen reads) request written next =
     Stays (ConnectionOpen reads) answer.NotHere written next
+RequestStep (ConnectionJournaled reads journal) request written next =
+    Stays (ConnectionJournaled reads journal) answer.NotHere written next
 
 -- The answer to a line that asks for an open book: the first relation is that of a script's book, the second that of a
 -- desk, whose stage does not tell its book.
@@ -118,6 +132,8 @@ ByBook in_script at_desk ConnectionClosed written next =
     Stays ConnectionClosed answer.NotOpen written next
 ByBook in_script at_desk (ConnectionOpen reads) written next =
     at_desk written × (next ≡ ConnectionOpen reads)
+ByBook in_script at_desk (ConnectionJournaled reads journal) written next =
+    at_desk written × (next ≡ ConnectionJournaled reads journal)
 
 -- the reply of a desk to an event: that of some book, after a compaction if its history is full
 abbrev pub EventReply : Control → Reply → Type 0
@@ -138,6 +154,19 @@ DeskRepliesBefore reads milliseconds event (Said (answer.Made reply)) =
     ReadsInTime reads milliseconds true × EventReply event reply
 DeskRepliesBefore reads milliseconds event _ = ⊥
 
+-- the answer to an order at a desk with a journal, and the journal then
+abbrev pub JournaledStep : (Routing → Bool → Type 0) → Control → (ℕ → Bool) → JournalState → Written → Stage → Type 0
+JournaledStep condition event reads journal (Said said) (ConnectionJournaled reading next) =
+    (reading ≡ reads) × OrderReply condition journal event said next
+JournaledStep condition event reads journal _ _ = ⊥
+
+-- the answer to an event
+abbrev pub EventStep : Control → Stage → Written → Stage → Type 0
+EventStep event (ConnectionJournaled reads journal) written next =
+    JournaledStep (λ b given. given ≡ true) event reads journal written next
+EventStep event stage written next =
+    ByBook (λ book seats. CallMade book seats (call.Control event)) (DeskReplies event) stage written next
+
 -- the answer to an event with a time limit; a script has no clock
 abbrev pub BeforeStep : ℕ → Control → Stage → Written → Stage → Type 0
 BeforeStep milliseconds event (Closed s count) written next =
@@ -148,6 +177,8 @@ BeforeStep milliseconds event ConnectionClosed written next =
     Stays ConnectionClosed answer.NotOpen written next
 BeforeStep milliseconds event (ConnectionOpen reads) written next =
     DeskRepliesBefore reads milliseconds event written × (next ≡ ConnectionOpen reads)
+BeforeStep milliseconds event (ConnectionJournaled reads journal) written next =
+    JournaledStep (λ b given. ReadsInTime reads milliseconds given) event reads journal written next
 
 -- whether these ports can be down: at most 4,096, all distinct and none of them 0
 abbrev pub may_be_down : List ℕ → Bool
@@ -198,8 +229,7 @@ DeskCompacts _ = ⊥
 abbrev pub ReadStep : Stage → Result Command LineFault → Written → Stage → Type 0
 ReadStep stage (Err fault) written next = Stays stage (answer.Unread fault) written next
 ReadStep stage (Ok (command.Open name ports)) written next = OpenStep stage name ports written next
-ReadStep stage (Ok (command.Control event)) written next =
-    ByBook (λ book seats. CallMade book seats (call.Control event)) (DeskReplies event) stage written next
+ReadStep stage (Ok (command.Control event)) written next = EventStep event stage written next
 ReadStep stage (Ok (command.Before milliseconds event)) written next =
     BeforeStep milliseconds event stage written next
 ReadStep stage (Ok (command.Enter seat service)) written next =

@@ -31,6 +31,10 @@ pub enum Answer {
     NotHere,
     /// The boot clock is not below the time limit of the line.
     TooLate,
+    /// The event was carried out with this many outcomes, but the journal is not known to keep it.
+    Unsaved(u64),
+    /// The journal lacks an earlier order, so nothing was carried out.
+    JournalFailed,
     /// The allocation for the report, or for the ports that are down, failed.
     OutOfMemory,
     /// The line gives no command.
@@ -62,6 +66,8 @@ pub fn write_answer<W: Write>(answer: &Answer, writer: &mut W) -> io::Result<()>
         Answer::BadPorts => writeln!(writer, "refused BadPorts"),
         Answer::NotHere => writeln!(writer, "refused NotHere"),
         Answer::TooLate => writeln!(writer, "refused TooLate"),
+        Answer::Unsaved(count) => writeln!(writer, "unsaved {count}"),
+        Answer::JournalFailed => writeln!(writer, "refused JournalFailed"),
         Answer::OutOfMemory => writeln!(writer, "refused OutOfMemory"),
         Answer::Unread(fault) => writeln!(writer, "fault {}", fault.name()),
     }

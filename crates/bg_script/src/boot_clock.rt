@@ -46,9 +46,9 @@ pub(crate) fn answer_before<N: Names, R: Wait, C: BootClock>(
 
 /// Asks whether a clock is below a time limit. The book has no part in the answer.
 #[derive(Drop)]
-struct IsBelow<'a, C: BootClock> {
-    clock: &'a C,
-    milliseconds: u64,
+pub(crate) struct IsBelow<'a, C: BootClock> {
+    pub(crate) clock: &'a C,
+    pub(crate) milliseconds: u64,
 }
 
 impl<C: BootClock> Question<bool> for IsBelow<'_, C> {

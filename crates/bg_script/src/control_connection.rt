@@ -4,11 +4,15 @@
 //! workers, not by lines. Each answer is flushed before the next line is read.
 ghost use Rattle.std.specs.Prelude.{◌≡◌, IfOk};
 ghost use Rattle.bg_operator.specs.Reading.{Known};
-ghost use Rattle.bg_script.specs.Connections.{AnswersAtDesk, AnswersBeforeOpen, MayEndAtDesk, end_at_desk};
+ghost use Rattle.bg_script.specs.Connections.{AnswersAtDesk, AnswersAtJournaledDesk, AnswersBeforeOpen, MayEndAtDesk, end_at_desk};
+ghost use Rattle.bg_script.specs.Journaling.{journal_state};
+ghost use Rattle.bg_script.specs.LineSteps.{ConnectionJournaled};
 
 use crate::answering::{LinesEnd, answer_lines};
 use crate::boot_clock::BootClock;
+use crate::journaled_stage::AtJournaledDesk;
 use crate::marks_down::MarksDown;
+use crate::order_journal::OrderJournal;
 use crate::run_end::RunEnd;
 use crate::stages::{AtDesk, WithoutBook};
 use bg_ledger::Names;
@@ -74,6 +78,35 @@ pub fn answer_at_desk<N: Names, R: Wait, C: BootClock, M: MarksDown, B: BufRead,
         (AnswersAtDesk (C.reads at_desk.entry.clock.now) end (W.contents writer.old) (W.contents writer.new))) }
 {
     let answered = answer_lines(&mut at_desk, lines, reader, writer)?;
+    Ok(control_end(answered.end))
+}
+
+/// Answers each line as [`answer_at_desk`] does, but appends the entries of each order to the journal before it is answered.
+///
+/// The answer to an event, also with a time limit, is `ok` only if the journal keeps its entries then, together with those
+/// of all earlier orders. It is `unsaved` if the event was carried out, and its entries are not known to be kept. It is
+/// `refused JournalFailed`, and nothing is carried out, if an earlier order is still not kept.
+pub fn answer_at_journaled_desk<
+    N: Names,
+    R: Wait,
+    C: BootClock,
+    M: MarksDown,
+    J: OrderJournal,
+    B: BufRead,
+    W: Write,
+>(
+    at_desk: &mut AtJournaledDesk<N, R, C, M, J>,
+    lines: &mut OperatorLines,
+    reader: &mut B,
+    writer: &mut W,
+) -> Result<ControlEnd, RunEnd>
+    ensures { IfOk result (λ end. Known (B.remaining reader.old) (B.remaining reader.new)
+        (AnswersAtJournaledDesk
+        (ConnectionJournaled (C.reads at_desk.old.desk.clock.now) (journal_state J.kept J.doubt at_desk.old.journal))
+        end (W.contents writer.old) (W.contents writer.new)
+        (ConnectionJournaled (C.reads at_desk.new.desk.clock.now) (journal_state J.kept J.doubt at_desk.new.journal)))) }
+{
+    let answered = answer_lines(at_desk, lines, reader, writer)?;
     Ok(control_end(answered.end))
 }
 

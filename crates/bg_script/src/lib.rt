@@ -4,7 +4,8 @@
 //! strategy. Both write exact texts and return the exit status. A [`RunEnd`] says why a run ended
 //! early. [`answer_before_open`] and [`answer_at_desk`] answer the lines of a control connection
 //! while no book is open, and by a book that workers share. A [`MarksDown`] takes the ports of a line
-//! `down`, and a [`BootClock`] says whether a line `before` comes in time.
+//! `down`, and a [`BootClock`] says whether a line `before` comes in time. [`answer_at_journaled_desk`] answers an order
+//! after its entries were appended to an [`OrderJournal`].
 #![tactic(auto)]
 
 mod answer;
@@ -12,8 +13,12 @@ mod answering;
 mod boot_clock;
 mod checking;
 mod control_connection;
+mod desk_journal;
 mod finding;
+mod journaled_stage;
+pub mod laws;
 mod marks_down;
+mod order_journal;
 mod replaying;
 mod run_end;
 mod stages;
@@ -22,9 +27,14 @@ pub use answer::{Answer, write_answer};
 pub use answering::{FirstRevision, LinesEnd};
 pub use boot_clock::BootClock;
 pub use checking::{check, finding_of_input};
-pub use control_connection::{ControlEnd, answer_at_desk, answer_before_open};
+pub use control_connection::{
+    ControlEnd, answer_at_desk, answer_at_journaled_desk, answer_before_open,
+};
+pub use desk_journal::DeskJournal;
 pub use finding::{Finding, write_finding};
+pub use journaled_stage::AtJournaledDesk;
 pub use marks_down::MarksDown;
+pub use order_journal::OrderJournal;
 pub use replaying::replay;
 pub use run_end::RunEnd;
 pub use stages::AtDesk;

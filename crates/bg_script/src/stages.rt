@@ -224,7 +224,7 @@ impl<N: Names, R: Wait, C: BootClock, M: MarksDown> LineStage for AtDesk<'_, N, 
 }
 
 /// Adds 1 to the count, if the answer is that the history is full.
-fn count_if_full(answer: &Answer, refused_for_room: &AtomicU64) {
+pub(crate) fn count_if_full(answer: &Answer, refused_for_room: &AtomicU64) {
     if let Answer::Made(Reply::ControlRefused(ControlFault::HistoryFull)) = answer {
         refused_for_room.fetch_add(1, Ordering::SeqCst);
     }

@@ -12,6 +12,7 @@ REFUSALS = {
     "BadPorts": "a revision has one port for each replica, all distinct and none of them 0",
     "BadSeats": "a book has no such number of seats",
     "HistoryFull": "the history has no room left",
+    "JournalFailed": "the journal lacks an earlier order, so nothing was carried out",
     "MomentBack": "the moment lies before the book's",
     "MomentTooLarge": "a moment is at most 2^53 seconds",
     "MoreThanDesired": "more endpoints are reported than the revision wants",

@@ -1,0 +1,72 @@
+-- Lemmas on what a start finds of the orders that a journal keeps.
+use Rattle.std.proofs.Common.{◌≡◌, ◌⊎◌, Bool, true, ◌&&◌, ℕ, List, [], ◌∷◌, ◌++◌, map, reverse, refl, sym, ap, ◌∙◌, subst, inl, inr}
+use Rattle.std.specs.List.{flat_map, list_all}
+use Rattle.std.proofs.lemmas.Grind.{flat_map-append, reverse_onto}
+use Rattle.std.proofs.lemmas.List.{append-nil, append_assoc, map-append, reverse-reverse}
+use Rattle.std.proofs.lemmas.List.Folds.{list_all-append}
+use Rattle.bg_history.specs.declared.entry.Entry.{Entry}
+use Rattle.bg_history.specs.declared.entry.Entry.TheVariants.{Outcome as outcome}
+use Rattle.bg_history.specs.declared.entry.Outcome.{Outcome}
+use Rattle.bg_history.specs.Steps.{with_outcomes}
+use Rattle.bg_journal.specs.Texts.{entries_text, entry_text, is_journaled}
+use Rattle.bg_rollout.specs.Following.{Resumes}
+use Rattle.bg_rollout.specs.Routing.{Routing}
+use Rattle.bg_script.specs.Survival.{AreReadFrom, AreTextsOf, BeginsWith, entries_of}
+
+-- the text of all orders is their texts, one after the other
+text_of_orders : (orders : List (List Entry)) → flat_map (λ text. text) (map entries_text orders) ≡ entries_text (entries_of orders)
+text_of_orders [] = refl
+text_of_orders (first ∷ orders) =
+    ap (λ t. entries_text first ++ t) (text_of_orders orders) ∙ sym (flat_map-append entry_text first (entries_of orders))
+
+both_true : (a b : Bool) → a ≡ true → b ≡ true → (a && b) ≡ true
+both_true a b p q = ap (λ t. t && b) p ∙ q
+
+-- the outcomes that are recorded after a journal come behind its entries
+begins : (outcomes : List Outcome) (past : List Entry) → BeginsWith (reverse past) (reverse (with_outcomes outcomes past))
+begins [] past = ([], sym (append-nil (reverse past)))
+begins (x ∷ earlier) past =
+    let before = begins earlier past in (
+      before.0 ++ outcome x ∷ [],
+      reverse_onto (with_outcomes earlier past) (outcome x) [] ∙ ap (λ l. l ++ outcome x ∷ []) before.1 ∙ append_assoc (reverse past) before.0 (outcome x ∷ []),
+    )
+
+-- what begins with entries that begin with these begins with these
+longer : (first entries all : List Entry) → BeginsWith first entries → BeginsWith entries all → BeginsWith first all
+longer first entries all p q = (p.0 ++ q.0, q.1 ∙ ap (λ l. l ++ q.0) p.1 ∙ append_assoc first p.0 q.0)
+
+-- no two lists of entries have one text
+abbrev pub Differ : Type 0
+Differ = (first second : List Entry) → list_all is_journaled first ≡ true → list_all is_journaled second ≡ true → entries_text first ≡ entries_text second → first ≡ second
+
+-- the entries that are read from the texts of orders are those of the orders
+read_back : Differ → (orders : List (List Entry)) (texts : List (List ℕ)) (entries : List Entry) → AreTextsOf orders texts → AreReadFrom texts entries
+    → entries ≡ entries_of orders
+read_back differ orders texts entries are read =
+    differ entries (entries_of orders) read.journaled are.journaled (read.text_is ∙ ap (flat_map (λ text. text)) are.texts_are ∙ text_of_orders orders)
+
+-- the texts of these orders, and then of those
+both_texts : (orders unsure : List (List Entry)) (kept doubt : List (List ℕ)) → AreTextsOf orders kept → AreTextsOf unsure doubt → AreTextsOf (orders ++ unsure) (kept ++ doubt)
+both_texts orders unsure kept doubt p q = record {
+  texts_are = ap (λ l. l ++ doubt) p.texts_are ∙ ap (λ l. map entries_text orders ++ l) q.texts_are ∙ sym (map-append entries_text orders unsure);
+  journaled = ap (list_all is_journaled) (flat_map-append (λ entries. entries) orders unsure)
+      ∙ list_all-append is_journaled (entries_of orders) (entries_of unsure) ∙ both_true _ _ p.journaled q.journaled;
+}
+
+found_entries : Differ → (orders unsure : List (List Entry)) (kept doubt found : List (List ℕ)) (entries : List Entry) → AreTextsOf orders kept → AreTextsOf unsure doubt
+    → (found ≡ kept) ⊎ (found ≡ kept ++ doubt) → AreReadFrom found entries → BeginsWith (entries_of orders) entries
+found_entries differ orders unsure kept doubt found entries are maybe (inl is) read =
+    ([], read_back differ orders kept entries are (subst (λ (t : List (List ℕ)). AreReadFrom t entries) is read) ∙ sym (append-nil (entries_of orders)))
+found_entries differ orders unsure kept doubt found entries are maybe (inr is) read = (
+  entries_of unsure,
+  read_back differ (orders ++ unsure) (kept ++ doubt) entries (both_texts orders unsure kept doubt are maybe) (subst (λ (t : List (List ℕ)). AreReadFrom t entries) is read)
+      ∙ flat_map-append (λ es. es) orders unsure,
+)
+
+pub survive : Differ → (orders unsure : List (List Entry)) (kept doubt found : List (List ℕ)) (entries : List Entry) → AreTextsOf orders kept → AreTextsOf unsure doubt
+    → (found ≡ kept) ⊎ (found ≡ kept ++ doubt) → AreReadFrom found entries → (old new : Routing) → Resumes old entries new
+    → BeginsWith (entries_of orders) (reverse new.past)
+survive differ orders unsure kept doubt found entries are maybe is read old new resumed =
+    let after : BeginsWith (reverse (reverse entries)) (reverse (with_outcomes resumed.outcomes (reverse entries))) = begins resumed.outcomes (reverse entries) in
+    let all : BeginsWith entries (reverse new.past) = (after.0, ap (λ (r : Routing). reverse r.past) resumed.now_is ∙ after.1 ∙ ap (λ l. l ++ after.0) (reverse-reverse entries)) in
+    longer (entries_of orders) entries (reverse new.past) (found_entries differ orders unsure kept doubt found entries are maybe is read) all

@@ -1,0 +1,33 @@
+-- What a start finds of the orders that a journal keeps.
+use Rattle.std.specs.Prelude.{◌≡◌, ℕ, true, List, ◌++◌, map, reverse}
+use Rattle.std.specs.List.{flat_map, list_all}
+use Rattle.bg_history.specs.declared.entry.Entry.{Entry}
+use Rattle.bg_journal.specs.Texts.{entries_text, is_journaled}
+use Rattle.bg_rollout.specs.Following.{Resumes}
+use Rattle.bg_rollout.specs.Routing.{Routing}
+
+-- the entries of orders, one order after the other
+abbrev pub entries_of : List (List Entry) → List Entry
+entries_of orders = flat_map (λ entries. entries) orders
+
+-- the texts of these orders; each of their entries has a line
+pub record AreTextsOf (orders : List (List Entry)) (texts : List (List ℕ)) : Type 0 where
+  pub texts_are : texts ≡ map entries_text orders
+  pub journaled : list_all is_journaled (entries_of orders) ≡ true
+
+-- the entries that these texts have, one text after the other
+pub record AreReadFrom (texts : List (List ℕ)) (entries : List Entry) : Type 0 where
+  pub text_is : entries_text entries ≡ flat_map (λ text. text) texts
+  pub journaled : list_all is_journaled entries ≡ true
+
+-- the list begins with these entries
+abbrev pub BeginsWith : List Entry → List Entry → Type 0
+BeginsWith first entries = (later : List Entry) × (entries ≡ first ++ later)
+
+-- If the texts that are kept, and the one in doubt, are those of orders, then a book that is resumed from what a start finds
+-- after a crash has each order that is kept: its history begins with their entries, one order after the other.
+abbrev pub OrdersSurvive : (List (List ℕ) → Type 0) → List (List ℕ) → List (List ℕ) → Type 0
+OrdersSurvive may_find kept doubt =
+    (orders unsure : List (List Entry)) → AreTextsOf orders kept → AreTextsOf unsure doubt
+    → (found : List (List ℕ)) → may_find found → (entries : List Entry) → AreReadFrom found entries
+    → (old new : Routing) → Resumes old entries new → BeginsWith (entries_of orders) (reverse new.past)

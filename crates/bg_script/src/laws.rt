@@ -1,0 +1,14 @@
+//! Laws of the journal of a desk. Each stands on a function that does nothing.
+ghost use Rattle.bg_script.specs.Survival.{OrdersSurvive};
+
+use crate::order_journal::OrderJournal;
+use bg_journal::laws::texts_differ;
+
+/// Each order that a journal keeps survives a crash: whatever a start finds then, a book that is resumed from it has the
+/// entries of these orders at the begin of its history.
+pub fn orders_survive<J: OrderJournal>(journal: &J)
+    ensures { OrdersSurvive (J.may_find journal.now) (J.kept journal.now) (J.doubt journal.now) }
+{
+    texts_differ();
+    journal.survives();
+}
