@@ -31,7 +31,7 @@ set -eu
 cd "$(dirname -- "$0")/.."
 # Builds the programs where they are stale.
 bin/bg_switch check < examples/direct.json > /dev/null
-scripts/build_if_stale.sh bg_tests_event_loop 0 9 close
+scripts/build_if_stale.sh bg_tests_event_loop 0 9 0 close empty
 work=$(mktemp -d)
 trap 'rm -rf "$work"' EXIT
 parts='live live_starting live_timeouts live_resources live_concurrency live_attack live_random live_operator live_controller

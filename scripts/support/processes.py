@@ -101,6 +101,13 @@ def memory_of(process: int, kind: str) -> int:
     return next(int(line.split()[1]) for line in lines if line.startswith(f"{kind}:"))
 
 
+def processor_seconds(process: int) -> float:
+    """The processor time of a process and of the system for it, in seconds."""
+    fields = pathlib.Path(f"/proc/{process}/stat").read_text(encoding="ascii").rpartition(")")[2]
+    user, system = fields.split()[11:13]
+    return (int(user) + int(system)) / os.sysconf("SC_CLK_TCK")
+
+
 def bytes_read(process: int) -> int:
     """How many bytes a process has read from files, pipes and the like, but not by recv(2)."""
     lines = pathlib.Path(f"/proc/{process}/io").read_text(encoding="ascii").splitlines()

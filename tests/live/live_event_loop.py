@@ -1,12 +1,15 @@
 """The event loop of bg_event_loop on loopback: `bg_tests_event_loop` has a book of four seats and one
-endpoint. Connections of both sides are kept for further requests, or carry one request each.
+endpoint, and may have another one that is dialled in its place. Connections of both sides are kept
+for further requests, or carry one request each.
 """
 import contextlib
 import os
+import re
 import signal
 import socket
 import subprocess
 import threading
+import time
 from collections.abc import Iterator, Sequence
 from functools import partial
 
@@ -19,11 +22,18 @@ from support.endpoints import (
     Endpoint,
     Held,
     Request,
+    full_backlog,
     read_request,
     reset_at_once,
 )
 from support.messages import BAD_GATEWAY, BAD_REQUEST, CONTINUE, answer, request, response
-from support.ports import connections_at, free_port, has_delivered, unread_at
+from support.ports import (
+    connections_at,
+    free_port,
+    has_delivered,
+    is_refused,
+    unread_at,
+)
 from support.switch import LISTENING
 
 # Another program can be tried by hand in its place.
@@ -34,6 +44,14 @@ PROGRAM = os.environ.get(
 SEATS = 4  # of the program's book
 CLOSE, KEEP = "close", "keep"
 MODES = CLOSE, KEEP
+EMPTY, PAGES = "empty", "pages"  # the bodies of refusals
+NO_OTHER = 0  # the port of another endpoint that there is not
+SCALE_DOWN = "d"  # says that the revision of the endpoints is scaled down
+ENTERED = re.compile(r"entered (\d+)\n")
+ACCEPTS_HTML = b"Accept: text/html\r\n"
+PAGE = b"<!DOCTYPE html>\n<title>502 Bad Gateway</title>\n<h1>502 Bad Gateway</h1>\n"
+WATCHED = 2.0  # seconds for which the loop's processor time is watched while no descriptor is free
+MOST_BUSY = 0.5  # of these that the processor may be busy
 CLOSES = b"Connection: close\r\n"
 HOST_FIELD = b"Host: x\r\n"
 LARGE = 300_000
@@ -139,11 +157,18 @@ def echo(target: bytes, body: bytes = b"") -> bytes:
 class EventLoop:
     """A running `bg_tests_event_loop`, and its endpoint."""
 
-    def __init__(self, mode: str) -> None:
+    def __init__(
+        self, mode: str, refusals: str = EMPTY, first: int | None = None, has_other: bool = True
+    ) -> None:
+        """The book has the endpoint at the port `first`, and the endpoint here is the other one
+        if `has_other`. If `first` is None, the book has the endpoint here, and there is no other.
+        """
         self.endpoint = KeptEndpoint()
         self.port = free_port()
+        endpoint = self.endpoint.port if first is None else first
+        other = NO_OTHER if first is None or not has_other else self.endpoint.port
         self.process = subprocess.Popen(
-            [PROGRAM, str(self.port), str(self.endpoint.port), mode],
+            [PROGRAM, str(self.port), str(endpoint), str(other), mode, refusals],
             stdin=subprocess.PIPE,
             stdout=subprocess.PIPE,
             text=True,
@@ -156,12 +181,20 @@ class EventLoop:
         assert self.process.stdin is not None
         self.process.stdin.close()
 
-    def check_end(self, name: str) -> None:
-        """Checks that the program ends by itself with status 0, having printed nothing more."""
+    def check_end(self, name: str) -> int:
+        """Checks that the program ends by itself with status 0, having printed how many requests
+        entered, and nothing else. Returns this number."""
         assert self.process.stdout is not None
         with self.process.stdout:
             printed = self.process.stdout.read()
-        check(name, (printed, self.process.wait(processes.LONGEST)), ("", 0))
+        found = ENTERED.fullmatch(printed)
+        check(name, (found is not None, self.process.wait(processes.LONGEST)), (True, 0))
+        return int(found[1]) if found else 0
+
+    def scale_down(self) -> None:
+        assert self.process.stdin is not None
+        self.process.stdin.write(SCALE_DOWN)
+        self.process.stdin.flush()
 
     def pause(self) -> None:
         processes.pause(self.process.pid)
@@ -183,9 +216,11 @@ class EventLoop:
 
 
 @contextlib.contextmanager
-def running(mode: str) -> Iterator[EventLoop]:
+def running(
+    mode: str, refusals: str = EMPTY, first: int | None = None, has_other: bool = True
+) -> Iterator[EventLoop]:
     """An event loop, whose shutdown begins at the end."""
-    event_loop = EventLoop(mode)
+    event_loop = EventLoop(mode, refusals, first, has_other)
     try:
         yield event_loop
     finally:
@@ -553,22 +588,133 @@ def graceful_shutdown() -> None:
         check("half a head is read", event_loop.has_read(3), True)
         event_loop.begin_shutdown()
         check("a shutdown closes idle connections", idle.rest(), b"")
-        late = stack.enter_context(connect(event_loop.port))
-        late.sendall(request(b"/late"))
+        check("a shutdown closes the listener", is_refused(event_loop.port), True)
         partial_head.send(text[-6:])
         check("half a request is answered", partial_head.rest(), answer(echo(b"/partial")))
         check("the program goes on for the request at hand", event_loop.process.poll(), None)
         held.is_free.set()
         check("the request at hand is answered", at_hand.rest(), answer(b"held"))
-        check("a shutdown accepts nobody", received(late), b"")
-    event_loop.check_end("a graceful shutdown")
+    entered = event_loop.check_end("a graceful shutdown")
+    check("the requests that entered before a shutdown and in it", entered, 3)
+
+
+def entered_requests() -> None:
+    """The seats count each request that entered, and no other one."""
+    for mode in MODES:
+        event_loop = EventLoop(mode)
+        check(f"{mode}: a request that enters", event_loop.once(request()), answer(echo(b"/")))
+        check(f"{mode}: one that fails", event_loop.once(request(RESETS)), BAD_GATEWAY)
+        check(f"{mode}: no request", timed(event_loop.port, [b"BAD\r\n\r\n"]).answer, BAD_REQUEST)
+        gone = connect(event_loop.port)
+        gone.sendall(request(HOLDS))
+        check(f"{mode}: one is held", event_loop.endpoint.held.holds(1), True)
+        reset(gone)
+        event_loop.begin_shutdown()
+        entered = event_loop.check_end(f"{mode}: the end after four requests")
+        check(f"{mode}: three requests entered", entered, 3)
+
+
+def pages() -> None:
+    """With pages, a refusal has the page that its request accepts; a HEAD gets its head alone."""
+    with running(CLOSE, PAGES) as event_loop:
+        browser = request(RESETS).replace(HOST_FIELD, HOST_FIELD + ACCEPTS_HTML, 1)
+        head = browser.replace(b"GET", b"HEAD", 1)
+        html = page_head(b"502 Bad Gateway", b"text/html", len(PAGE))
+        text = b"502 Bad Gateway\n"
+        check("a browser gets a page", event_loop.once(browser), html + PAGE)
+        check("a HEAD gets the head of the page", event_loop.once(head), html)
+        check(
+            "another client gets a text",
+            event_loop.once(request(RESETS)),
+            page_head(b"502 Bad Gateway", b"text/plain", len(text)) + text,
+        )
+        fault = b"400 Bad Request\n"
+        check(
+            "what is no request gets a text",
+            timed(event_loop.port, [b"BAD\r\n" + ACCEPTS_HTML + b"\r\n"]).answer,
+            page_head(b"400 Bad Request", b"text/plain", len(fault)) + fault,
+        )
+
+
+def page_head(status: bytes, kind: bytes, length: int) -> bytes:
+    """The head of a refusal with a page of this media type."""
+    return (
+        b"HTTP/1.1 %s\r\nContent-Type: %s; charset=utf-8\r\nContent-Length: %d\r\n"
+        b"Connection: close\r\n\r\n" % (status, kind, length)
+    )
+
+
+def dialled_elsewhere() -> None:
+    """A request whose endpoint cannot be dialled goes to another one, whatever its method. If there
+    is none, or it cannot be dialled either, the answer is 502."""
+    for mode in MODES:
+        with running(mode, first=free_port()) as event_loop:
+            check(f"{mode}: a GET elsewhere", event_loop.once(request()), answer(echo(b"/")))
+            check(
+                f"{mode}: a POST elsewhere",
+                event_loop.once(request(b"/post", b"POST", b"abc")),
+                answer(echo(b"/post", b"abc")),
+            )
+            check(f"{mode}: each came once", event_loop.endpoint.targets(), [b"/", b"/post"])
+        with running(mode, first=free_port(), has_other=False) as event_loop:
+            check(f"{mode}: no other endpoint", event_loop.once(request()), BAD_GATEWAY)
+    with running(CLOSE, first=free_port()) as event_loop:
+        event_loop.endpoint.stop()
+        check("no endpoint can be dialled", event_loop.once(request()), BAD_GATEWAY)
+
+
+def late_dials() -> None:
+    """A dial that hangs is given up after five seconds, and the request goes to another endpoint."""
+    with full_backlog() as port, running(CLOSE, first=port) as event_loop:
+        answered = timed(event_loop.port, [last(request(b"/late"))])
+        check("a request whose dial hangs", answered.answer, answer(echo(b"/late")))
+        check("it came after the timeout of the dial", 4.5 < answered.seconds < 20, True)
+
+
+def no_descriptors() -> None:
+    """While no descriptor is free, clients wait, and the loop does not spin. They are served once one
+    is free."""
+    with running(CLOSE) as event_loop:
+        check("before no descriptor is free", event_loop.once(request()), answer(echo(b"/")))
+        limit = processes.DescriptorLimit(event_loop.process.pid)
+        limit.leave(0)
+        with connect(event_loop.port) as client:
+            client.sendall(last(request(b"/waits")))
+            before = processes.processor_seconds(event_loop.process.pid)
+            time.sleep(WATCHED)
+            busy = processes.processor_seconds(event_loop.process.pid) - before
+            check("the loop does not spin", busy < MOST_BUSY * WATCHED, True)
+            limit.lift()
+            check("the client is served later", received(client), answer(echo(b"/waits")))
+
+
+def scaled_down() -> None:
+    """Idle connections to endpoints whose revision is scaled down are closed. Their clients stay."""
+    with running(KEEP) as event_loop, KeptClient(event_loop.port) as client:
+        check("before a scale-down", client.answer_to(request(b"/one")), response(echo(b"/one")))
+        descriptors = event_loop.count_descriptors()
+        event_loop.scale_down()
+        check(
+            "a scale-down closes the idle connection",
+            comes(lambda: event_loop.count_descriptors() < descriptors),
+            True,
+        )
+        check("the client stays", client.answer_to(request(b"/two")), response(echo(b"/two")))
+        check("by a new connection", event_loop.endpoint.connections, 2)
 
 
 def wrong_words() -> None:
     """Words that are wrong end the program with status 1."""
     few: list[str] = []
-    many = ["0", "9", KEEP, ""]
-    for words in (few, many, ["0", "9", "sometimes"], ["0", "65536", KEEP]):
+    many = ["0", "9", "0", KEEP, EMPTY, ""]
+    for words in (
+        few,
+        many,
+        ["0", "9", "0", "sometimes", EMPTY],
+        ["0", "9", "0", KEEP, "some"],
+        ["0", "65536", "0", KEEP, EMPTY],
+        ["0", "9", "-1", KEEP, EMPTY],
+    ):
         run = processes.run_to_end([PROGRAM, *words])
         check(f"the words {words}", (run.printed, run.status), ("", 1))
 
@@ -590,6 +736,12 @@ if __name__ == "__main__":
             fault_behind_a_request,
             resets_inside,
             many_clients,
+            entered_requests,
+            pages,
+            dialled_elsewhere,
+            late_dials,
+            no_descriptors,
+            scaled_down,
             graceful_shutdown,
             wrong_words,
         ),

@@ -16,20 +16,21 @@ use Rattle.bg_both_sides.specs.declared.endpoint_step.EndpointStep.{EndpointStep
 
 -- a refusal, since there was no memory for the text of a response
 pub unwritten_reply : (request : Request) (response : Response) (now : ℕ) (old new : Client) (answer : Option Answer)
-    → Refuses 503 now old answer new → (reply : Option Reply) × Replies request (Ok response) now old reply new
+    → Refuses (Ok request) 503 now old answer new → (reply : Option Reply) × Replies request (Ok response) now old reply new
 unwritten_reply request response now old new None is = absurd is
 unwritten_reply request response now old new (Some answer) is =
     (Some (record { request = request; answer = answer }), (refl, inr is.0, is.1))
 
 -- a refusal with the status of a fault
 pub faulty_reply : (request : Request) (named : ForwardFault) (now : ℕ) (old new : Client) (answer : Option Answer)
-    → Refuses (fault_status named) now old answer new → (reply : Option Reply) × Replies request (Err named) now old reply new
+    → Refuses (Ok request) (fault_status named) now old answer new → (reply : Option Reply) × Replies request (Err named) now old reply new
 faulty_reply request named now old new None is = absurd is
 faulty_reply request named now old new (Some answer) is =
     (Some (record { request = request; answer = answer }), (refl, is.0, is.1))
 
 -- a refusal of the request that entered
-pub entered_reply : (request : Request) (now : ℕ) (old new : Client) (answer : Option Answer) → Refuses 503 now old answer new
+pub entered_reply : (request : Request) (now : ℕ) (old new : Client) (answer : Option Answer)
+    → Refuses (Ok request) 503 now old answer new
     → (reply : Option Reply)
     × RefusesEntered (side.Entered request) now old true reply (record { client = new; endpoint = side.NoRequest })
 entered_reply request now old new None is = absurd is

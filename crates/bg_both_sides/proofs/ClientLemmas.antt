@@ -1,9 +1,10 @@
 -- Whether a request is inside after an event on the client's connection.
-use Rattle.std.proofs.Common.{◌≡◌, ◌∙◌, ℕ, Bool, true, false, cond, ◌&&◌, ◌||◌, nat_le, nat_lt, List, [], ◌∷◌, refl, sym, ap, Option, Some, None}
+use Rattle.std.proofs.Common.{◌≡◌, ◌∙◌, ℕ, Bool, true, false, cond, ◌&&◌, ◌||◌, nat_le, nat_lt, List, [], ◌∷◌, refl, sym, ap, Option, Some, None, Err}
 use Rattle.std.specs.Prelude.{⊤}
 use Rattle.bg_http.specs.Statuses.{request_status}
 use Rattle.bg_http.specs.declared.persistence.Persistence.{Persistence}
 use Rattle.bg_http.specs.declared.persistence.Persistence.TheVariants.{Close}
+use Rattle.bg_http.specs.declared.refusal.RefusalPage.{RefusalPage}
 use Rattle.bg_port.specs.Outgoing.{Outgoing, with_written}
 use Rattle.bg_client_side.specs.Clients.{Client, Continues, ContinuesIf, Feeds, FeedsIf, Finishes, ReadsOn, Writes, WritesOn, WritesRest, answered, answering, at, begun_at, closing, discarded_at, ended, failed_at, left, looked, next, with_bytes}
 use Rattle.bg_client_side.specs.Facts.{later}
@@ -14,7 +15,7 @@ use Rattle.bg_client_side.specs.declared.stage.Answering.{Answering}
 use Rattle.bg_client_side.specs.declared.stage.Lingering.{Lingering}
 use Rattle.bg_client_side.specs.declared.stage.Stage.{Stage}
 use Rattle.bg_client_side.specs.declared.stage.Stage.TheVariants as stage
-use Rattle.bg_both_sides.specs.Answers.{Answer, Refuses, lacks, says, unwritten, with_answer}
+use Rattle.bg_both_sides.specs.Answers.{Answer, RefusesWith, lacks, page_of, says, unwritten, with_answer}
 use Rattle.bg_both_sides.specs.ClientEvents.{RefusesBy, RefusesFault}
 
 outside_if : (b : Bool) (c : Client) → is_inside c.stage ≡ false → is_inside (cond b (left c) c).stage ≡ false
@@ -226,10 +227,10 @@ pub replied_outside : (answer : Answer) (now : ℕ) (c : Client) → is_inside (
 replied_outside (says text weight persistence) now c = answered_outside (unwritten text weight) persistence now c
 replied_outside (lacks weight) now c = answered_outside (unwritten [] weight) Close now (failed_at c.stage c)
 
-refused_outside : (status now : ℕ) (old : Client) (answer : Option Answer) (new : Client)
-    → Refuses status now old answer new → is_inside new.stage ≡ false
-refused_outside status now old None new is = absurd is
-refused_outside status now old (Some answer) new is =
+refused_outside : (page : Option RefusalPage) (status now : ℕ) (old : Client) (answer : Option Answer) (new : Client)
+    → RefusesWith page status now old answer new → is_inside new.stage ≡ false
+refused_outside page status now old None new is = absurd is
+refused_outside page status now old (Some answer) new is =
     ap (λ (n : Client). is_inside n.stage) is.1 ∙ replied_outside answer now old
 
 -- what was read with this result is refused at this stage, if it is no request
@@ -244,9 +245,9 @@ fault_alike fed.More now read answer new none is = ap (λ (n : Client). is_insid
 fault_alike fed.OwesContinue now read answer new none is = ap (λ (n : Client). is_inside n.stage) is.1
 fault_alike fed.Whole now read answer new none is = ap (λ (n : Client). is_inside n.stage) is.1
 fault_alike (fed.Refused named) now read answer new at_is is = go (request_status named) is where
-  go : (status : Option ℕ) → RefusesBy status now read answer new → is_inside new.stage ≡ is_inside read.stage
+  go : (status : Option ℕ) → RefusesBy named status now read answer new → is_inside new.stage ≡ is_inside read.stage
   go None is = ap (λ (n : Client). is_inside n.stage) is.1
-  go (Some status) is = refused_outside status now read answer new is ∙ sym (ap is_inside at_is)
+  go (Some status) is = refused_outside (page_of read (Err named)) status now read answer new is ∙ sym (ap is_inside at_is)
 
 -- a fault ends the reading
 read_at : (c : Client) (bytes : List ℕ) (result : Fed) (new : Client) → ReadsOn c bytes result new → IsAt result new

@@ -2,7 +2,7 @@
 use Rattle.std.proofs.Common.{◌≡◌, ◌∙◌, ℕ, Bool, true, false, cond, List, [], ◌++◌, refl, sym, ap, subst, append-nil, nat_le, Option, Some, Result, Ok, Err}
 use Rattle.bg_http.specs.declared.request.Request.{Request}
 use Rattle.bg_http.specs.declared.response.Response.{Response}
-use Rattle.bg_client_side.specs.Clients.{Client, stays_after}
+use Rattle.bg_client_side.specs.Clients.{Client}
 use Rattle.bg_endpoint_side.specs.Dialing.{Dialing, Forwarded}
 use Rattle.bg_endpoint_side.specs.Forwarding.{Ends, IsDecided, IsEnded, Receives, again, cut, failed, goes_back, late_health, looked, may_repeat, read, unread}
 use Rattle.bg_endpoint_side.specs.Laws.{GoesBackDrained}
@@ -333,5 +333,5 @@ answers_by_its_response old new bytes now told reply sound is = go old.endpoint 
       is_there = at_is ∙ ap (λ r. side.Forwarding r f) (sym is.2.0);
       is_sent = subst (λ r. IsForwarded r f) (sym is.2.0) sound.1;
       decided = received;
-      answer_is = subst (λ r. IsAnswerTo r outcome.answer (stays_after old.client) reply.answer) (sym is.2.0) is.2.1;
+      answer_is = subst (λ r. IsAnswerTo old.client r outcome.answer reply.answer) (sym is.2.0) is.2.1;
     }

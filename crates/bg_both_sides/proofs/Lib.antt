@@ -1,5 +1,6 @@
 pub mod AnswerLemmas
 pub mod ClientLemmas
+pub mod ElsewhereLemmas
 pub mod EndpointLemmas
 pub mod RepeatLemmas
 pub mod RunLemmas

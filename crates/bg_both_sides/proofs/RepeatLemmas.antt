@@ -3,7 +3,7 @@ use Rattle.std.proofs.Common.{◌≡◌, ◌∙◌, ℕ, ◌+◌, ◌≤◌, Boo
 use Rattle.bg_http.specs.Codings.{is_empty}
 use Rattle.bg_http.specs.declared.request.Request.{Request}
 use Rattle.bg_client_side.specs.Clients.{Client}
-use Rattle.bg_endpoint_side.specs.Dialing.{Dialing, Forwarded}
+use Rattle.bg_endpoint_side.specs.Dialing.{Dialing, Forwarded, may_go_elsewhere}
 use Rattle.bg_endpoint_side.specs.Forwarding.{Ends, Receives, again, failed, is_again, late_health, looked, may_repeat, renew_if, unread, with_bytes, with_end, wrote}
 use Rattle.bg_endpoint_side.specs.Outcomes.{health_of, of_giving_up, refused}
 use Rattle.bg_endpoint_side.specs.OutgoingTexts.{with_written}
@@ -15,7 +15,7 @@ use Rattle.bg_endpoint_side.specs.declared.outcome.Health.TheVariants as health
 use Rattle.bg_endpoint_side.specs.declared.outcome.Outcome.{Outcome}
 use Rattle.bg_both_sides.specs.Answers.{Reply}
 use Rattle.bg_both_sides.specs.ClientEvents.{entered_as}
-use Rattle.bg_both_sides.specs.EndpointEvents.{Dials, Follows, IsOnce, LooksDialing, RefusesEntered, begins, dial_failed, on_forwarded, takes_connection}
+use Rattle.bg_both_sides.specs.EndpointEvents.{Dials, DialsElsewhere, Follows, IsOnce, LooksDialing, RefusesEntered, begins, dial_failed, on_forwarded, takes_connection}
 use Rattle.bg_both_sides.specs.Laws.{none_enters}
 use Rattle.bg_both_sides.specs.Runs.{EndpointEvent, SidesCall, SidesCalls, SidesRun, Happens, again_by, again_in, breaks, comes, connects, dial_fails, dials, dials_again, endpoint_gives, endpoint_is_ending, endpoint_reads_no_more, endpoint_writes, ends, enters, enters_none, given_up, notes, one_if, passes, reads, refuses}
 use Rattle.bg_both_sides.specs.Sides.{Sides}
@@ -97,7 +97,7 @@ once_left f next once d is = not_again f.state.is_again (λ marked. no (once mar
   no : IsFalse (is_again next) → ⊥
   no none = let same = ap is_again is in cc
 
-marked_ends : (f : Forwarded) (now : ℕ) (next : Step) → Ends f now next → (d : Dialing) → next ≡ step.Again d
+pub marked_ends : (f : Forwarded) (now : ℕ) (next : Step) → Ends f now next → (d : Dialing) → next ≡ step.Again d
     → d.is_again ≡ true
 marked_ends f now (step.GoesOn next) is d same = absurd is
 marked_ends f now (step.Again next) is d same = go same where
@@ -105,7 +105,7 @@ marked_ends f now (step.Again next) is d same = go same where
   go same = let one : next ≡ d = cc in ap (λ (x : Dialing). x.is_again) (sym one) ∙ ap (λ (x : Dialing). x.is_again) is.1
 marked_ends f now (step.Over outcome) is d same = absurd (cc)
 
-marked_fails : (f : Forwarded) (now : ℕ) (d : Dialing) → failed f now ≡ step.Again d → d.is_again ≡ true
+pub marked_fails : (f : Forwarded) (now : ℕ) (d : Dialing) → failed f now ≡ step.Again d → d.is_again ≡ true
 marked_fails f now d is = go (may_repeat f) is where
   go : (b : Bool)
       → cond b (step.Again (again f now)) (step.Over (refused fault.ConnectFailed (health_of f.came))) ≡ step.Again d
@@ -136,7 +136,7 @@ receives_left f bytes now request (step.GoesOn next) is g same =
 receives_left f bytes now request (step.Again next) is g same = absurd is
 receives_left f bytes now request (step.Over outcome) is g same = absurd (cc)
 
-receives_again : (f : Forwarded) (bytes : List ℕ) (now : ℕ) (next : Step) → Receives f bytes now next → (d : Dialing)
+pub receives_again : (f : Forwarded) (bytes : List ℕ) (now : ℕ) (next : Step) → Receives f bytes now next → (d : Dialing)
     → next ≡ step.Again d → (d.is_again ≡ true) × (one_if (not f.state.is_again) ≡ 1)
 receives_again f bytes now (step.GoesOn next) is d same = absurd (cc)
 receives_again f bytes now (step.Again next) is d same = absurd is
@@ -167,7 +167,7 @@ looks_left f now request g is = go (nat_le f.state.deadlines.until now) is where
       let one : f ≡ g = cc in
       on_left f g request (ap (λ (h : Forwarded). h.state.is_again) (sym one))
 
-looks_again : (f : Forwarded) (now : ℕ) (d : Dialing) → looked f now ≡ step.Again d
+pub looks_again : (f : Forwarded) (now : ℕ) (d : Dialing) → looked f now ≡ step.Again d
     → (d.is_again ≡ true) × (one_if (not f.state.is_again) ≡ 1)
 looks_again f now d is = go (nat_le f.state.deadlines.until now) is where
   go : (b : Bool) → cond b (step.Over (refused fault.ResponseTimeout (late_health f now))) (step.GoesOn f) ≡ step.Again d
@@ -251,12 +251,18 @@ refuses_left (side.Dialing request d) now client told reply new is =
 refuses_left (side.Forwarding request f) now client told reply new is =
     let lefts = ap (λ (n : Sides). left n.endpoint) is.2 in omega (arith, lefts)
 
+elsewhere_left : (unsent does : Bool) (request : Request) (d : Dialing) (route : Route) (now : ℕ) (new : EndpointSide)
+    → DialsElsewhere unsent does request d route now new → left new ≤ left (side.Dialing request d)
+elsewhere_left true true request d route now new is = let lefts = ap left is in omega (arith, lefts)
+elsewhere_left true false request d route now new is = let lefts = ap left is in omega (arith, lefts)
+elsewhere_left false does request d route now new is = let lefts = ap left is.1 in omega (arith, lefts)
+
 dials_left : (endpoint : EndpointSide) (route : Route) (now : ℕ) (does : Bool) (new : EndpointSide)
     → Dials endpoint route now does new → left new ≤ left endpoint
 dials_left side.NoRequest route now does new is = let lefts = ap left is.1 in omega (arith, lefts)
 dials_left (side.Entered request) route now true new is = let lefts = ap left is in omega (arith, lefts)
 dials_left (side.Entered request) route now false new is = let lefts = ap left is in omega (arith, lefts)
-dials_left (side.Dialing request d) route now does new is = let lefts = ap left is.1 in omega (arith, lefts)
+dials_left (side.Dialing request d) route now does new is = elsewhere_left (may_go_elsewhere d now) does request d route now new is
 dials_left (side.Forwarding request f) route now does new is = let lefts = ap left is.1 in omega (arith, lefts)
 
 begins_left : (endpoint : EndpointSide) (b is_kept : Bool) (now : ℕ) → left (begins b is_kept now endpoint) ≡ left endpoint

@@ -80,7 +80,7 @@ fault_runs fed.More now read answer new at_is is = nothing_runs answer now read 
 fault_runs fed.OwesContinue now read answer new at_is is = nothing_runs answer now read new is.0 is.1
 fault_runs fed.Whole now read answer new at_is is = nothing_runs answer now read new is.0 is.1
 fault_runs (fed.Refused named) now read answer new at_is is = go (request_status named) answer is where
-  go : (status : Option ℕ) (answer : Option Answer) → RefusesBy status now read answer new
+  go : (status : Option ℕ) (answer : Option Answer) → RefusesBy named status now read answer new
       → Runs read (fault_calls answer now) new
   go None answer is = nothing_runs answer now read new is.0 is.1
   go (Some status) None is = absurd is

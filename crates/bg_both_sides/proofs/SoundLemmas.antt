@@ -7,7 +7,7 @@ use Rattle.bg_http.specs.Texts.{request_text}
 use Rattle.bg_http.specs.declared.request.Request.{Request}
 use Rattle.bg_client_side.specs.Clients.{Client}
 use Rattle.bg_client_side.specs.Stages.{is_inside}
-use Rattle.bg_endpoint_side.specs.Dialing.{Dialing, Forwarded}
+use Rattle.bg_endpoint_side.specs.Dialing.{Dialing, Forwarded, may_go_elsewhere}
 use Rattle.bg_endpoint_side.specs.Forwarding.{Ends, Receives, again, failed, late_health, looked, may_repeat, renew_if, unread, with_bytes, with_end, wrote}
 use Rattle.bg_endpoint_side.specs.Outcomes.{health_of, of_giving_up, refused}
 use Rattle.bg_endpoint_side.specs.OutgoingTexts.{whole, with_written}
@@ -22,7 +22,7 @@ use Rattle.bg_endpoint_side.specs.declared.terms.Terms.{Terms}
 use Rattle.bg_both_sides.proofs.ClientLemmas.{replied_outside}
 use Rattle.bg_both_sides.specs.Answers.{Replies, Reply}
 use Rattle.bg_both_sides.specs.ClientEvents.{entered_as}
-use Rattle.bg_both_sides.specs.EndpointEvents.{AtDialing, AtForwarded, Dials, Follows, GivesUp, Looks, LooksDialing, RefusesEntered, begins, dial_failed, on_forwarded}
+use Rattle.bg_both_sides.specs.EndpointEvents.{AtDialing, AtForwarded, Dials, DialsElsewhere, Follows, GivesUp, Looks, LooksDialing, RefusesEntered, begins, dial_failed, on_forwarded}
 use Rattle.bg_both_sides.specs.Sides.{IsDialed, IsForwarded, IsSound, Sides}
 use Rattle.bg_both_sides.specs.declared.endpoint_step.EndpointStep.{EndpointStep}
 use Rattle.bg_both_sides.specs.declared.endpoint_side.EndpointSide.{EndpointSide}
@@ -125,6 +125,16 @@ pub entered_sound : (request : Option Request) (sides : Sides) → IsSound sides
 entered_sound None sides sound = sound
 entered_sound (Some request) sides sound = refl
 
+-- a request that is dialled for at another endpoint is so with its text
+elsewhere_sound : (unsent does : Bool) (request : Request) (dialing : Dialing) (route : Route) (now : ℕ) (client : Client)
+    (new : EndpointSide) → IsSound client (side.Dialing request dialing)
+    → DialsElsewhere unsent does request dialing route now new → IsSound client new
+elsewhere_sound true true request dialing route now client new sound is =
+    subst (IsSound client) (sym is)
+    (sound.0, record { read_is = sound.1.read_is; text_is = refl; idempotent_is = sound.1.idempotent_is })
+elsewhere_sound true false request dialing route now client new sound is = subst (IsSound client) (sym is) sound
+elsewhere_sound false does request dialing route now client new sound is = subst (IsSound client) (sym is.1) sound
+
 -- a request that entered is dialled for with its text
 pub dials_sound : (endpoint : EndpointSide) (route : Route) (now : ℕ) (does : Bool) (client : Client) (new : EndpointSide)
     → IsSound client endpoint → Dials endpoint route now does new → IsSound client new
@@ -132,7 +142,8 @@ dials_sound side.NoRequest route now does client new sound is = subst (IsSound c
 dials_sound (side.Entered request) route now true client new sound is =
     subst (IsSound client) (sym is) (sound, record { read_is = refl; text_is = refl; idempotent_is = refl })
 dials_sound (side.Entered request) route now false client new sound is = subst (IsSound client) (sym is) sound
-dials_sound (side.Dialing request dialing) route now does client new sound is = subst (IsSound client) (sym is.1) sound
+dials_sound (side.Dialing request dialing) route now does client new sound is =
+    elsewhere_sound (may_go_elsewhere dialing now) does request dialing route now client new sound is
 dials_sound (side.Forwarding request f) route now does client new sound is = subst (IsSound client) (sym is.1) sound
 
 -- a connection begins with the text of its request

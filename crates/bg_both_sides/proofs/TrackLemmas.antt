@@ -6,7 +6,7 @@ use Rattle.bg_http.specs.Codings.{is_empty}
 use Rattle.bg_http.specs.declared.request.Request.{Request}
 use Rattle.bg_client_side.specs.Clients.{Client}
 use Rattle.bg_client_side.specs.Stages.{waiting_request}
-use Rattle.bg_endpoint_side.specs.Dialing.{Forwarded}
+use Rattle.bg_endpoint_side.specs.Dialing.{Dialing, Forwarded, may_go_elsewhere}
 use Rattle.bg_endpoint_side.specs.Forwarding.{Ends, Receives, again, failed, late_health, looked, may_repeat, renew_if, unread, with_bytes, with_end, wrote}
 use Rattle.bg_endpoint_side.specs.Outcomes.{health_of, of_giving_up, refused}
 use Rattle.bg_endpoint_side.specs.OutgoingTexts.{with_written}
@@ -18,7 +18,7 @@ use Rattle.bg_endpoint_side.specs.declared.outcome.Health.TheVariants as health
 use Rattle.bg_endpoint_side.specs.declared.outcome.Outcome.{Outcome}
 use Rattle.bg_both_sides.specs.Answers.{Reply}
 use Rattle.bg_both_sides.specs.ClientEvents.{entered_as}
-use Rattle.bg_both_sides.specs.EndpointEvents.{Dials, Follows, LooksDialing, RefusesEntered, begins, dial_failed, dialing_for, on_forwarded, takes_connection}
+use Rattle.bg_both_sides.specs.EndpointEvents.{Dials, DialsElsewhere, Follows, LooksDialing, RefusesEntered, begins, dial_failed, dialing_elsewhere, dialing_for, on_forwarded, takes_connection}
 use Rattle.bg_both_sides.specs.Runs.{EndpointEvent, SidesCall, SidesCalls, SidesRun, Happens, breaks, came_by, came_in, comes, connects, dial_fails, dials, endpoint_gives, endpoint_is_ending, endpoint_reads_no_more, endpoint_writes, ends, enters, given_up, notes, passes, reads, refuses, sent_by, sent_in}
 use Rattle.bg_both_sides.specs.Sides.{Sides, to_endpoint}
 use Rattle.bg_both_sides.specs.declared.endpoint_side.EndpointSide.{EndpointSide}
@@ -54,13 +54,20 @@ refuses_tracks (side.Dialing request d) now client told reply new sent came trac
 refuses_tracks (side.Forwarding request f) now client told reply new sent came tracks is =
     moved (side.Forwarding request f) new.endpoint sent came (ap (λ (n : Sides). n.endpoint) is.2) tracks
 
+elsewhere_tracks : (unsent does : Bool) (request : Request) (d : Dialing) (route : Route) (now : ℕ) (new : EndpointSide)
+    (sent came : List ℕ) → DialsElsewhere unsent does request d route now new → Tracks new sent came
+elsewhere_tracks true true request d route now new sent came is =
+    moved (side.Dialing request (dialing_elsewhere request d route now)) new sent came is tt
+elsewhere_tracks true false request d route now new sent came is = moved (side.Dialing request d) new sent came is tt
+elsewhere_tracks false does request d route now new sent came is = moved (side.Dialing request d) new sent came is.1 tt
+
 dials_tracks : (endpoint : EndpointSide) (route : Route) (now : ℕ) (does : Bool) (new : EndpointSide) (sent came : List ℕ)
     → Tracks endpoint sent came → Dials endpoint route now does new → Tracks new sent came
 dials_tracks side.NoRequest route now does new sent came tracks is = moved side.NoRequest new sent came is.1 tracks
 dials_tracks (side.Entered request) route now true new sent came tracks is = moved (side.Dialing request (dialing_for request route now)) new sent came is tt
 dials_tracks (side.Entered request) route now false new sent came tracks is = moved (side.Entered request) new sent came is tt
 dials_tracks (side.Dialing request d) route now does new sent came tracks is =
-    moved (side.Dialing request d) new sent came is.1 tracks
+    elsewhere_tracks (may_go_elsewhere d now) does request d route now new sent came is
 dials_tracks (side.Forwarding request f) route now does new sent came tracks is =
     moved (side.Forwarding request f) new sent came is.1 tracks
 

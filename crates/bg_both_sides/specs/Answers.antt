@@ -1,10 +1,13 @@
 -- What a client is answered.
 use Rattle.std.specs.Prelude.{◌≡◌, ◌⊎◌, ℕ, Bool, List, [], Option, Some, None, Result, Ok, Err, ⊤}
 use Rattle.bg_http.specs.Persistences.{keeps}
-use Rattle.bg_http.specs.Texts.{refusal_text, response_text}
+use Rattle.bg_http.specs.RefusalPages.{refusal_page, refused_text}
+use Rattle.bg_http.specs.Texts.{response_text}
 use Rattle.bg_http.specs.declared.persistence.Persistence.{Persistence}
 use Rattle.bg_http.specs.declared.persistence.Persistence.TheVariants.{Close}
+use Rattle.bg_http.specs.declared.refusal.RefusalPage.{RefusalPage}
 use Rattle.bg_http.specs.declared.request.Request.{Request}
+use Rattle.bg_http.specs.declared.request_fault.RequestFault.{RequestFault}
 use Rattle.bg_http.specs.declared.response.Response.{Response}
 use Rattle.bg_port.specs.Outgoing.{Outgoing}
 use Rattle.bg_client_side.specs.Clients.{Client, answered, failed_at, stays_after}
@@ -25,10 +28,14 @@ abbrev pub with_answer : Answer → ℕ → Client → Client
 with_answer (says text weight persistence) now client = answered (unwritten text weight) persistence now client
 with_answer (lacks weight) now client = answered (unwritten [] weight) Close now (failed_at client.stage client)
 
--- a refusal with this status, unless there was no memory for it
-abbrev pub IsRefusal : ℕ → Answer → Type 0
-IsRefusal status (says text weight persistence) = (text ≡ refusal_text status) × (persistence ≡ Close)
-IsRefusal status (lacks weight) = ⊤
+-- the page of a refusal of what was read on a client's connection, by the settings of the connection
+abbrev pub page_of : Client → Result Request RequestFault → Option RefusalPage
+page_of client read = refusal_page client.facts.settings.refusal_body read
+
+-- a refusal with this page and this status, unless there was no memory for it
+abbrev pub IsRefusal : Option RefusalPage → ℕ → Answer → Type 0
+IsRefusal page status (says text weight persistence) = (text ≡ refused_text page status) × (persistence ≡ Close)
+IsRefusal page status (lacks weight) = ⊤
 
 -- the text of a response to this request
 abbrev pub IsTextOf : Request → Response → Bool → Answer → Type 0
@@ -36,15 +43,21 @@ IsTextOf request response stays (says text weight persistence) =
     (text ≡ response_text stays request response) × (keeps persistence ≡ stays)
 IsTextOf request response stays (lacks weight) = ⊥
 
--- the answer to a request for which its endpoint gave this; 503 if there was no memory for the text of its response
-abbrev pub IsAnswerTo : Request → Result Response ForwardFault → Bool → Answer → Type 0
-IsAnswerTo request (Ok response) stays answer = IsTextOf request response stays answer ⊎ IsRefusal 503 answer
-IsAnswerTo request (Err named) stays answer = IsRefusal (fault_status named) answer
+-- the answer to a request of this client's connection, for which its endpoint gave this; 503 if there was no memory for the
+-- text of its response
+abbrev pub IsAnswerTo : Client → Request → Result Response ForwardFault → Answer → Type 0
+IsAnswerTo client request (Ok response) answer =
+    IsTextOf request response (stays_after client) answer ⊎ IsRefusal (page_of client (Ok request)) 503 answer
+IsAnswerTo client request (Err named) answer = IsRefusal (page_of client (Ok request)) (fault_status named) answer
 
--- the client is refused with this status
-abbrev pub Refuses : ℕ → ℕ → Client → Option Answer → Client → Type 0
-Refuses status now old None new = ⊥
-Refuses status now old (Some answer) new = IsRefusal status answer × (new ≡ with_answer answer now old)
+-- the client is refused with this page and this status
+abbrev pub RefusesWith : Option RefusalPage → ℕ → ℕ → Client → Option Answer → Client → Type 0
+RefusesWith page status now old None new = ⊥
+RefusesWith page status now old (Some answer) new = IsRefusal page status answer × (new ≡ with_answer answer now old)
+
+-- the client is refused with this status, by what was read
+abbrev pub Refuses : Result Request RequestFault → ℕ → ℕ → Client → Option Answer → Client → Type 0
+Refuses read status now old answer new = RefusesWith (page_of old read) status now old answer new
 
 -- the answer to a request
 pub record Reply : Type 0 where
@@ -55,5 +68,5 @@ pub record Reply : Type 0 where
 abbrev pub Replies : Request → Result Response ForwardFault → ℕ → Client → Option Reply → Client → Type 0
 Replies request given now old None new = ⊥
 Replies request given now old (Some reply) new =
-    (reply.request ≡ request) × IsAnswerTo request given (stays_after old) reply.answer
+    (reply.request ≡ request) × IsAnswerTo old request given reply.answer
     × (new ≡ with_answer reply.answer now old)

@@ -1,7 +1,8 @@
 -- What happens on the client's connection.
-use Rattle.std.specs.Prelude.{◌≡◌, ℕ, Option, Some, None}
+use Rattle.std.specs.Prelude.{◌≡◌, ℕ, Option, Some, None, Err}
 use Rattle.bg_http.specs.Statuses.{request_status}
 use Rattle.bg_http.specs.declared.request.Request.{Request}
+use Rattle.bg_http.specs.declared.request_fault.RequestFault.{RequestFault}
 use Rattle.bg_client_side.specs.Clients.{Client, taken}
 use Rattle.bg_client_side.specs.Stages.{waiting_request}
 use Rattle.bg_client_side.specs.declared.reading.Fed.{Fed}
@@ -10,14 +11,14 @@ use Rattle.bg_both_sides.specs.Answers.{Answer, Refuses}
 use Rattle.bg_both_sides.specs.Sides.{Sides}
 use Rattle.bg_both_sides.specs.declared.endpoint_side.EndpointSide.TheVariants as side
 
--- what came is refused, if there is a status for it
-abbrev pub RefusesBy : Option ℕ → ℕ → Client → Option Answer → Client → Type 0
-RefusesBy None now old answer new = (answer ≡ None) × (new ≡ old)
-RefusesBy (Some status) now old answer new = Refuses status now old answer new
+-- what came has this fault, and is refused, if there is a status for it
+abbrev pub RefusesBy : RequestFault → Option ℕ → ℕ → Client → Option Answer → Client → Type 0
+RefusesBy named None now old answer new = (answer ≡ None) × (new ≡ old)
+RefusesBy named (Some status) now old answer new = Refuses (Err named) status now old answer new
 
 -- what was read with this result is refused with the status of its fault, if it is no request
 abbrev pub RefusesFault : Fed → ℕ → Client → Option Answer → Client → Type 0
-RefusesFault (fed.Refused named) now old answer new = RefusesBy (request_status named) now old answer new
+RefusesFault (fed.Refused named) now old answer new = RefusesBy named (request_status named) now old answer new
 RefusesFault other now old answer new = (answer ≡ None) × (new ≡ old)
 
 -- the client's connection read something with this result, and what is no request was refused

@@ -1,11 +1,11 @@
 -- What happens to the request at its endpoint.
-use Rattle.std.specs.Prelude.{◌≡◌, ℕ, Bool, true, false, ◌&&◌, not, nat_le, Option, Some, None, IsFalse}
+use Rattle.std.specs.Prelude.{◌≡◌, ℕ, Bool, true, false, ◌&&◌, not, nat_le, Option, Some, None, Ok, IsFalse}
 use Rattle.bg_http.specs.Persistences.{keeps}
 use Rattle.bg_http.specs.Texts.{request_text}
 use Rattle.bg_http.specs.declared.request.Request.{Request}
 use Rattle.bg_client_side.specs.Clients.{Client}
 use Rattle.bg_endpoint_side.specs.Deadlines.{deadlines_from}
-use Rattle.bg_endpoint_side.specs.Dialing.{Dialing, Forwarded, begins_on}
+use Rattle.bg_endpoint_side.specs.Dialing.{Dialing, Forwarded, begins_on, elsewhere, may_go_elsewhere}
 use Rattle.bg_endpoint_side.specs.Forwarding.{is_again, looked}
 use Rattle.bg_endpoint_side.specs.Methods.{is_idempotent}
 use Rattle.bg_endpoint_side.specs.Outcomes.{health_of, health_of_dial, of_dial, of_giving_up, refused}
@@ -16,7 +16,7 @@ use Rattle.bg_endpoint_side.specs.declared.outcome.DialFault.TheVariants as dial
 use Rattle.bg_endpoint_side.specs.declared.outcome.GivingUp.{GivingUp}
 use Rattle.bg_endpoint_side.specs.declared.outcome.Health.TheVariants as health
 use Rattle.bg_endpoint_side.specs.declared.outcome.Outcome.{Outcome}
-use Rattle.bg_both_sides.specs.Answers.{IsRefusal, Replies, Reply, with_answer}
+use Rattle.bg_both_sides.specs.Answers.{IsRefusal, Replies, Reply, page_of, with_answer}
 use Rattle.bg_both_sides.specs.Sides.{Sides}
 use Rattle.bg_both_sides.specs.declared.endpoint_step.Ending.{Ending}
 use Rattle.bg_both_sides.specs.declared.endpoint_step.EndpointStep.{EndpointStep}
@@ -46,9 +46,24 @@ abbrev pub DialsFor : Bool → Request → Route → ℕ → EndpointSide → Ty
 DialsFor true request route now new = new ≡ side.Dialing request (dialing_for request route now)
 DialsFor false request route now new = new ≡ side.Entered request
 
+-- a request that is dialled for is dialled for at another endpoint, with its text as it is forwarded there
+abbrev pub dialing_elsewhere : Request → Dialing → Route → ℕ → Dialing
+dialing_elsewhere request dialing route now =
+    elsewhere dialing (request_text (keeps route.persistence) request route.port)
+    (record dialing.terms { port = route.port; persistence = route.persistence }) now
+
+-- it is, if it may be; or it stays, since it may not be, or since there was no memory for its text
+abbrev pub DialsElsewhere : Bool → Bool → Request → Dialing → Route → ℕ → EndpointSide → Type 0
+DialsElsewhere true true request dialing route now new =
+    new ≡ side.Dialing request (dialing_elsewhere request dialing route now)
+DialsElsewhere true false request dialing route now new = new ≡ side.Dialing request dialing
+DialsElsewhere false dials request dialing route now new = (dials ≡ false) × (new ≡ side.Dialing request dialing)
+
 -- the request is dialled for from now on; otherwise nothing changes
 abbrev pub Dials : EndpointSide → Route → ℕ → Bool → EndpointSide → Type 0
 Dials (side.Entered request) route now dials new = DialsFor dials request route now new
+Dials (side.Dialing request dialing) route now dials new =
+    DialsElsewhere (may_go_elsewhere dialing now) dials request dialing route now new
 Dials other route now dials new = (dials ≡ false) × (new ≡ other)
 
 -- a connection that was kept, or a new one, becomes that of the request: one is awaited, and a request that is sent again
@@ -138,7 +153,7 @@ GivesUp why other now client told reply new = (told ≡ steps.NotThere) × (repl
 abbrev pub RefusesEntered : EndpointSide → ℕ → Client → Bool → Option Reply → Sides → Type 0
 RefusesEntered (side.Entered request) now client told None new = ⊥
 RefusesEntered (side.Entered request) now client told (Some reply) new =
-    (told ≡ true) × (reply.request ≡ request) × IsRefusal 503 reply.answer
+    (told ≡ true) × (reply.request ≡ request) × IsRefusal (page_of client (Ok request)) 503 reply.answer
     × (new ≡ record { client = with_answer reply.answer now client; endpoint = side.NoRequest })
 RefusesEntered other now client told reply new =
     (told ≡ false) × (reply ≡ None) × (new ≡ record { client = client; endpoint = other })

@@ -3,20 +3,21 @@ use Rattle.std.specs.Prelude.{◌≡◌, ℕ, ◌≤◌, Bool, true, false, ◌&
 use Rattle.bg_http.specs.Persistences.{keeps}
 use Rattle.bg_http.specs.Texts.{request_text}
 use Rattle.bg_http.specs.declared.request.Request.{Request}
-use Rattle.bg_client_side.specs.Clients.{accepted, stays_after}
+use Rattle.bg_client_side.specs.Clients.{accepted}
 use Rattle.bg_client_side.specs.Runs.{Runs, written_in}
 use Rattle.bg_client_side.specs.Stages.{has_left, is_inside, to_write}
 use Rattle.bg_client_side.specs.declared.facts.ClientSettings.{ClientSettings}
-use Rattle.bg_endpoint_side.specs.Dialing.{Forwarded}
+use Rattle.bg_endpoint_side.specs.Dialing.{Dialing, Forwarded}
 use Rattle.bg_endpoint_side.specs.Forwarding.{IsDecided, again, may_repeat}
 use Rattle.bg_endpoint_side.specs.declared.outcome.Outcome.{Outcome}
 use Rattle.bg_both_sides.specs.Answers.{IsAnswerTo, Reply}
-use Rattle.bg_both_sides.specs.Runs.{EndpointEvent, SidesCall, SidesCalls, SidesRun, again_in, came_in, client_calls_in, comes, endpoint_gives, enters_none, sent_in, texts_in}
+use Rattle.bg_both_sides.specs.Runs.{EndpointEvent, SidesCall, SidesCalls, SidesRun, again_in, came_in, client_calls_in, comes, dials, endpoint_gives, enters_none, sent_in, texts_in, written_of}
 use Rattle.bg_both_sides.specs.Sides.{IsForwarded, IsSound, Sides}
 use Rattle.bg_both_sides.specs.declared.endpoint_step.Ending.{Ending}
 use Rattle.bg_both_sides.specs.declared.endpoint_step.EndpointStep.{EndpointStep}
 use Rattle.bg_both_sides.specs.declared.endpoint_step.EndpointStep.TheVariants as steps
 use Rattle.bg_both_sides.specs.declared.endpoint_side.EndpointSide.TheVariants as side
+use Rattle.bg_both_sides.specs.declared.route.Route.{Route}
 
 -- a client's connection that was accepted, and no request
 abbrev pub begun : ClientSettings → ℕ → Sides
@@ -44,7 +45,7 @@ pub record IsDecidedBy (old : Sides) (bytes : List ℕ) (reply : Reply) : Type 0
   pub is_there : old.endpoint ≡ side.Forwarding reply.request forwarded
   pub is_sent : IsForwarded reply.request forwarded
   pub decided : IsDecided forwarded (forwarded.came ++ bytes) outcome
-  pub answer_is : IsAnswerTo reply.request outcome.answer (stays_after old.client) reply.answer
+  pub answer_is : IsAnswerTo old.client reply.request outcome.answer reply.answer
 
 abbrev pub AnswersByItsResponse : Sides → List ℕ → ℕ → EndpointStep → Reply → Sides → Type 0
 AnswersByItsResponse old bytes now step reply new =
@@ -108,3 +109,9 @@ pub record RepeatsByRule (old : Sides) (now : ℕ) (new : Sides) : Type 0 where
 abbrev pub RepeatsOnlyByRule : Sides → EndpointEvent → ℕ → Option Reply → Sides → Type 0
 RepeatsOnlyByRule old event now reply new =
     SidesCalls old (endpoint_gives event now steps.DialsAgain reply) new → RepeatsByRule old now new
+
+-- a request that is dialled for is so at another endpoint only if no byte of it was written to one
+abbrev pub GoesElsewhereUnsent : ClientSettings → ℕ → List SidesCall → Sides → Request → Dialing → Route → ℕ → Sides → Type 0
+GoesElsewhereUnsent settings now calls old request dialing route at new =
+    SidesRun (begun settings now) calls old → old.endpoint ≡ side.Dialing request dialing
+    → SidesCalls old (dials route at true) new → written_of [] calls ≡ []

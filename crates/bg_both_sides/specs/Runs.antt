@@ -166,6 +166,16 @@ abbrev pub sent_in : List ℕ → List SidesCall → List ℕ
 sent_in before [] = before
 sent_in before (call ∷ more) = sent_in (sent_by before call) more
 
+-- what was written to endpoints of the request since it entered
+abbrev pub written_by : List ℕ → SidesCall → List ℕ
+written_by before (enters (Some request)) = []
+written_by before (endpoint_writes bytes now) = before ++ bytes
+written_by before other = before
+
+abbrev pub written_of : List ℕ → List SidesCall → List ℕ
+written_of before [] = before
+written_of before (call ∷ more) = written_of (written_by before call) more
+
 -- the bytes that came on it
 abbrev pub came_by : List ℕ → SidesCall → List ℕ
 came_by before (connects is_kept now true) = []

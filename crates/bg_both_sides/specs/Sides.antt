@@ -1,11 +1,11 @@
 -- A client's connection together with the request that it has at an endpoint.
-use Rattle.std.specs.Prelude.{◌≡◌, ℕ, Bool, true, false, List, [], Option, Some, None}
+use Rattle.std.specs.Prelude.{◌≡◌, ℕ, Bool, true, false, List, [], Option, Some, None, nat_le}
 use Rattle.bg_http.specs.Persistences.{keeps}
 use Rattle.bg_http.specs.Texts.{request_text}
 use Rattle.bg_http.specs.declared.request.Request.{Request}
 use Rattle.bg_client_side.specs.Clients.{Client}
 use Rattle.bg_client_side.specs.Stages.{is_inside}
-use Rattle.bg_endpoint_side.specs.Dialing.{Dialing, Forwarded}
+use Rattle.bg_endpoint_side.specs.Dialing.{Dialing, Forwarded, may_go_elsewhere}
 use Rattle.bg_endpoint_side.specs.Forwarding.{to_write}
 use Rattle.bg_endpoint_side.specs.Methods.{is_idempotent}
 use Rattle.bg_endpoint_side.specs.OutgoingTexts.{whole}
@@ -39,6 +39,16 @@ as_dialing other = None
 abbrev pub has_connection : EndpointSide → Bool
 has_connection (side.Forwarding request forwarded) = true
 has_connection other = false
+
+-- another endpoint may be dialled for the request
+abbrev pub goes_elsewhere : EndpointSide → ℕ → Bool
+goes_elsewhere (side.Dialing request dialing) now = may_go_elsewhere dialing now
+goes_elsewhere other now = false
+
+-- the dial for the request is late
+abbrev pub is_dial_late : EndpointSide → ℕ → Bool
+is_dial_late (side.Dialing request dialing) now = nat_le dialing.deadlines.until now
+is_dial_late other now = false
 
 -- what is to be written to the endpoint now
 abbrev pub to_endpoint : EndpointSide → List ℕ

@@ -1,12 +1,13 @@
 //! How the client is answered.
-ghost use Rattle.std.specs.Prelude.{◌≡◌, ℕ, IsTrue, Ok, Option};
+ghost use Rattle.std.specs.Prelude.{◌≡◌, ℕ, IsTrue, Ok, Err, Option};
 ghost use Rattle.bg_http.specs.Statuses.{is_refusal};
-ghost use Rattle.bg_both_sides.specs.Answers.{Answer, Refuses, Replies, Reply, lacks, with_answer};
+ghost use Rattle.bg_http.specs.declared.request_fault.RequestFault.{RequestFault};
+ghost use Rattle.bg_both_sides.specs.Answers.{Answer, Refuses, RefusesWith, Replies, Reply, lacks, with_answer};
 
 use crate::texts::{refusal_text, response_text};
 use bg_client_side::ClientConnection;
 use bg_endpoint_side::ForwardFault;
-use bg_http::{Persistence, Request, Response};
+use bg_http::{Persistence, RefusalPage, Request, Response};
 use std::alloc::Global;
 
 /// Gives the client the answer to its request for which its endpoint gave this: the response, or a refusal with the status
@@ -23,7 +24,7 @@ pub(crate) fn answer(
 {
     match given {
         Ok(response) => respond(client, alloc, request, &response, now),
-        Err(fault) => refuse(client, alloc, fault.status(), now),
+        Err(fault) => refuse(client, alloc, request, fault.status(), now),
     }
 }
 
@@ -43,16 +44,47 @@ fn respond(
         Ok(text) => {
             client.answer(text, persistence, now);
         }
-        Err(_) => refuse(client, alloc, 503, now),
+        Err(_) => refuse(client, alloc, request, 503, now),
     }
 }
 
-/// Refuses the client with this status.
-pub(crate) fn refuse(client: &mut ClientConnection, alloc: Global, status: u16, now: u64)
+/// Refuses a request of the client with this status. The refusal has the page for the request, if the connection has pages.
+pub(crate) fn refuse(
+    client: &mut ClientConnection,
+    alloc: Global,
+    request: &Request,
+    status: u16,
+    now: u64,
+)
     requires { IsTrue (is_refusal status) }
-    ensures { (answer : Option Answer) × Refuses status now client.old answer client.new }
+    ensures { (answer : Option Answer) × Refuses (Ok request.now) status now client.old answer client.new }
 {
-    match refusal_text(alloc, status) {
+    let page = client.refusal_body().page_for(request);
+    refuse_with(client, alloc, page, status, now);
+}
+
+/// Refuses what the client sent and is no request with this status. The refusal has a page, if the connection has pages.
+pub(crate) fn refuse_fault(client: &mut ClientConnection, alloc: Global, status: u16, now: u64)
+    requires { IsTrue (is_refusal status) }
+    ensures { (fault : RequestFault)
+        → (answer : Option Answer) × Refuses (Err fault) status now client.old answer client.new }
+{
+    let page = client.refusal_body().page_for_fault();
+    refuse_with(client, alloc, page, status, now);
+}
+
+/// Refuses the client with this page and this status.
+fn refuse_with(
+    client: &mut ClientConnection,
+    alloc: Global,
+    page: Option<RefusalPage>,
+    status: u16,
+    now: u64,
+)
+    requires { IsTrue (is_refusal status) }
+    ensures { (answer : Option Answer) × RefusesWith page status now client.old answer client.new }
+{
+    match refusal_text(alloc, page, status) {
         Ok(text) => {
             client.answer(text, Persistence::Close, now);
         }

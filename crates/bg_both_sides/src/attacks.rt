@@ -1,15 +1,17 @@
 //! Clients and endpoints that behave well and badly, both played by lists of events at given moments.
 
 mod clients;
+mod elsewhere;
 mod endpoints;
 mod kept;
+mod pages;
 
 use crate::both_sides::BothSides;
 use crate::endpoint_step::EndpointStep;
 use crate::route::Route;
 use bg_client_side::ClientSettings;
 use bg_endpoint_side::{DialFault, GivingUp, Timeouts};
-use bg_http::Persistence;
+use bg_http::{Persistence, RefusalBody};
 use std::alloc::{AllocError, Global};
 
 /// A client's connection is kept for three requests.
@@ -18,6 +20,7 @@ const SETTINGS: ClientSettings = ClientSettings {
     most_requests: 3,
     request_millis: 10_000,
     idle_millis: 60_000,
+    refusal_body: RefusalBody::Empty,
 };
 
 const ROUTE: Route = Route {
@@ -41,6 +44,8 @@ enum Event {
     Enter,
     Refuse(u64),
     Dial(u64),
+    /// Another endpoint, at this port, is dialled.
+    DialElsewhere(u16, u64),
     OnNew(u64),
     OnKept(u64),
     DialFailed(DialFault, u64),
@@ -67,9 +72,9 @@ struct World {
 }
 
 impl World {
-    fn new(alloc: Global) -> World {
+    fn new(alloc: Global, settings: ClientSettings) -> World {
         World {
-            sides: BothSides::new(alloc, SETTINGS, 0),
+            sides: BothSides::new(alloc, settings, 0),
             to_client: Vec::new(alloc),
             to_endpoint: Vec::new(alloc),
         }
@@ -114,6 +119,16 @@ impl World {
             }
             Event::Dial(now) => {
                 self.sides.dial(ROUTE, *now);
+                Ok(())
+            }
+            Event::DialElsewhere(port, now) => {
+                self.sides.dial(
+                    Route {
+                        port: *port,
+                        ..ROUTE
+                    },
+                    *now,
+                );
                 Ok(())
             }
             _ => self.at_endpoint(event),
@@ -232,9 +247,13 @@ struct Wrong {
 }
 
 /// The first attack that does not lead where it should, and where it leads.
-fn first_wrong(alloc: Global, attacks: &[Attack]) -> Result<Option<Wrong>, AllocError> {
+fn first_wrong(
+    alloc: Global,
+    settings: ClientSettings,
+    attacks: &[Attack],
+) -> Result<Option<Wrong>, AllocError> {
     for attack in attacks {
-        let mut world = World::new(alloc);
+        let mut world = World::new(alloc, settings);
         for event in attack.events {
             world.carry_out(event)?;
         }

@@ -2,7 +2,7 @@
 ghost use Rattle.std.specs.Prelude.{◌≡◌};
 ghost use Rattle.std.specs.Option.{option_copied};
 ghost use Rattle.bg_client_side.specs.Clients.{accepted};
-ghost use Rattle.bg_both_sides.specs.Sides.{has_connection, request_of, to_endpoint};
+ghost use Rattle.bg_both_sides.specs.Sides.{goes_elsewhere, has_connection, is_dial_late, request_of, to_endpoint};
 ghost use Rattle.bg_both_sides.specs.declared.endpoint_side.EndpointSide.TheVariants as side;
 
 use crate::endpoint_side::EndpointSide;
@@ -76,6 +76,27 @@ impl BothSides {
         ensures { result.now ≡ to_endpoint self.now.endpoint }
     {
         self.endpoint.rest()
+    }
+
+    /// Whether another endpoint may be dialled for the request, if its dial gives no connection: nothing of it was written,
+    /// and the timeout of its response has not passed.
+    pub fn may_go_elsewhere(&self, now: u64) -> bool
+        ensures { result ≡ goes_elsewhere self.now.endpoint now }
+    {
+        match &self.endpoint {
+            EndpointSide::Dialing(_, dialing) => dialing.may_go_elsewhere(now),
+            _ => false,
+        }
+    }
+
+    /// Whether the dial for the request is late: it has failed.
+    pub fn is_dial_late(&self, now: u64) -> bool
+        ensures { result ≡ is_dial_late self.now.endpoint now }
+    {
+        match &self.endpoint {
+            EndpointSide::Dialing(_, dialing) => dialing.is_late(now),
+            _ => false,
+        }
     }
 
     /// Whether a connection to an endpoint belongs to the request.

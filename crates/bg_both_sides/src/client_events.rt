@@ -4,7 +4,7 @@ ghost use Rattle.bg_client_side.specs.Clients.{Continues, Feeds, Writes, closing
 ghost use Rattle.bg_both_sides.specs.Answers.{Answer};
 ghost use Rattle.bg_both_sides.specs.ClientEvents.{ReadsSide, RefusesFault};
 
-use crate::answering::refuse;
+use crate::answering;
 use crate::both_sides::BothSides;
 use bg_client_side::{ClientConnection, Fed};
 use std::alloc::Global;
@@ -90,7 +90,7 @@ fn refuse_fault(client: &mut ClientConnection, alloc: Global, fed: Fed, now: u64
 {
     if let Fed::Refused(fault) = fed {
         if let Some(status) = fault.status() {
-            refuse(client, alloc, status, now);
+            answering::refuse_fault(client, alloc, status, now);
         }
     }
 }

@@ -2,12 +2,14 @@
 ghost use Rattle.std.specs.Prelude.{◌≡◌, IfErr, IfOk, None, OnErr, Option};
 ghost use Rattle.bg_endpoint_side.specs.Forwarding.{Ends, Receives, failed, wrote};
 ghost use Rattle.bg_both_sides.specs.Answers.{Reply};
-ghost use Rattle.bg_both_sides.specs.EndpointEvents.{AtForwarded, GivesUp, IsOnce, Looks, on_forwarded};
+ghost use Rattle.bg_both_sides.specs.EndpointEvents.{AtForwarded, Dials, GivesUp, IsOnce, Looks, on_forwarded};
 ghost use Rattle.bg_both_sides.specs.Sides.{as_dialing, as_entered, has_connection, request_of, to_endpoint};
 ghost use Rattle.bg_both_sides.specs.declared.endpoint_side.EndpointSide.TheVariants as side;
 ghost use Rattle.std.specs.Option.{option_copied};
 
 use crate::endpoint_step::{EndpointStep, finish, follow};
+use crate::entering::{dial_elsewhere, dial_for};
+use crate::route::Route;
 use bg_client_side::ClientConnection;
 use bg_endpoint_side::{DialFault, DialingRequest, ForwardedRequest, GivingUp};
 use bg_http::Request;
@@ -90,6 +92,23 @@ impl EndpointSide {
         ensures { result ≡ has_connection self.now }
     {
         matches!(self, EndpointSide::Forwarding(_, _))
+    }
+
+    /// The same after the request is dialled for, and whether it is.
+    pub(crate) fn dial(self, alloc: Global, route: Route, now: u64) -> (EndpointSide, bool)
+        ensures { Dials self route now result.1 result.0 }
+    {
+        match self {
+            EndpointSide::Entered(request) => dial_for(alloc, request, route, now),
+            EndpointSide::Dialing(request, dialing) => dial_elsewhere(
+                alloc, request, dialing, route, now,
+            ),
+            EndpointSide::Forwarding(request, forwarded) => (
+                EndpointSide::Forwarding(request, forwarded),
+                false,
+            ),
+            EndpointSide::NoRequest => (EndpointSide::NoRequest, false),
+        }
     }
 
     /// So many bytes more were written to the endpoint, at most the rest.

@@ -1,9 +1,10 @@
 //! How a request enters, is refused, and is sent to an endpoint.
 ghost use Rattle.std.specs.Prelude.{◌≡◌, Option, is_some};
 ghost use Rattle.bg_client_side.specs.Stages.{waiting_request};
+ghost use Rattle.bg_endpoint_side.specs.Dialing.{may_go_elsewhere};
 ghost use Rattle.bg_both_sides.specs.Answers.{Reply};
 ghost use Rattle.bg_both_sides.specs.ClientEvents.{entered};
-ghost use Rattle.bg_both_sides.specs.EndpointEvents.{Dials, DialsFor, RefusesEntered, begins, connected, takes_connection};
+ghost use Rattle.bg_both_sides.specs.EndpointEvents.{Dials, DialsElsewhere, DialsFor, RefusesEntered, begins, connected, takes_connection};
 ghost use Rattle.bg_both_sides.specs.declared.endpoint_side.EndpointSide.TheVariants as side;
 
 use crate::answering::refuse;
@@ -38,8 +39,8 @@ impl BothSides {
             × RefusesEntered self.old.endpoint now self.old.client result reply self.new }
     {
         match mem::replace(&mut self.endpoint, EndpointSide::NoRequest).into_entered() {
-            Ok(_) => {
-                refuse(&mut self.client, self.alloc, 503, now);
+            Ok(request) => {
+                refuse(&mut self.client, self.alloc, &request, 503, now);
                 true
             }
             Err(other) => {
@@ -49,20 +50,17 @@ impl BothSides {
         }
     }
 
-    /// Dials for the request that entered, from now on. Gives whether it does; otherwise nothing changes: none had entered,
-    /// or there was no memory for the text of the request, which is then to be refused ([`Self::refuse`]).
+    /// Dials for the request that entered, from now on; or for one that is dialled for, since its dial gave no connection, at
+    /// this endpoint in the place of the one before. Gives whether it does; otherwise nothing changes: there is no such
+    /// request, it may not go elsewhere ([`Self::may_go_elsewhere`]), or there was no memory for its text. It is then to be
+    /// refused ([`Self::refuse`]), or its dial has failed ([`Self::dial_failed`]).
     pub fn dial(&mut self, route: Route, now: u64) -> bool
         ensures client { self.new.client ≡ self.old.client }
         ensures endpoint { Dials self.old.endpoint route now result self.new.endpoint }
     {
-        let (endpoint, dials) = match mem::replace(
-            &mut self.endpoint,
-            EndpointSide::NoRequest,
-        ).into_entered()
-        {
-            Ok(request) => dial_for(self.alloc, request, route, now),
-            Err(other) => (other, false),
-        };
+        let (endpoint, dials) = mem::replace(&mut self.endpoint, EndpointSide::NoRequest).dial(
+            self.alloc, route, now,
+        );
         self.endpoint = endpoint;
         dials
     }
@@ -88,7 +86,12 @@ impl BothSides {
 }
 
 /// A request that entered, as it is dialled for, and whether there was memory for its text.
-fn dial_for(alloc: Global, request: Request, route: Route, now: u64) -> (EndpointSide, bool)
+pub(crate) fn dial_for(
+    alloc: Global,
+    request: Request,
+    route: Route,
+    now: u64,
+) -> (EndpointSide, bool)
     ensures { DialsFor result.1 request route now result.0 }
 {
     let Ok(text) = request_text(alloc, &request, route.port, route.persistence) else {
@@ -103,6 +106,39 @@ fn dial_for(alloc: Global, request: Request, route: Route, now: u64) -> (Endpoin
     (EndpointSide::Dialing(request, dialing), true)
 }
 
+/// A request that is dialled for, as it is dialled for at another endpoint, if it may be and if there was memory for its text,
+/// and whether it is.
+pub(crate) fn dial_elsewhere(
+    alloc: Global,
+    request: Request,
+    dialing: DialingRequest,
+    route: Route,
+    now: u64,
+) -> (EndpointSide, bool)
+    ensures { DialsElsewhere (may_go_elsewhere dialing now) result.1 request dialing route now result.0 }
+{
+    if !dialing.may_go_elsewhere(now) {
+        return (EndpointSide::Dialing(request, dialing), false);
+    }
+    let Route {
+        port,
+        persistence,
+        ..
+    } = route;
+    let Ok(text) = request_text(alloc, &request, port, persistence) else {
+        return (EndpointSide::Dialing(request, dialing), false);
+    };
+    let terms = Terms {
+        port,
+        persistence,
+        ..dialing.terms()
+    };
+    (
+        EndpointSide::Dialing(request, dialing.dial_elsewhere((text, terms), now)),
+        true,
+    )
+}
+
 /// A request that is dialled for, on a connection if it takes it, and whether it does.
 fn begin(request: Request, dialing: DialingRequest, is_kept: bool, now: u64) -> (EndpointSide, bool)
     ensures taken { result.1 ≡ takes_connection is_kept (side.Dialing request dialing) }
@@ -111,7 +147,7 @@ fn begin(request: Request, dialing: DialingRequest, is_kept: bool, now: u64) -> 
     if !is_kept {
         return (EndpointSide::Forwarding(request, dialing.on_new(now)), true);
     }
-    if dialing.may_be_on_kept() {
+    if dialing.is_unsent() {
         return (
             EndpointSide::Forwarding(request, dialing.on_kept(now)),
             true,

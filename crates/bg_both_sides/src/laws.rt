@@ -2,14 +2,15 @@
 ghost use Rattle.std.specs.Prelude.{List, Option, ℕ};
 ghost use Rattle.bg_http.specs.declared.request.Request.{Request};
 ghost use Rattle.bg_client_side.specs.declared.facts.ClientSettings.{ClientSettings};
-ghost use Rattle.bg_endpoint_side.specs.Dialing.{Forwarded};
+ghost use Rattle.bg_endpoint_side.specs.Dialing.{Dialing, Forwarded};
 ghost use Rattle.bg_both_sides.specs.Answers.{Reply};
-ghost use Rattle.bg_both_sides.specs.Laws.{AnswersByItsResponse, GoesBackWhole, HasNoneWithoutRequest, LosesItsConnection};
+ghost use Rattle.bg_both_sides.specs.Laws.{AnswersByItsResponse, GoesBackWhole, GoesElsewhereUnsent, HasNoneWithoutRequest, LosesItsConnection};
 ghost use Rattle.bg_both_sides.specs.Laws.{RepeatsOnce, RepeatsOnlyByRule, RunsItsClient, SendsItsRequest, WritesItsAnswers};
 ghost use Rattle.bg_both_sides.specs.Runs.{EndpointEvent, SidesCall};
 ghost use Rattle.bg_both_sides.specs.Sides.{Sides};
 ghost use Rattle.bg_both_sides.specs.declared.endpoint_step.Ending.{Ending};
 ghost use Rattle.bg_both_sides.specs.declared.endpoint_step.EndpointStep.{EndpointStep};
+ghost use Rattle.bg_both_sides.specs.declared.route.Route.{Route};
 
 /// All calls make calls of the client's connection alone, so each law of bg_client_side holds of it; and the two
 /// sides stay together: a request is at an endpoint only while it is inside, with the text in which it is forwarded.
@@ -63,4 +64,11 @@ pub fn a_request_is_sent_again_at_most_once()
     ensures once { (calls : List SidesCall) (old new : Sides) → RepeatsOnce old calls new }
     ensures rule { (old new : Sides) (event : EndpointEvent) (now : ℕ) (reply : Option Reply)
         → RepeatsOnlyByRule old event now reply new }
+{}
+
+/// A request is dialled for at another endpoint only if no byte of it was written to any.
+pub fn a_request_goes_elsewhere_unsent()
+    ensures { (settings : ClientSettings) (now : ℕ) (calls : List SidesCall) (old : Sides) (request : Request)
+        (dialing : Dialing) (route : Route) (at : ℕ) (new : Sides)
+        → GoesElsewhereUnsent settings now calls old request dialing route at new }
 {}

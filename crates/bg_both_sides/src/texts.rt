@@ -1,10 +1,13 @@
 //! The texts that are written to the two connections.
 ghost use Rattle.std.specs.Prelude.{◌≡◌, IfOk, IsTrue};
 ghost use Rattle.bg_http.specs.Persistences.{keeps};
+ghost use Rattle.bg_http.specs.RefusalPages.{refused_text};
 ghost use Rattle.bg_http.specs.Statuses.{is_refusal};
 ghost use Rattle.bg_http.specs.Texts as spec;
 
-use bg_http::{Persistence, Request, Response, write_refusal, write_request, write_response};
+use bg_http::{
+    Persistence, RefusalPage, Request, Response, write_refusal_with, write_request, write_response,
+};
 use std::alloc::Global;
 use std::io;
 
@@ -37,12 +40,16 @@ pub(crate) fn response_text(
     Ok(text)
 }
 
-/// The text of a refusal. The only error is an allocation failure.
-pub(crate) fn refusal_text(alloc: Global, status: u16) -> io::Result<Vec<u8>>
+/// The text of a refusal with this page, or with an empty body. The only error is an allocation failure.
+pub(crate) fn refusal_text(
+    alloc: Global,
+    page: Option<RefusalPage>,
+    status: u16,
+) -> io::Result<Vec<u8>>
     requires { IsTrue (is_refusal status) }
-    ensures { IfOk result (λ text. text.items ≡ spec.refusal_text status) }
+    ensures { IfOk result (λ text. text.items ≡ refused_text page status) }
 {
     let mut text = Vec::new(alloc);
-    write_refusal(status, &mut text)?;
+    write_refusal_with(status, page, &mut text)?;
     Ok(text)
 }

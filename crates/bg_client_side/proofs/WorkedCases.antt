@@ -2,6 +2,7 @@
 use Rattle.std.proofs.Common.{◌≡◌, ℕ, true, false, List, [], ◌∷◌, codes, refl, Some, None}
 use Rattle.bg_http.specs.Elements.{Field}
 use Rattle.bg_http.specs.declared.persistence.Persistence.TheVariants.{Keep}
+use Rattle.bg_http.specs.declared.refusal.RefusalBody.TheVariants.{Empty}
 use Rattle.bg_http.specs.declared.request.Request.{Request}
 use Rattle.bg_http.specs.declared.request_fault.RequestFault.TheVariants as fault
 use Rattle.bg_client_side.specs.Clients.{Client, accepted, answered, at, begun, closing, ended, failed_at, last_written, left, looked, next, received, stays_after, taken}
@@ -35,7 +36,13 @@ names_another_element = refl
 -- A CONNECTION THAT IS KEPT FOR TWO REQUESTS
 
 abbrev for_two : ClientSettings
-for_two = record { persistence = Keep; most_requests = 2; request_millis = 10; idle_millis = 60 }
+for_two = record {
+  persistence = Keep;
+  most_requests = 2;
+  request_millis = 10;
+  idle_millis = 60;
+  refusal_body = Empty;
+}
 
 abbrev first : Client
 first = received (request_of 1 []) [] (accepted for_two 100)

@@ -7,7 +7,7 @@ mod seats;
 use crate::client_connection::ClientConnection;
 use crate::facts::ClientSettings;
 use crate::stage::Stage;
-use bg_http::{Persistence, RequestFault};
+use bg_http::{Persistence, RefusalBody, RequestFault};
 
 /// A connection is kept for three requests.
 const SETTINGS: ClientSettings = ClientSettings {
@@ -15,6 +15,7 @@ const SETTINGS: ClientSettings = ClientSettings {
     most_requests: 3,
     request_millis: 10_000,
     idle_millis: 60_000,
+    refusal_body: RefusalBody::Empty,
 };
 
 /// Where a connection is after its events.

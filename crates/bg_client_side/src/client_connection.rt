@@ -6,7 +6,7 @@ ghost use Rattle.bg_client_side.specs.Stages.{has_left, is_idle, is_inside, owes
 
 use crate::facts::{ClientFacts, ClientSettings, later};
 use crate::stage::Stage;
-use bg_http::Persistence;
+use bg_http::{Persistence, RefusalBody};
 use bg_http_read::RequestStream;
 use std::alloc::Global;
 use std::marker::Model;
@@ -135,6 +135,13 @@ impl ClientConnection {
             Stage::Lingering(lingering) => lingering.was_whole,
             _ => false,
         }
+    }
+
+    /// What a refusal of a request has as its body.
+    pub fn refusal_body(&self) -> RefusalBody
+        ensures { result ≡ self.now.facts.settings.refusal_body }
+    {
+        self.facts.settings.refusal_body
     }
 
     /// Whether the connection is to go on after the answer to the request at hand, so that the text of the answer does not

@@ -2,7 +2,7 @@
 ghost use Rattle.std.specs.Prelude.{◌≡◌, ◌<◌};
 ghost use Rattle.bg_client_side.specs.Facts.{keeps_after, later, next_facts};
 
-use bg_http::Persistence;
+use bg_http::{Persistence, RefusalBody};
 
 /// The settings of the connections of clients. Times are milliseconds.
 #[derive(Clone, Copy, Drop)]
@@ -16,6 +16,8 @@ pub struct ClientSettings {
     pub request_millis: u64,
     /// The time for which a connection may be idle.
     pub idle_millis: u64,
+    /// What the refusals of its requests have as their bodies.
+    pub refusal_body: RefusalBody,
 }
 
 /// What is known of a connection beside its stage. Moments are milliseconds from the start of the program.

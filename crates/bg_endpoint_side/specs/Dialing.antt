@@ -1,5 +1,5 @@
 -- A request that is dialled for, and one that is forwarded on a connection.
-use Rattle.std.specs.Prelude.{ℕ, Bool, false, List, []}
+use Rattle.std.specs.Prelude.{ℕ, Bool, false, ◌&&◌, not, List, [], nat_lt}
 use Rattle.bg_http.specs.declared.request.Request.{Request}
 use Rattle.bg_endpoint_side.specs.Deadlines.{renewed}
 use Rattle.bg_endpoint_side.specs.OutgoingTexts.{Outgoing}
@@ -23,6 +23,15 @@ pub record Forwarded : Type 0 where
   pub text : Outgoing
   pub came : List ℕ
   pub state : ConnectionState
+
+-- another endpoint may be dialled: the request was sent on no connection, and the timeout of its response has not passed
+abbrev pub may_go_elsewhere : Dialing → ℕ → Bool
+may_go_elsewhere dialing now = not dialing.is_again && nat_lt now dialing.deadlines.last
+
+-- a dial gave no connection, and another endpoint is dialled with this text and under these terms; the dial has five seconds
+abbrev pub elsewhere : Dialing → List ℕ → Terms → ℕ → Dialing
+elsewhere dialing text terms now =
+    record dialing { text = text; terms = terms; deadlines = renewed dialing.deadlines 5000 now }
 
 -- a connection is there for the request: a new one, or one that was kept
 abbrev pub begins_on : Bool → Dialing → ℕ → Forwarded

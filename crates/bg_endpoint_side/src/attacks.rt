@@ -93,7 +93,7 @@ fn begin(alloc: Global, request: &Request, is_kept: bool) -> Option<ForwardedReq
     };
     let text = Vec::from_slice(alloc, TEXT).ok()?;
     let dialing = DialingRequest::new(alloc, request, (text, terms), TIMEOUTS, 0);
-    if is_kept && dialing.may_be_on_kept() {
+    if is_kept && dialing.is_unsent() {
         return Some(dialing.on_kept(0));
     }
     Some(dialing.on_new(0))

@@ -1,12 +1,12 @@
 //! A request that is dialled for.
 ghost use Rattle.std.specs.Prelude.{◌≡◌, ◌&&◌, IsTrue, false, nat_le, not, true};
 ghost use Rattle.bg_endpoint_side.specs.Deadlines.{deadlines_from};
-ghost use Rattle.bg_endpoint_side.specs.Dialing.{begins_on};
+ghost use Rattle.bg_endpoint_side.specs.Dialing.{begins_on, elsewhere, may_go_elsewhere};
 ghost use Rattle.bg_endpoint_side.specs.Outcomes.{health_of_dial, of_dial, of_giving_up, refused};
 ghost use Rattle.bg_endpoint_side.specs.declared.outcome.Health.TheVariants as health;
 
 use crate::connection_state::ConnectionState;
-use crate::deadlines::{Deadlines, Timeouts, WRITE_MILLIS};
+use crate::deadlines::{DIAL_MILLIS, Deadlines, Timeouts, WRITE_MILLIS};
 use crate::forwarded_request::ForwardedRequest;
 use crate::outcome::{DialFault, ForwardFault, GivingUp, Health, Outcome};
 use crate::outgoing_text::OutgoingText;
@@ -91,8 +91,9 @@ impl DialingRequest {
         self.terms
     }
 
-    /// Whether it may be sent on a connection that was kept. If it was sent on one before, a new connection is dialled.
-    pub fn may_be_on_kept(&self) -> bool
+    /// Whether it was sent on no connection before. If it was sent on one that was kept, a new connection to the same
+    /// endpoint is dialled.
+    pub fn is_unsent(&self) -> bool
         ensures { result ≡ not self.now.is_again }
     {
         !self.is_again
@@ -141,6 +142,37 @@ impl DialingRequest {
             is_ending: false,
         };
         ForwardedRequest::new(parser, text, state)
+    }
+
+    /// Whether another endpoint may be dialled for it: it was sent on no connection before, and the timeout of its response
+    /// has not passed.
+    pub fn may_go_elsewhere(&self, now: u64) -> bool
+        ensures { result ≡ may_go_elsewhere self.now now }
+    {
+        self.is_unsent() && now < self.deadlines.last
+    }
+
+    /// The dial gave no connection, and another endpoint is dialled from now on: with this text, and under these terms. The
+    /// timeout of the response is that of all its dials together.
+    pub fn dial_elsewhere(self, outgoing: (Vec<u8>, Terms), now: u64) -> DialingRequest
+        requires { IsTrue (not self.is_again) }
+        ensures { result ≡ elsewhere self outgoing.0.items outgoing.1 now }
+    {
+        let DialingRequest {
+            parser,
+            text: _,
+            terms: _,
+            deadlines,
+            is_again,
+        } = self;
+        let (text, terms) = outgoing;
+        DialingRequest {
+            parser,
+            text: OutgoingText::new(text),
+            terms,
+            deadlines: deadlines.renewed(DIAL_MILLIS, now),
+            is_again,
+        }
     }
 
     /// The dial gave no connection.

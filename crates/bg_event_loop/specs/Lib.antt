@@ -1,2 +1,5 @@
-pub mod Sources
+pub mod Moments
 pub mod Readinesses
+pub mod Seats
+pub mod Sources
+pub mod Tries

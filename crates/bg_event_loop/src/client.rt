@@ -4,6 +4,7 @@ ghost use Rattle.bg_endpoint_side.specs.declared.outcome.GivingUp.TheVariants as
 
 use crate::events::Told;
 use crate::readiness::Readiness;
+use crate::tries::Tries;
 use bg_both_sides::BothSides;
 use bg_endpoint_side::GivingUp;
 use std::net::TcpStream;
@@ -20,6 +21,8 @@ pub(crate) struct Client {
     pub(crate) seat: Option<usize>,
     /// The key of the connection to an endpoint that the request has or awaits.
     pub(crate) endpoint: Option<usize>,
+    /// The ports that were chosen for the request.
+    pub(crate) tries: Option<Tries>,
 }
 
 impl Drop for Client {
@@ -32,6 +35,7 @@ impl Drop for Client {
             sides: _,
             seat: _,
             endpoint: _,
+            tries: _,
         } = self;
     }
 }
@@ -51,6 +55,15 @@ impl Client {
             sides,
             seat: None,
             endpoint: None,
+            tries: None,
+        }
+    }
+
+    /// The port that was chosen last for the request.
+    pub(crate) fn port(&self) -> Option<u16> {
+        match &self.tries {
+            Some(tries) => Some(tries.port()),
+            None => None,
         }
     }
 

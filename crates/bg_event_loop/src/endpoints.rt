@@ -3,33 +3,40 @@ ghost use Rattle.std.specs.Prelude.{◌≡◌, ◌&&◌, not};
 
 use crate::client::Client;
 use crate::endpoint::Endpoint;
+use crate::endpoint_ports::EndpointPorts;
 use crate::events::{Source, Told, watch};
 use crate::readiness::Readiness;
 use crate::settings::EndpointSettings;
 use crate::slots::Slots;
 use crate::sockets::{DialledStream, connect};
-use bg_endpoint_side::{DialFault, KeptConnections};
+use bg_endpoint_side::{DialFault, KeptConnection, KeptConnections};
 use bg_http::Persistence;
 use bg_sockets::EpollSet;
 use std::alloc::{AllocError, Global};
 
 /// The connections to endpoints of a loop. Each has a request on it, or is kept for a further one.
 #[derive(Drop)]
-pub(crate) struct Endpoints<'a> {
+pub(crate) struct Endpoints<'a, P> {
+    pub(crate) alloc: Global,
     set: &'a EpollSet,
+    /// The ports at which requests are dialled.
+    pub(crate) ports: &'a P,
     settings: EndpointSettings,
     connections: Slots<Endpoint>,
     kept: KeptConnections,
 }
 
-impl<'a> Endpoints<'a> {
+impl<'a, P: EndpointPorts> Endpoints<'a, P> {
     pub(crate) fn new(
         alloc: Global,
         set: &'a EpollSet,
+        ports: &'a P,
         settings: EndpointSettings,
-    ) -> Result<Endpoints<'a>, AllocError> {
+    ) -> Result<Endpoints<'a, P>, AllocError> {
         Ok(Endpoints {
+            alloc,
             set,
+            ports,
             settings,
             connections: Slots::new(alloc),
             kept: KeptConnections::new(alloc, settings.most_kept)?,
@@ -157,6 +164,26 @@ impl<'a> Endpoints<'a> {
         }
     }
 
+    /// Closes the connections that no request is on and whose revision is scaled down.
+    pub(crate) fn close_scaled_down(&mut self) {
+        for _ in 0..self.kept.get().len() {
+            match scaled_down(self.kept.get(), self.ports) {
+                Some(port) => self.close_kept_to(port),
+                None => return,
+            }
+        }
+    }
+
+    /// Closes the connections to a port that no request is on.
+    fn close_kept_to(&mut self, port: u16) {
+        for _ in 0..self.kept.get().len() {
+            match self.kept.take_to(&[port]) {
+                Some(idle) => self.close(idle.key),
+                None => return,
+            }
+        }
+    }
+
     /// Keeps no connection from now on.
     pub(crate) fn keep_none(&mut self) {
         self.settings.persistence = Persistence::Close;
@@ -180,4 +207,18 @@ fn may_stay(goes_back: bool, ready: Readiness) -> bool
     ensures { result ≡ (goes_back && not ready.input) }
 {
     goes_back && !ready.input
+}
+
+/// The port of the first of these connections whose revision is scaled down.
+fn scaled_down<P: EndpointPorts>(kept: &[KeptConnection], ports: &P) -> Option<u16> {
+    let mut live = None;
+    for idle in kept.iter() {
+        if live != Some(idle.port) {
+            if !ports.is_live(idle.port) {
+                return Some(idle.port);
+            }
+            live = Some(idle.port);
+        }
+    }
+    None
 }

@@ -1,12 +1,11 @@
 //! The connections of a loop, and how its clients are served.
 
 use crate::client::Client;
+use crate::endpoint_ports::EndpointPorts;
 use crate::endpoints::Endpoints;
 use crate::events::{Source, Told, watch};
 use crate::settings::LoopSettings;
 use crate::slots::Slots;
-use crate::sockets::accept;
-use bg_both_sides::BothSides;
 use bg_client_side::{Fed, Seats};
 use bg_sockets::EpollSet;
 use os::EpollEvent;
@@ -15,9 +14,7 @@ use std::collections::VecDeque;
 use std::io;
 use std::net::TcpListener;
 
-/// The number of clients that are accepted in a row, and the number of steps of a client in a row.
-const ACCEPTS_A_TURN: u32 = 2;
-
+/// The number of steps of a client in a row.
 const STEPS_A_TURN: u32 = 64;
 
 /// The number of bytes that one read asks for.
@@ -25,12 +22,12 @@ const PIECE: usize = 16_384;
 
 /// The connections of a loop.
 #[derive(Drop)]
-pub(crate) struct EventLoop<'a> {
+pub(crate) struct EventLoop<'a, P> {
     pub(crate) alloc: Global,
     pub(crate) settings: LoopSettings,
     pub(crate) set: &'a EpollSet,
     pub(crate) clients: Slots<Client>,
-    pub(crate) endpoints: Endpoints<'a>,
+    pub(crate) endpoints: Endpoints<'a, P>,
     /// The seats, and the clients whose requests wait for one.
     pub(crate) queue: Seats,
     /// The keys of the clients that are to be served.
@@ -39,28 +36,32 @@ pub(crate) struct EventLoop<'a> {
     pub(crate) piece: Vec<u8>,
     /// The moment of the last events, in milliseconds from the start of the loop.
     pub(crate) now: u64,
+    /// When clients are accepted again, if none are accepted now.
+    pub(crate) accepts_at: Option<u64>,
     /// When the connections that are left are closed, if a shutdown has begun.
     pub(crate) closes_at: Option<u64>,
 }
 
-impl<'a> EventLoop<'a> {
+impl<'a, P: EndpointPorts> EventLoop<'a, P> {
     /// A loop with so many seats, without connections.
     pub(crate) fn new(
         alloc: Global,
         settings: LoopSettings,
         set: &'a EpollSet,
+        ports: &'a P,
         seats: usize,
-    ) -> io::Result<EventLoop<'a>> {
+    ) -> io::Result<EventLoop<'a, P>> {
         Ok(EventLoop {
             alloc,
             settings,
             set,
             clients: Slots::new(alloc),
-            endpoints: Endpoints::new(alloc, set, settings.endpoints)?,
+            endpoints: Endpoints::new(alloc, set, ports, settings.endpoints)?,
             queue: Seats::new(alloc, seats, settings.most_waiting)?,
             due: VecDeque::new(alloc),
             piece: vec![in alloc; 0; PIECE]?,
             now: 0,
+            accepts_at: None,
             closes_at: None,
         })
     }
@@ -81,19 +82,6 @@ impl<'a> EventLoop<'a> {
                 if let Some(client) = self.endpoints.note(key, told) {
                     self.make_due(client);
                 }
-            }
-        }
-    }
-
-    fn accept_some(&mut self, listener: &TcpListener) {
-        for _ in 0..ACCEPTS_A_TURN {
-            let Some(stream) = accept(listener) else {
-                return;
-            };
-            let sides = BothSides::new(self.alloc, self.settings.clients, self.now);
-            // without memory, the connection is closed
-            if let Ok(key) = self.clients.put(Client::new(stream, sides)) {
-                self.make_due(key);
             }
         }
     }

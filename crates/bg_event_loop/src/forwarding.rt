@@ -2,15 +2,20 @@
 ghost use Rattle.std.specs.Prelude.{◌≡◌};
 
 use crate::client::Client;
+use crate::endpoint_ports::EndpointPorts;
 use crate::endpoints::Endpoints;
 use crate::settings::EndpointSettings;
-use bg_both_sides::{EndpointStep, Route};
-use bg_endpoint_side::{DialFault, GivingUp};
+use crate::tries::Tries;
+use bg_both_sides::{Ending, EndpointStep, Route};
+use bg_endpoint_side::{DialFault, GivingUp, Health};
 
 /// The number of steps in a row before others have their turn.
 const STEPS_A_TURN: u32 = 16;
 
-impl Endpoints<'_> {
+/// The maximum number of ports that are dialled for a request.
+const MOST_TRIES: u32 = 65_535;
+
+impl<P: EndpointPorts> Endpoints<'_, P> {
     /// How a request is forwarded to the endpoint at this port.
     pub(crate) fn route_to(&self, port: u16) -> Route
         ensures { result ≡ record {
@@ -31,34 +36,95 @@ impl Endpoints<'_> {
         }
     }
 
-    /// Takes a kept connection for the request of a client that is dialled for, or dials its endpoint.
-    pub(crate) fn begin(&mut self, client: &mut Client, key: usize, port: u16, now: u64) {
-        if let Some(kept) = self.take_kept(port, key) {
-            if client.sides.connect(true, now) {
-                client.endpoint = Some(kept);
-                return;
-            }
-            self.close(kept);
+    /// Chooses the port at which the request of a client is dialled that has a ticket of this port. Gives whether it is: there
+    /// was memory for its text.
+    pub(crate) fn dials_for(&self, client: &mut Client, ticket: u16, now: u64) -> bool {
+        let mut tries = Tries::begin(self.alloc, self.ports, ticket);
+        let dials = client.sides.dial(self.route_to(tries.port()), now);
+        if !dials {
+            tries.leave(self.ports, Health::Unknown);
         }
-        self.dial_for(client, key, port, now);
+        client.tries = Some(tries);
+        dials
     }
 
-    /// Dials the endpoint at a port for the request of a client, which is over if there is no socket.
-    fn dial_for(&mut self, client: &mut Client, key: usize, port: u16, now: u64) {
-        match self.dial(port, key) {
-            Ok(dialled) => client.endpoint = Some(dialled),
-            Err(fault) => {
-                client.sides.dial_failed(fault, now);
+    /// Takes a kept connection for the request of a client that is dialled for, or dials: the port that was chosen last, and
+    /// then the next ones, until a dial has begun. The request is over if none begins.
+    pub(crate) fn begin(&mut self, client: &mut Client, key: usize, now: u64) {
+        for _ in 0..MOST_TRIES {
+            let Some(port) = client.port() else {
+                return;
+            };
+            if self.takes_kept(client, key, port, now) {
+                return;
             }
+            match self.dial(port, key) {
+                Ok(dialled) => {
+                    client.endpoint = Some(dialled);
+                    return;
+                }
+                Err(fault) => {
+                    if !self.goes_elsewhere(client, fault, now) {
+                        return;
+                    }
+                }
+            }
+        }
+    }
+
+    /// Takes a kept connection for the request of a client. Gives whether there is one.
+    fn takes_kept(&mut self, client: &mut Client, key: usize, port: u16, now: u64) -> bool {
+        let Some(kept) = self.take_kept(port, key) else {
+            return false;
+        };
+        let is_taken = client.sides.connect(true, now);
+        if is_taken {
+            client.endpoint = Some(kept);
+        } else {
+            self.close(kept);
+        }
+        is_taken
+    }
+
+    /// The dial for the request of a client has failed: has the next port dialled, or ends the request if none is left. Gives
+    /// whether one is.
+    fn goes_elsewhere(&mut self, client: &mut Client, fault: DialFault, now: u64) -> bool {
+        let Some(tries) = &mut client.tries else {
+            return false;
+        };
+        tries.end_dial(self.ports, fault);
+        let may_go = !matches!(fault, DialFault::NoSocket) && client.sides.may_go_elsewhere(now);
+        if may_go && tries.choose_next(self.ports) {
+            if client.sides.dial(self.route_to(tries.port()), now) {
+                return true;
+            }
+            tries.leave(self.ports, Health::Unknown);
+        }
+        let why = tries.first_fault(fault);
+        if let EndpointStep::Answered(ending) = client.sides.dial_failed(why, now) {
+            self.end(ending, client, now);
+        }
+        false
+    }
+
+    /// The dial for the request of a client has failed: closes its socket, and begins with the next port.
+    fn fail_dial(&mut self, client: &mut Client, key: usize, fault: DialFault, now: u64) {
+        self.close_used_by(client);
+        if self.goes_elsewhere(client, fault, now) {
+            self.begin(client, key, now);
         }
     }
 
     /// Closes the connection of the request of a client, and dials its endpoint again.
     fn dial_again(&mut self, client: &mut Client, key: usize, now: u64) {
-        match self.close_used_by(client) {
-            Some(port) => self.dial_for(client, key, port, now),
-            None => {
-                client.sides.dial_failed(DialFault::NoSocket, now);
+        let dialled = match self.close_used_by(client) {
+            Some(port) => self.dial(port, key),
+            None => Err(DialFault::NoSocket),
+        };
+        match dialled {
+            Ok(dialled) => client.endpoint = Some(dialled),
+            Err(fault) => {
+                self.goes_elsewhere(client, fault, now);
             }
         }
     }
@@ -69,7 +135,7 @@ impl Endpoints<'_> {
             if !self.is_due(client) {
                 return;
             }
-            let step = self.step(client, piece, now);
+            let step = self.step(client, key, piece, now);
             self.carry_out(step, client, key, now);
         }
     }
@@ -87,9 +153,16 @@ impl Endpoints<'_> {
     }
 
     /// Ends the dial for a request, or writes or reads on its connection.
-    fn step(&mut self, client: &mut Client, piece: &mut [u8], now: u64) -> EndpointStep {
+    fn step(
+        &mut self,
+        client: &mut Client,
+        key: usize,
+        piece: &mut [u8],
+        now: u64,
+    ) -> EndpointStep {
         if !client.sides.has_connection() {
-            return self.end_dial(client, now);
+            self.end_dial(client, key, now);
+            return EndpointStep::GoesOn;
         }
         match self.used_by(client) {
             Some(endpoint) => endpoint.serve(&mut client.sides, piece, now),
@@ -98,32 +171,41 @@ impl Endpoints<'_> {
     }
 
     /// The dial for a request is complete, or has failed.
-    fn end_dial(&mut self, client: &mut Client, now: u64) -> EndpointStep {
+    fn end_dial(&mut self, client: &mut Client, key: usize, now: u64) {
         match self.used_by(client) {
             Some(endpoint) if !endpoint.ready.reset => {
                 client.sides.connect(false, now);
-                EndpointStep::GoesOn
             }
-            _ => client.sides.dial_failed(DialFault::Failed, now),
+            _ => self.fail_dial(client, key, DialFault::Failed, now),
         }
     }
 
     /// Carries out what an event made of the request of a client: its connection is closed and another one is dialled,
-    /// or it is over and its connection is kept or closed.
+    /// or it is over.
     fn carry_out(&mut self, step: EndpointStep, client: &mut Client, key: usize, now: u64) {
         match step {
             EndpointStep::NotThere | EndpointStep::GoesOn => {}
             EndpointStep::DialsAgain => self.dial_again(client, key, now),
-            EndpointStep::Answered(ending) => {
-                if let Some(used) = client.endpoint.take() {
-                    self.end_use(used, ending.goes_back, now);
-                }
-            }
+            EndpointStep::Answered(ending) => self.end(ending, client, now),
         }
     }
 
-    /// Ends the request of a client of which a timeout has passed.
+    /// The request of a client is over: its connection is kept or closed, and it is counted at its port no longer.
+    fn end(&mut self, ending: Ending, client: &mut Client, now: u64) {
+        if let Some(used) = client.endpoint.take() {
+            self.end_use(used, ending.goes_back, now);
+        }
+        if let Some(tries) = &mut client.tries {
+            tries.leave(self.ports, ending.health);
+        }
+    }
+
+    /// Ends the request of a client of which a timeout has passed. If it is that of a dial, the next port is dialled.
     pub(crate) fn look(&mut self, client: &mut Client, key: usize, now: u64) {
+        if client.sides.is_dial_late(now) {
+            self.fail_dial(client, key, DialFault::TimedOut, now);
+            return;
+        }
         let step = client.sides.look_at_endpoint(now);
         self.carry_out(step, client, key, now);
     }

@@ -1,19 +1,20 @@
 //! What becomes of requests that have entered.
 
+use crate::endpoint_ports::EndpointPorts;
 use crate::event_loop::EventLoop;
 use bg_book::Ticket;
 use bg_client_side::Entered;
 
-impl<'a> EventLoop<'a> {
-    /// Begins to forward the request of a client, if it has a ticket. Gives whether it did: otherwise the client is refused,
-    /// and the seat is free.
-    pub(crate) fn begin(&mut self, entered: Entered, ticket: Option<Ticket>) -> bool {
+impl<'a, P: EndpointPorts> EventLoop<'a, P> {
+    /// Begins to forward the request of a client, if it has a ticket. Otherwise the client is refused, and the seat is free,
+    /// which is given.
+    pub(crate) fn begin(&mut self, entered: Entered, ticket: Option<Ticket>) -> Option<usize> {
         self.make_due(entered.key);
-        let begins = self.forward_with(entered, ticket);
-        if !begins {
-            self.queue.leave(entered.seat);
+        if self.forward_with(entered, ticket) {
+            return None;
         }
-        begins
+        self.queue.leave(entered.seat);
+        Some(entered.seat)
     }
 
     fn forward_with(&mut self, entered: Entered, ticket: Option<Ticket>) -> bool {
@@ -21,18 +22,17 @@ impl<'a> EventLoop<'a> {
             return false;
         };
         client.sides.enter();
-        if let Some(ticket) = ticket
-            && client
-                .sides
-                .dial(self.endpoints.route_to(ticket.port), self.now)
-        {
+        let dials = match ticket {
+            Some(ticket) => self.endpoints.dials_for(client, ticket.port, self.now),
+            None => false,
+        };
+        if dials {
             client.seat = Some(entered.seat);
-            self.endpoints
-                .begin(client, entered.key, ticket.port, self.now);
-            return true;
+            self.endpoints.begin(client, entered.key, self.now);
+        } else {
+            client.sides.refuse(self.now);
         }
-        client.sides.refuse(self.now);
-        false
+        dials
     }
 
     /// The seat of the request that a client has inside.

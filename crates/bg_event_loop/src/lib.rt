@@ -4,19 +4,22 @@
 //! has an epoll set, the clients that it accepted, its connections to endpoints, and seats of a book. No call waits but
 //! the one for events.
 //!
-//! The program does not use this crate yet. What is missing: a request whose dial fails is not sent to another endpoint, and
-//! endpoints are not marked; uploads are not paused; neither the number of connections nor the memory of requests and answers
-//! is bounded; there is no access log, and a refusal has no page.
+//! The program does not use this crate yet. What is missing: uploads are not paused; neither the number of connections nor the
+//! memory of requests and answers is bounded; and there is no access log.
 #![tactic(auto)]
 
+mod accepting;
 mod client;
 mod client_steps;
 mod endpoint;
+mod endpoint_ports;
 mod endpoints;
 mod event_loop;
 mod events;
 mod forwarding;
 mod inside;
+pub mod laws;
+mod moments;
 mod readiness;
 mod running;
 mod seating;
@@ -25,7 +28,9 @@ mod shutdown;
 mod slots;
 mod sockets;
 mod sweeping;
+mod tries;
 
+pub use endpoint_ports::{EndpointPorts, TicketPorts};
 pub use running::{LoopContext, run_event_loop};
 pub use settings::{EndpointSettings, LoopSettings};
 pub use shutdown::Shutdown;

@@ -1,12 +1,17 @@
 //! The loop itself, and what it asks the gate.
 ghost use Rattle.std.specs.Prelude.{◌≡◌};
+ghost use Rattle.bg_event_loop.specs.Seats.{AllServed, AllUsed};
+ghost use Rattle.bg_forward.specs.Seats.{AllOut};
 ghost use Rattle.bg_rollout.specs.Gathering.{indices};
 
+use crate::accepting::watch_listener;
+use crate::endpoint_ports::EndpointPorts;
 use crate::event_loop::EventLoop;
 use crate::events::Source;
-use crate::seating::{enter_at, is_cut, leave_at};
+use crate::seating::{enter_at, is_cut, leave_all, leave_at};
 use crate::settings::LoopSettings;
 use crate::shutdown::Shutdown;
+use bg_book::laws as book_laws;
 use bg_forward::Gate;
 use bg_ledger::{Names, Seat};
 use bg_sockets::{EpollSet, PortClock, Watched};
@@ -15,12 +20,8 @@ use os::EpollEvent;
 use std::alloc::Global;
 use std::io;
 use std::net::TcpListener;
-use std::os::fd::AsRawFd;
 use std::sync::Wait;
 use std::time::Clock;
-
-/// An event wakes at least one of the waiting sets, and not always all (`EPOLLEXCLUSIVE` of epoll_ctl(2)).
-const EXCLUSIVE: u32 = 1 << 28;
 
 /// The maximum number of events that a loop takes at once.
 const MOST_EVENTS: usize = 256;
@@ -30,29 +31,56 @@ const SWEEP_MILLIS: u64 = 500;
 
 /// What the loops of a port share.
 #[derive(Drop)]
-pub struct LoopContext<'a, G> {
+pub struct LoopContext<'a, G, P> {
     pub alloc: Global,
     /// Where requests enter and leave.
     pub gate: &'a G,
-    /// The listener, whose accepts do not wait.
+    /// The ports at which they are dialled.
+    pub ports: &'a P,
+    /// The listener, whose accepts do not wait. A shutdown closes it.
     pub listener: &'a TcpListener,
     pub shutdown: &'a Shutdown,
     pub settings: LoopSettings,
 }
 
-/// Serves clients on these seats until a shutdown has begun and no client is left. Each seat keeps its place. An error if a
-/// system call or an allocation fails before the first client is accepted.
-pub fn run_event_loop<N: Names, R: Clock + Wait, G: Gate<N>>(
+/// Serves clients on these seats until a shutdown has begun and no client is left. An error if a system call or an
+/// allocation fails before the first client is accepted.
+///
+/// Every seat is out at the end and has its place, and its number of calls has risen by two for each of its requests that
+/// entered.
+pub fn run_event_loop<N: Names, R: Clock + Wait, G: Gate<N>, P: EndpointPorts>(
     rt: &R,
-    context: &LoopContext<'_, G>,
+    context: &LoopContext<'_, G, P>,
     seats: &mut [Seat<N>],
 ) -> io::Result<()>
-    ensures { indices seats.new ≡ indices seats.old }
+    requires { AllOut seats.old }
+    ensures served { AllServed seats.old seats.new }
+    ensures order { indices seats.new ≡ indices seats.old }
+{
+    book_laws::same_order();
+    let served = serve_clients(rt, context, seats);
+    leave_all(context.gate, seats);
+    served
+}
+
+/// Serves clients until a shutdown has begun and no client is left.
+fn serve_clients<N: Names, R: Clock + Wait, G: Gate<N>, P: EndpointPorts>(
+    rt: &R,
+    context: &LoopContext<'_, G, P>,
+    seats: &mut [Seat<N>],
+) -> io::Result<()>
+    ensures { AllUsed seats.old seats.new }
 {
     let set = EpollSet::new()?;
     watch_port(&set, context)?;
     let clock = PortClock::start(rt)?;
-    let mut connections = EventLoop::new(context.alloc, context.settings, &set, seats.len())?;
+    let mut connections = EventLoop::new(
+        context.alloc,
+        context.settings,
+        &set,
+        context.ports,
+        seats.len(),
+    )?;
     let mut swept = 0;
     for _ in rt.forever() {
         note_events(context, &clock, rt, &mut connections);
@@ -60,9 +88,7 @@ pub fn run_event_loop<N: Names, R: Clock + Wait, G: Gate<N>>(
             swept = connections.now;
             connections.sweep();
         }
-        serve_due(context, &mut connections, seats);
-        admit(context, &mut connections, seats);
-        serve_due(context, &mut connections, seats);
+        serve_round(context, &mut connections, seats);
         connections.reuse_keys();
         if connections.is_over() {
             return Ok(());
@@ -72,12 +98,8 @@ pub fn run_event_loop<N: Names, R: Clock + Wait, G: Gate<N>>(
 }
 
 /// Watches the listener and the shutdown.
-fn watch_port<G>(set: &EpollSet, context: &LoopContext<'_, G>) -> io::Result<()> {
-    set.add(Watched {
-        descriptor: context.listener.as_raw_fd(),
-        events: EPOLLIN | EXCLUSIVE,
-        number: Source::Listener.number(),
-    })?;
+fn watch_port<G, P>(set: &EpollSet, context: &LoopContext<'_, G, P>) -> io::Result<()> {
+    watch_listener(set, context.listener)?;
     set.add(Watched {
         descriptor: context.shutdown.descriptor(),
         events: EPOLLIN | EPOLLET,
@@ -86,11 +108,11 @@ fn watch_port<G>(set: &EpollSet, context: &LoopContext<'_, G>) -> io::Result<()>
 }
 
 /// Waits for events, and notes them.
-fn note_events<R: Clock, G>(
-    context: &LoopContext<'_, G>,
+fn note_events<R: Clock, G, P: EndpointPorts>(
+    context: &LoopContext<'_, G, P>,
     clock: &PortClock,
     rt: &R,
-    connections: &mut EventLoop<'_>,
+    connections: &mut EventLoop<'_, P>,
 ) {
     let mut events = [EpollEvent { events: 0, data: 0 }; MOST_EVENTS];
     let count = connections
@@ -100,49 +122,69 @@ fn note_events<R: Clock, G>(
     for event in events.iter().take(count) {
         connections.note(context.listener, event);
     }
+    connections.end_pause(context.listener);
     if context.shutdown.has_begun() {
         connections.begin_closing(context.listener);
     }
 }
 
-/// Serves the clients that are to be served. The gate is asked whether the request of each goes on, and a request that is
-/// over leaves there.
-fn serve_due<N: Names, G: Gate<N>>(
-    context: &LoopContext<'_, G>,
-    connections: &mut EventLoop<'_>,
+/// Serves the clients that are to be served, lets requests enter, and begins to forward them.
+fn serve_round<N: Names, G: Gate<N>, P: EndpointPorts>(
+    context: &LoopContext<'_, G, P>,
+    connections: &mut EventLoop<'_, P>,
     seats: &mut [Seat<N>],
 )
-    ensures { indices seats.new ≡ indices seats.old }
+    ensures { AllUsed seats.old seats.new }
+{
+    serve_due(context, connections, seats);
+    admit_and_serve(context, connections, seats);
+}
+
+/// Lets requests enter, and serves the clients that are to be served then.
+fn admit_and_serve<N: Names, G: Gate<N>, P: EndpointPorts>(
+    context: &LoopContext<'_, G, P>,
+    connections: &mut EventLoop<'_, P>,
+    seats: &mut [Seat<N>],
+)
+    ensures { AllUsed seats.old seats.new }
+{
+    admit(context, connections, seats);
+    serve_due(context, connections, seats);
+}
+
+/// Serves the clients that are to be served. The gate is asked whether the request of each goes on, and a request that is
+/// over leaves there.
+fn serve_due<N: Names, G: Gate<N>, P: EndpointPorts>(
+    context: &LoopContext<'_, G, P>,
+    connections: &mut EventLoop<'_, P>,
+    seats: &mut [Seat<N>],
+)
+    ensures { AllUsed seats.old seats.new }
 {
     for _ in 0..connections.due.len() {
         let Some(key) = connections.due.pop_front() else {
             return;
         };
-        let is_given_up = match connections.seat_of(key) {
-            Some(seat) => is_cut(context.gate, seats, seat),
-            None => false,
-        };
-        if let Some(seat) = connections.serve(key, is_given_up) {
-            leave_at(context.gate, seats, seat);
-        }
+        let is_given_up = is_cut(context.gate, seats, connections.seat_of(key));
+        let over = connections.serve(key, is_given_up);
+        leave_at(context.gate, seats, over);
     }
 }
 
 /// Lets the requests enter that wait longest, as long as a seat is free.
-fn admit<N: Names, G: Gate<N>>(
-    context: &LoopContext<'_, G>,
-    connections: &mut EventLoop<'_>,
+fn admit<N: Names, G: Gate<N>, P: EndpointPorts>(
+    context: &LoopContext<'_, G, P>,
+    connections: &mut EventLoop<'_, P>,
     seats: &mut [Seat<N>],
 )
-    ensures { indices seats.new ≡ indices seats.old }
+    ensures { AllUsed seats.old seats.new }
 {
     for _ in 0..connections.queue.waiting() {
         let Some(entered) = connections.queue.enter() else {
             return;
         };
         let ticket = enter_at(context.gate, context.settings.service, seats, entered.seat);
-        if !connections.begin(entered, ticket) {
-            leave_at(context.gate, seats, entered.seat);
-        }
+        let refused = connections.begin(entered, ticket);
+        leave_at(context.gate, seats, refused);
     }
 }

@@ -1,8 +1,8 @@
-//! How the requests of seats enter and leave at the gate. Each seat keeps its place.
-ghost use Rattle.std.specs.Prelude.{◌≡◌};
-ghost use Rattle.bg_rollout.specs.Gathering.{indices};
+//! How the requests of seats enter and leave at the gate.
+ghost use Rattle.std.specs.Prelude.{◌≡◌, map};
+ghost use Rattle.bg_event_loop.specs.Seats.{AllUsed, emptied};
 
-use bg_book::{GoOn, Ticket, laws as book_laws};
+use bg_book::{GoOn, Ticket};
 use bg_forward::Gate;
 use bg_ledger::{Names, Seat};
 use bg_revisions::Service;
@@ -14,9 +14,8 @@ pub(crate) fn enter_at<N: Names, G: Gate<N>>(
     seats: &mut [Seat<N>],
     number: usize,
 ) -> Option<Ticket>
-    ensures { indices seats.new ≡ indices seats.old }
+    ensures { AllUsed seats.old seats.new }
 {
-    book_laws::same_order();
     if number >= seats.len() {
         return None;
     }
@@ -27,25 +26,48 @@ pub(crate) fn enter_at<N: Names, G: Gate<N>>(
     gate.enter(seat, service).ok()
 }
 
-/// Lets the request of a seat leave.
-pub(crate) fn leave_at<N: Names, G: Gate<N>>(gate: &G, seats: &mut [Seat<N>], number: usize)
-    ensures { indices seats.new ≡ indices seats.old }
+/// Lets the request of a seat leave, if there is such a seat.
+pub(crate) fn leave_at<N: Names, G: Gate<N>>(gate: &G, seats: &mut [Seat<N>], number: Option<usize>)
+    ensures { AllUsed seats.old seats.new }
 {
-    book_laws::same_order();
+    let Some(number) = number else {
+        return;
+    };
     if number >= seats.len() {
         return;
     }
-    let seat = &mut seats[number];
+    empty(gate, &mut seats[number]);
+}
+
+/// Lets the requests of all seats leave that are still in.
+pub(crate) fn leave_all<N: Names, G: Gate<N>>(gate: &G, seats: &mut [Seat<N>])
+    ensures { seats.new ≡ map emptied seats.old }
+{
+    for seat in seats.iter_mut() {
+        empty(gate, seat);
+    }
+}
+
+/// Lets the request of a seat leave, if it holds one.
+fn empty<N: Names, G: Gate<N>>(gate: &G, seat: &mut Seat<N>)
+    ensures { seat.new ≡ emptied seat.old }
+{
     if seat.is_in() {
         gate.leave(seat);
     }
 }
 
-/// Whether the request of a seat is given up, since it drained for too long.
-pub(crate) fn is_cut<N: Names, G: Gate<N>>(gate: &G, seats: &mut [Seat<N>], number: usize) -> bool
-    ensures { indices seats.new ≡ indices seats.old }
+/// Whether the request of a seat, if there is such a seat, is given up, since it drained for too long.
+pub(crate) fn is_cut<N: Names, G: Gate<N>>(
+    gate: &G,
+    seats: &mut [Seat<N>],
+    number: Option<usize>,
+) -> bool
+    ensures { AllUsed seats.old seats.new }
 {
-    book_laws::same_order();
+    let Some(number) = number else {
+        return false;
+    };
     if number >= seats.len() {
         return true;
     }

@@ -1,10 +1,11 @@
 //! The settings of an event loop.
 ghost use Rattle.std.specs.Prelude.{◌≡◌, false, true};
 ghost use Rattle.bg_http.specs.Persistences.{keeps};
+ghost use Rattle.bg_http.specs.declared.refusal.RefusalBody.TheVariants as body;
 
 use bg_client_side::ClientSettings;
 use bg_endpoint_side::Timeouts;
-use bg_http::Persistence;
+use bg_http::{Persistence, RefusalBody};
 use bg_revisions::Service;
 
 /// The settings of the connections to endpoints. Times are milliseconds.
@@ -34,11 +35,12 @@ pub struct LoopSettings {
 }
 
 impl LoopSettings {
-    /// The usual settings: each connection, of either side, carries one request.
+    /// The usual settings: each connection, of either side, carries one request, and a refusal has an empty body.
     pub fn usual(service: Service) -> LoopSettings
         ensures service { result.service ≡ service }
         ensures clients { keeps result.clients.persistence ≡ false }
         ensures endpoints { keeps result.endpoints.persistence ≡ false }
+        ensures refusals { result.clients.refusal_body ≡ body.Empty }
     {
         LoopSettings {
             service,
@@ -47,6 +49,7 @@ impl LoopSettings {
                 most_requests: 1_000,
                 request_millis: 60_000,
                 idle_millis: 75_000,
+                refusal_body: RefusalBody::Empty,
             },
             endpoints: EndpointSettings {
                 persistence: Persistence::Close,
@@ -59,6 +62,19 @@ impl LoopSettings {
             },
             most_waiting: 1_024,
             closing_millis: 60_000,
+        }
+    }
+
+    /// The same with refusals that have this as their bodies.
+    pub fn with_refusal_body(self, refusal_body: RefusalBody) -> LoopSettings
+        ensures { result ≡ record self { clients = record self.clients { refusal_body = refusal_body } } }
+    {
+        LoopSettings {
+            clients: ClientSettings {
+                refusal_body,
+                ..self.clients
+            },
+            ..self
         }
     }
 

@@ -1,20 +1,28 @@
 //! Timeouts, and the end of a loop.
 
+use crate::endpoint_ports::EndpointPorts;
 use crate::event_loop::EventLoop;
+use crate::moments::has_come;
+use crate::sockets::close_listener;
 use std::net::TcpListener;
 use std::os::fd::AsRawFd;
 
 /// The longest wait for events, in milliseconds.
 const LONGEST_WAIT_MILLIS: i32 = 500;
 
-impl<'a> EventLoop<'a> {
+/// The same while no client is accepted.
+const LONGEST_WAIT_IN_PAUSE_MILLIS: i32 = 100;
+
+impl<'a, P: EndpointPorts> EventLoop<'a, P> {
     /// The longest wait for events: none if a client is to be served, or may enter.
     pub(crate) fn longest_wait(&self) -> i32 {
         let may_enter = self.queue.waiting() > 0 && self.queue.free() > 0;
-        if self.due.is_empty() && !may_enter {
-            LONGEST_WAIT_MILLIS
-        } else {
+        if !self.due.is_empty() || may_enter {
             0
+        } else if self.accepts_at.is_some() {
+            LONGEST_WAIT_IN_PAUSE_MILLIS
+        } else {
+            LONGEST_WAIT_MILLIS
         }
     }
 
@@ -25,10 +33,11 @@ impl<'a> EventLoop<'a> {
             self.look(key);
         }
         self.endpoints.close_idle(self.now);
+        self.endpoints.close_scaled_down();
     }
 
     fn look(&mut self, key: usize) {
-        let is_over = self.is_past_closing();
+        let is_over = has_come(self.closes_at, self.now);
         let Some(client) = self.clients.get_mut(key) else {
             return;
         };
@@ -40,19 +49,13 @@ impl<'a> EventLoop<'a> {
         self.make_due(key);
     }
 
-    fn is_past_closing(&self) -> bool {
-        match self.closes_at {
-            Some(moment) => moment <= self.now,
-            None => false,
-        }
-    }
-
     /// Begins a shutdown: no client is accepted any more, no connection is kept, and idle ones are closed.
     pub(crate) fn begin_closing(&mut self, listener: &TcpListener) {
         if self.closes_at.is_some() {
             return;
         }
         self.set.remove(listener.as_raw_fd());
+        close_listener(listener);
         self.endpoints.keep_none();
         self.closes_at = Some(self.now.saturating_add(self.settings.closing_millis));
         for key in 0..self.clients.bound() {

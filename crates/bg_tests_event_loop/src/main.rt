@@ -1,11 +1,14 @@
 //! Runs an event loop, for checks over sockets.
 //!
-//! `tests/live/live_event_loop.py` runs it. Its words are PORT ENDPOINT_PORT close|keep: the port of its clients, that of the
-//! only endpoint of its book, and whether connections of both sides are kept. Its book has four seats. It writes `listening`
-//! once its port is open. It begins a shutdown when standard input ends or a byte of it comes, and ends when the clients have
-//! left.
+//! `tests/live/live_event_loop.py` runs it. Its words are PORT ENDPOINT_PORT OTHER_PORT close|keep empty|pages: the port of its
+//! clients, that of the only endpoint of its book, that of another endpoint, which is dialled if the first one cannot be (0: no
+//! other one), whether connections of both sides are kept, and what refusals have as their bodies. Its book has four seats. It
+//! writes `listening` once its port is open. A byte `d` of standard input says that the endpoints' revision is scaled down, so
+//! that idle connections to them are closed. Any other byte and the end of the input begin a shutdown. It ends when the clients
+//! have left, and then writes how many requests entered.
 #![tactic(auto)]
 
+mod ports;
 mod serving;
 mod stop;
 mod words;
@@ -22,7 +25,9 @@ fn main(rt: HostRuntime) -> Result<(), Stop> {
     let words = words_of(&rt)?;
     let listener = listen(&rt, words.port)?;
     println!(rt; "listening")?;
-    serve(&rt, &listener, words)
+    let entered = serve(&rt, &listener, words)?;
+    println!(rt; "entered {entered}")?;
+    Ok(())
 }
 
 /// What the words of the command line say.

@@ -1,8 +1,10 @@
 //! Opens a book, and serves clients by it until a shutdown.
 ghost use Rattle.std.specs.Prelude.{◌≡◌};
+ghost use Rattle.bg_forward.specs.Seats.{AllOut};
 ghost use Rattle.bg_ledger.specs.Blanks.{AreAllFor};
 ghost use Rattle.bg_rollout.specs.Gathering.{indices};
 
+use crate::ports::TwoPorts;
 use crate::stop::Stop;
 use crate::words::Words;
 use bg_book::{Book, Control, Desk, Limits, RolloutOpening};
@@ -34,23 +36,27 @@ struct Run<'a, R> {
     alloc: Global,
     listener: &'a TcpListener,
     shutdown: &'a Shutdown,
+    ports: &'a TwoPorts,
     strategy: &'a Strategy,
     words: Words,
 }
 
-/// Serves clients of the listener as the words say. Returns after a shutdown, which the end of the input begins.
-pub fn serve<R>(rt: &R, listener: &TcpListener, words: Words) -> Result<(), Stop>
+/// Serves clients of the listener as the words say. Returns after a shutdown, which the end of the input begins, and gives
+/// how many requests entered.
+pub fn serve<R>(rt: &R, listener: &TcpListener, words: Words) -> Result<u64, Stop>
 where
     R: AllocGlobal + Input + Threads + Wait + Clock + Sync,
 {
     let alloc = rt.alloc();
     let shutdown = Shutdown::new()?;
+    let ports = TwoPorts::new(words.other);
     let strategy = read(alloc, STRATEGY)?;
     let run = Run {
         rt,
         alloc,
         listener,
         shutdown: &shutdown,
+        ports: &ports,
         strategy: &strategy,
         words,
     };
@@ -58,11 +64,11 @@ where
     open_and_serve::<Brand, R>(&run, blanks)
 }
 
-/// Opens the book, serves clients to the end, and closes the book.
+/// Opens the book, serves clients to the end, and closes the book. Gives how many requests entered.
 fn open_and_serve<'a, N: Names + Send + Sync, R>(
     run: &Run<'a, R>,
     blanks: Blanks,
-) -> Result<(), Stop>
+) -> Result<u64, Stop>
 where
     R: Input + Threads + Wait + Clock + Sync,
     requires blanks { AreAllFor N.Names blanks }
@@ -79,12 +85,22 @@ where
     let desk = Desk::new(book);
     make_available(run.rt, &desk);
     let has_served = serve_beside_input(run, &desk, seats.as_mut_slice());
+    let entered = entered_at(seats.as_slice());
     let _history = desk.into_book().close(seats);
     if has_served {
-        Ok(())
+        Ok(entered)
     } else {
         Err(Stop::SystemCallFailed)
     }
+}
+
+/// How many requests entered at these seats and left.
+fn entered_at<N: Names>(seats: &[Seat<N>]) -> u64 {
+    let mut calls = 0u64;
+    for seat in seats.iter() {
+        calls = calls.saturating_add(seat.calls());
+    }
+    calls / 2
 }
 
 /// Says that the endpoint is available. If that is refused, each request is.
@@ -96,8 +112,8 @@ fn make_available<N: Names, R: Wait>(rt: &R, desk: &Desk<N>) {
     let _ = desk.control(rt, &available);
 }
 
-/// Serves clients by the desk, and waits in parallel for the end of the input. Each seat keeps its place. Gives whether the
-/// loop has run.
+/// Serves clients by the desk on seats that are out, and waits in parallel for the end of the input. Each seat keeps its place.
+/// Gives whether the loop has run.
 fn serve_beside_input<'a, N: Names + Send + Sync, R>(
     run: &Run<'a, R>,
     desk: &Desk<N>,
@@ -105,12 +121,14 @@ fn serve_beside_input<'a, N: Names + Send + Sync, R>(
 ) -> bool
 where
     R: Input + Threads + Wait + Clock + Sync,
+    requires { AllOut seats.old }
     ensures { indices seats.new ≡ indices seats.old }
 {
     let mut has_served = false;
     join_mut(
         run.rt,
         &mut ||
+            requires { AllOut seats.now }
             ensures { indices seats.exit.now ≡ indices seats.entry.now }
         { has_served = serve_seats(run, desk, seats) },
         &mut || await_end_of_input(run),
@@ -118,18 +136,20 @@ where
     has_served
 }
 
-/// Serves clients by the desk. Each seat keeps its place. Gives whether the loop has run.
+/// Serves clients by the desk on seats that are out. Each seat keeps its place. Gives whether the loop has run.
 fn serve_seats<'a, N: Names, R: Wait + Clock>(
     run: &Run<'a, R>,
     desk: &Desk<N>,
     seats: &mut [Seat<N>],
 ) -> bool
+    requires { AllOut seats.old }
     ensures { indices seats.new ≡ indices seats.old }
 {
     let gate = DeskGate::new(run.rt, desk);
     let context = LoopContext {
         alloc: run.alloc,
         gate: &gate,
+        ports: run.ports,
         listener: run.listener,
         shutdown: run.shutdown,
         settings: settings_of(run.words),
@@ -138,16 +158,21 @@ fn serve_seats<'a, N: Names, R: Wait + Clock>(
 }
 
 fn settings_of(words: Words) -> LoopSettings {
-    let usual = LoopSettings::usual(Service::Active);
+    let usual = LoopSettings::usual(Service::Active).with_refusal_body(words.refusal_body);
     match words.persistence {
         Persistence::Close => usual,
         Persistence::Keep => usual.with_kept_connections(),
     }
 }
 
-/// Begins the shutdown when the input ends or a byte of it comes.
+/// Reads the input: `d` scales the revision down, and any other byte or the end begins the shutdown.
 fn await_end_of_input<'a, R: Input>(run: &Run<'a, R>) {
-    let mut byte = [0; 1];
-    let _ = run.rt.reader().read(&mut byte);
+    for _ in 0..u64::MAX {
+        let mut byte = [0; 1];
+        match run.rt.reader().read(&mut byte) {
+            Ok(1) if byte == *b"d" => run.ports.scale_down(),
+            _ => break,
+        }
+    }
     run.shutdown.begin();
 }

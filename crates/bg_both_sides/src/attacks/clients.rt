@@ -1,6 +1,6 @@
 //! Clients that send one request after the other, end their input, or fail.
 
-use super::{ALL, Attack, Event, GET, OK, POST, REFUSED_503, Where, first_wrong};
+use super::{ALL, Attack, Event, GET, OK, POST, REFUSED_503, SETTINGS, Where, first_wrong};
 use bg_endpoint_side::GivingUp;
 
 static ATTACKS: [Attack; 12] = [
@@ -198,5 +198,5 @@ static ATTACKS: [Attack; 12] = [
 
 #[test]
 fn clients_that_pipeline_end_or_fail(rt: HostRuntime) {
-    assert_eq!(rt; first_wrong(rt.alloc(), &ATTACKS), Ok(None));
+    assert_eq!(rt; first_wrong(rt.alloc(), SETTINGS, &ATTACKS), Ok(None));
 }

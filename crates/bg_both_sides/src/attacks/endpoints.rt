@@ -1,6 +1,8 @@
 //! Endpoints that answer well, badly or not at all.
 
-use super::{ALL, Attack, Event, GET, OK, POST, REFUSED_502, REFUSED_503, Where, first_wrong};
+use super::{
+    ALL, Attack, Event, GET, OK, POST, REFUSED_502, REFUSED_503, SETTINGS, Where, first_wrong,
+};
 use bg_endpoint_side::{DialFault, GivingUp};
 
 static ATTACKS: [Attack; 17] = [
@@ -261,5 +263,5 @@ static ATTACKS: [Attack; 17] = [
 
 #[test]
 fn endpoints_that_answer_well_badly_or_not(rt: HostRuntime) {
-    assert_eq!(rt; first_wrong(rt.alloc(), &ATTACKS), Ok(None));
+    assert_eq!(rt; first_wrong(rt.alloc(), SETTINGS, &ATTACKS), Ok(None));
 }

@@ -1,6 +1,6 @@
 //! Connections to endpoints that were kept.
 
-use super::{ALL, Attack, Event, GET, OK, POST, REFUSED_502, Where, first_wrong};
+use super::{ALL, Attack, Event, GET, OK, POST, REFUSED_502, SETTINGS, Where, first_wrong};
 use bg_endpoint_side::DialFault;
 
 static ATTACKS: [Attack; 9] = [
@@ -155,5 +155,5 @@ static ATTACKS: [Attack; 9] = [
 
 #[test]
 fn connections_that_were_kept(rt: HostRuntime) {
-    assert_eq!(rt; first_wrong(rt.alloc(), &ATTACKS), Ok(None));
+    assert_eq!(rt; first_wrong(rt.alloc(), SETTINGS, &ATTACKS), Ok(None));
 }

@@ -12,7 +12,7 @@ returns-in-Ok c =
     let new = c.refuse.new.client in
     let now = c.args.now in
     let entered = sym c.in-Ok.ensures.entered ∙ c.replace.ensures.value in
-    let reply = entered_reply c.in-Ok.field-0 now old new c.refuse.ensures.0 c.refuse.ensures.1 in
+    let reply = entered_reply c.in-Ok.request now old new c.refuse.ensures.0 c.refuse.ensures.1 in
     subst (λ (s : Sides). (reply : Option Reply)
     × RefusesEntered s.endpoint now s.client true reply (record { client = new; endpoint = c.replace.new.dest })) c.self.view_is
     (subst (λ after. (reply : Option Reply)

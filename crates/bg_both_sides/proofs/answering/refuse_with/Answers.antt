@@ -1,7 +1,7 @@
 use Rattle.std.proofs.Common.{refl, Some, vec_capacity}
 use Rattle.bg_http.specs.declared.persistence.Persistence.TheVariants.{Close}
 use Rattle.bg_both_sides.specs.Answers.{lacks, says}
-use Rattle.bg_both_sides.proofs.answering.refuse.Goals as goal
+use Rattle.bg_both_sides.proofs.answering.refuse_with.Goals as goal
 
 pub returns-in-Ok : goal.returns-in-Ok
 returns-in-Ok c =

@@ -1,0 +1,47 @@
+//! The ports at which requests are dialled.
+ghost use Rattle.std.specs.Prelude.{◌≡◌, ◌≢◌, ℕ, [], List, true, IfNone, IfSome};
+ghost use Rattle.bg_endpoints.specs.Choices.{is_new};
+
+use bg_endpoint_side::Health;
+
+/// The ports at which requests are dialled. All loops share them.
+///
+/// No method takes a handle. Ports that wait for a lock have their own handle, so that their callers see no lock.
+pub trait EndpointPorts {
+    /// The relation between the port of a request's ticket, the ports that were dialled for the request, and the port that
+    /// is dialled next.
+    ghost follows: { Self → ℕ → List ℕ → ℕ → Type 0 };
+
+    /// Chooses the port that is dialled next for a ticket's port, after those that were tried, and counts a request there.
+    /// `None` if no port is left; one is left if none was tried.
+    fn choose(&self, ticket: u16, tried: &[u16]) -> Option<u16>
+        ensures follows { IfSome result (λ port. follows self.now ticket tried.now port) }
+        ensures once { IfSome result (λ port. is_new port tried.now ≡ true) }
+        ensures left { IfNone result (tried.now ≢ []) };
+
+    /// Counts a request less at a port, and keeps how the port took it.
+    fn leave(&self, port: u16, health: Health);
+
+    /// Whether a revision that is not scaled down has a port. An idle connection to any other port is closed.
+    fn is_live(&self, port: u16) -> bool;
+}
+
+/// The ports of the tickets alone: each request is dialled at the port of its ticket, once.
+#[derive(Clone, Copy, Drop)]
+pub struct TicketPorts {}
+
+impl EndpointPorts for TicketPorts {
+    ghost use Rattle.std.specs.Prelude.{◌≡◌, []};
+
+    ghost follows = { λ ports ticket tried port. (port ≡ ticket) × (tried ≡ []) };
+
+    fn choose(&self, ticket: u16, tried: &[u16]) -> Option<u16> {
+        if tried.is_empty() { Some(ticket) } else { None }
+    }
+
+    fn leave(&self, _port: u16, _health: Health) {}
+
+    fn is_live(&self, _port: u16) -> bool {
+        true
+    }
+}

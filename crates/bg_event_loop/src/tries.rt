@@ -1,0 +1,100 @@
+//! The ports that are dialled for one request.
+ghost use Rattle.std.specs.Prelude.{◌≡◌, [], Some, if◌then◌else◌};
+ghost use Rattle.bg_event_loop.specs.Tries.{TriesNext, tried};
+
+use crate::endpoint_ports::EndpointPorts;
+use bg_endpoint_side::{DialFault, Health};
+use std::alloc::Global;
+
+/// The ports that were chosen for a request, one after the other.
+#[derive(Drop)]
+pub(crate) struct Tries {
+    /// The port of the request's ticket.
+    ticket: u16,
+    /// The ports whose dials have failed, in their order.
+    failed: Vec<u16>,
+    /// The port that was chosen last.
+    port: u16,
+    /// Whether the request is counted at that port still.
+    is_counted: bool,
+    /// Why the first dial failed.
+    fault: Option<DialFault>,
+}
+
+impl Tries {
+    /// The first choice for the port of a ticket, at which a request is counted.
+    pub(crate) fn begin<P: EndpointPorts>(alloc: Global, ports: &P, ticket: u16) -> Tries
+        ensures follows { P.follows ports.now ticket [] result.port }
+        ensures tried { (result.ticket ≡ ticket) × (result.failed.items ≡ []) }
+    {
+        match ports.choose(ticket, &[]) {
+            Some(port) => Tries {
+                ticket,
+                failed: Vec::new(alloc),
+                port,
+                is_counted: true,
+                fault: None,
+            },
+            None => unreachable!(),
+        }
+    }
+
+    /// The port that was chosen last.
+    pub(crate) fn port(&self) -> u16
+        ensures { result ≡ self.now.port }
+    {
+        self.port
+    }
+
+    /// Chooses the port that is dialled next, since the dial of the last one failed, and counts the request there. Gives
+    /// whether there is one; otherwise the ports stay: none is left, or there is no memory for the list.
+    pub(crate) fn choose_next<P: EndpointPorts>(&mut self, ports: &P) -> bool
+        ensures { TriesNext (P.follows ports.now self.old.ticket) self.old result self.new }
+    {
+        if self.failed.push(self.port).is_err() {
+            return false;
+        }
+        match ports.choose(self.ticket, &self.failed) {
+            Some(port) => {
+                self.port = port;
+                self.is_counted = true;
+                true
+            }
+            None => {
+                self.failed.pop();
+                false
+            }
+        }
+    }
+
+    /// The request is at the last port no longer, which took it so.
+    pub(crate) fn leave<P: EndpointPorts>(&mut self, ports: &P, health: Health)
+        ensures { tried self.new ≡ tried self.old }
+    {
+        if self.is_counted {
+            self.is_counted = false;
+            ports.leave(self.port, health);
+        }
+    }
+
+    /// The dial of the last port failed.
+    pub(crate) fn end_dial<P: EndpointPorts>(&mut self, ports: &P, fault: DialFault) {
+        self.leave(ports, health_of(fault));
+        if self.fault.is_none() {
+            self.fault = Some(fault);
+        }
+    }
+
+    /// Why the first dial failed, if the last one failed by this fault.
+    pub(crate) fn first_fault(&self, last: DialFault) -> DialFault {
+        self.fault.unwrap_or(last)
+    }
+}
+
+/// What a failed dial tells of a port.
+fn health_of(fault: DialFault) -> Health {
+    match fault {
+        DialFault::Failed | DialFault::TimedOut => Health::Fails,
+        DialFault::NoSocket => Health::Unknown,
+    }
+}
