@@ -34,22 +34,25 @@ bin/bg_switch check < examples/direct.json > /dev/null
 scripts/build_if_stale.sh bg_tests_event_loop 0 9 0 close empty
 work=$(mktemp -d)
 trap 'rm -rf "$work"' EXIT
-parts='live live_starting live_timeouts live_resources live_concurrency live_attack live_random live_operator live_controller
-    live_readme live_operating live_clients live_endpoints live_operators live_control live_shutdown live_production
-    live_access_log live_access_log_random live_history live_analysis live_memory live_error_pages live_event_loop'
+# The longest begin first. Two at a time for each processor are as fast as all at once, since the longest is as long, and each
+# has more of the processors.
+parts='live_clients live_history live_endpoints live_operators live_access_log_random live_control live_operator live_concurrency
+    live_access_log live_timeouts live_operating live_random live_analysis live_shutdown live_attack live_controller live_event_loop
+    live_resources live_memory live live_readme live_production live_error_pages live_starting'
 # These run alone, since they start many programs: two controllers and eight switches at a time, a browser, and fleets.
 alone='live_crash live_dashboard live_fleet live_fleet_pages'
+# play COUNT PART..: runs the parts, so many at a time.
 play() {
-    for part in "$@"; do
-        { PYTHONPATH=scripts python3 -B "tests/live/$part.py" > "$work/$part" 2>&1 && : > "$work/$part.passed"; } &
-    done
-    wait
+    count=$1
+    shift
+    # shellcheck disable=SC2016  # the shell of each part has these variables
+    printf '%s\n' "$@" | work=$work PYTHONPATH=scripts xargs -n 1 -P "$count" sh -c \
+        'if python3 -B "tests/live/$0.py" > "$work/$0" 2>&1; then : > "$work/$0.passed"; fi'
 }
 # shellcheck disable=SC2086  # the names of the parts
-play $parts
-for part in $alone; do
-    play "$part"
-done
+play $((2 * $(nproc))) $parts
+# shellcheck disable=SC2086
+play 1 $alone
 failed=0
 for part in $parts $alone; do
     cat "$work/$part"

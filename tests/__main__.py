@@ -25,7 +25,7 @@ from typing import IO
 from support.pace import widened
 
 AT_ONCE = 10
-LONGEST = 120.0  # seconds for one class, on a machine that is free
+LONGEST = 300.0  # seconds for one class, on a machine that is free
 LOOK = 0.5  # seconds between two looks at the clock
 TELLING = 1.0  # seconds for what a class tells that has taken too long
 FORK = multiprocessing.get_context("fork")

@@ -184,7 +184,7 @@ class FleetProcessCase(unittest.TestCase):
                     {
                         "revisions": told,
                         "analyses": {"post": "errors"},
-                        "health": {"interval": 0.1, "timeout": 0.5},
+                        "health": {"interval": 0.1, "timeout": WAIT},
                         **members,
                     }
                 )

@@ -444,7 +444,7 @@ class WithoutAPlan(Operated):
             self.bgctl("deploy", "web-v2", "3", "4", "--wait", "--timeout", "0.5").status, 2
         )
         self.by_hand("available 2 2", "promote")
-        waited = self.bgctl("deploy", "web-v2", "3", "4", "--wait", "--timeout", "5")
+        waited = self.bgctl("deploy", "web-v2", "3", "4", "--wait", "--timeout", "50")
         self.assertEqual((waited.status, "steady: active web-v2" in waited.printed), (0, True))
         self.by_hand("deploy web-v3 5 6")
 
@@ -453,7 +453,7 @@ class WithoutAPlan(Operated):
             return Answer("deploy web-v3 5 6", ["ok 0"], True, None)
 
         with mock.patch.object(Switch, "deploy", side_effect=aborted_by_another):
-            aborted = self.bgctl("deploy", "web-v3", "5", "6", "--wait", "--timeout", "5")
+            aborted = self.bgctl("deploy", "web-v3", "5", "6", "--wait", "--timeout", "50")
         self.assertEqual(
             (aborted.status, "the attempt of web-v3 was aborted" in aborted.told), (1, True)
         )

@@ -229,12 +229,12 @@ class Pipelines(Controlled):
         self.assertIn("makes revision 2 web-v2", deployed.told)
         self.write("web-v1", "web-v2")
         paused = operator(
-            self.switch.port, "wait", "phase=paused", "newest=web-v2", "--timeout", "9"
+            self.switch.port, "wait", "phase=paused", "newest=web-v2", "--timeout", "50"
         )
         self.assertEqual((paused.status, paused.printed.startswith("paused: ")), (0, True), paused)
         self.assertEqual(operator(self.switch.port, "promote").status, 0)
         self.assertEqual(
-            operator(self.switch.port, "wait", "stable=web-v2", "--timeout", "9").status, 0
+            operator(self.switch.port, "wait", "stable=web-v2", "--timeout", "50").status, 0
         )
 
     def test_a_pipeline_hears_of_a_failure(self) -> None:

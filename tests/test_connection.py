@@ -14,6 +14,7 @@ from bg_switch_tools.switch.connection import Connection, UnreachableError, ask,
 from bg_switch_tools.switch.lines import Abort, Tick, words_of
 from bg_switch_tools.switch.replies import Done
 from bg_switch_tools.switch.reports import read_report
+from support.pace import is_within
 from tests.fake_port import ENDS, REPORT, FakePort, free_port
 
 
@@ -172,7 +173,8 @@ class Sockets(unittest.TestCase):
                 UnreachableError, "can't be opened by this user: Permission"
             ):
                 ask(self.path, b"report", 5)
-            self.assertLess(time.monotonic() - start, 1)
+            seconds = time.monotonic() - start
+            self.assertTrue(is_within(seconds, 1), seconds)
 
     def test_a_socket_whose_backlog_is_full(self) -> None:
         with socket.create_server(self.path, family=socket.AF_UNIX, backlog=0):
@@ -191,10 +193,10 @@ class Lines(unittest.TestCase):
             )
 
     def test_each_order_has_a_deadline_of_its_own(self) -> None:
-        with FakePort(usual) as port, Connection(port.port, 0.3) as connection:
+        with FakePort(usual) as port, Connection(port.port, 2) as connection:
             for _ in range(3):
                 self.assertEqual(connection.answer_to("tick 1"), "ok 0")
-                time.sleep(0.2)
+                time.sleep(0.9)
 
     def test_orders_of_this_user_are_not_taken(self) -> None:
         for line in ("report", "abort", "quit"):

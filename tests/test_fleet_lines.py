@@ -89,7 +89,7 @@ class FleetLinesCase(unittest.TestCase):
                     {
                         "revisions": revisions,
                         "analyses": {"post": self.named},
-                        "health": {"interval": 0.1, "timeout": 0.5},
+                        "health": {"interval": 0.1, "timeout": WAIT},
                     }
                 )
             },

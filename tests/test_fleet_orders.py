@@ -288,7 +288,7 @@ class Waits(Orders):
     ) -> None:
         self.begin(state="ready")
         self.store.during_waits = [lambda: self.put_record(stage, reason=reason, **others)]  # type: ignore[arg-type]
-        run = self.fleet(order, "--wait", "--timeout", "9")
+        run = self.fleet(order, "--wait", "--timeout", "50")
         self.assertEqual(run.status, status, run)
         self.assertEqual(
             (run.printed + run.told.splitlines()[-1]).splitlines()[-1 if status else 1], ended

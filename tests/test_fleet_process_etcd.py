@@ -100,7 +100,7 @@ class AgentCase(WithCluster):
                     {
                         "revisions": told,
                         "analyses": {"post": "errors"},
-                        "health": {"interval": 0.1, "timeout": 0.5},
+                        "health": {"interval": 0.1, "timeout": WAIT},
                         **members,
                     }
                 )

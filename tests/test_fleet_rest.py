@@ -7,7 +7,7 @@ import math
 import threading
 import time
 import unittest
-from collections.abc import Callable, Mapping
+from collections.abc import Callable, Mapping, Sequence
 from typing import NamedTuple
 from unittest import mock
 
@@ -36,7 +36,10 @@ from tests.test_fleet_agent import FleetCase
 from tests.test_fleet_line_table import report
 
 QUIET = 0.6  # seconds without a read, which an agent that does not rest never has
-PLANTED = 1.0  # seconds for which something is awaited that a planted fault prevents for a minute
+# For how many seconds something is awaited that a planted fault prevents for a minute: `TIMES` as long as
+# it took without the fault in the same run, and `PLANTED` at least.
+TIMES, PLANTED = 3, 1.0
+PAUSE = 0.02  # seconds between two looks at it
 SMALL = 0.3  # seconds
 # Seconds by which a busy machine is not late, which would end a rest too; three of them are below the
 # bound of a rest.
@@ -46,7 +49,9 @@ PATIENT = 10.0
 class RestCase(FleetProcessCase):
     """An agent of a fleet that has web-v1 live, and nothing to do."""
 
-    longest = LONGEST
+    # for how many seconds something is awaited in vain; None if it is to come
+    in_vain: float | None = None
+    seconds = 0.0  # that what was awaited last took
 
     def setUp(self) -> None:
         super().setUp()
@@ -54,7 +59,15 @@ class RestCase(FleetProcessCase):
 
     def comes(self, holds: Callable[[], object], what: str) -> None:
         """Something comes to hold, before the bound of a rest is over."""
-        self.await_that(holds, what, self.longest)
+        begun = time.monotonic()
+        if self.in_vain is None:
+            self.await_that(holds, what)
+        else:
+            while not holds():
+                if time.monotonic() > begun + self.in_vain:
+                    self.fail(f"in {self.in_vain:.1f} seconds it did not come that {what}")
+                time.sleep(PAUSE)
+        self.seconds = time.monotonic() - begun
 
     def is_quiet(self) -> bool:
         """Whether nothing is read for a while."""
@@ -62,8 +75,8 @@ class RestCase(FleetProcessCase):
         time.sleep(QUIET)
         return self.network.reads == reads
 
-    def rests(self, longest: float = LONGEST) -> None:
-        self.await_that(self.is_quiet, "the agent rests", longest)
+    def rests(self) -> None:
+        self.await_that(self.is_quiet, "the agent rests")
 
     def reads_again(self) -> None:
         reads = self.network.reads
@@ -82,7 +95,7 @@ class RestCase(FleetProcessCase):
 
 
 def nothing(case: RestCase) -> None:
-    case.rests(case.longest)
+    case.comes(case.is_quiet, "the agent rests")
 
 
 def a_change(case: RestCase) -> None:
@@ -241,29 +254,38 @@ RULES: Mapping[str, Rule] = {
 class InTurn(RestCase):
     """Checks of all rules, on a fresh fleet each."""
 
-    def fresh(self, longest: float) -> None:
+    def fresh(self, in_vain: float | None = None) -> None:
         self.doCleanups()
-        self.longest = longest
+        self.in_vain = in_vain
         self.setUp()
 
 
 class Ends(InTurn):
-    def test_each_rule(self) -> None:
-        for name, rule in RULES.items():
+    """Each rule holds, and is missed once it is taken away."""
+
+    def check_rules(self, names: Sequence[str]) -> None:
+        for name in names:
             with self.subTest(name):
-                self.fresh(LONGEST)
+                self.fresh()
+                RULES[name].check(self)
+                self.check_missed(RULES[name])
+
+    def check_missed(self, rule: Rule) -> None:
+        in_vain = max(PLANTED, TIMES * self.seconds)
+        with mock.patch.object(agent, "LATE", PATIENT), mock.patch.object(
+            rest, "LATE", PATIENT
+        ), rule.plant():
+            self.fresh(in_vain)
+            with self.assertRaisesRegex(AssertionError, "it did not come that"):
                 rule.check(self)
 
+    def test_each_second_rule(self) -> None:
+        self.check_rules(list(RULES)[::2])
 
-class EndsWithoutARule(InTurn):
-    def test_each_rule_that_is_taken_away_is_missed(self) -> None:
-        for name, rule in RULES.items():
-            with self.subTest(name), mock.patch.object(agent, "LATE", PATIENT), mock.patch.object(
-                rest, "LATE", PATIENT
-            ), rule.plant():
-                self.fresh(PLANTED)
-                with self.assertRaisesRegex(AssertionError, "it did not come that"):
-                    rule.check(self)
+
+class OtherEnds(Ends):
+    def test_each_second_rule(self) -> None:
+        self.check_rules(list(RULES)[1::2])
 
 
 # ---- what begins a rest ----

@@ -159,7 +159,7 @@ class Waits(Operated):
         self.by_hand("deploy web-v2 3 4")
         timer = threading.Timer(0.5, lambda: self.by_hand("tick 7", "available 2 2"))
         timer.start()
-        told = self.operator("wait", "phase=paused", "newest=web-v2", "--timeout", "9")
+        told = self.operator("wait", "phase=paused", "newest=web-v2", "--timeout", "50")
         self.assertEqual(
             (told.printed, told.status),
             ("paused: active web-v1, preview web-v2, stable web-v1, newest web-v2, moment 7\n", 0),
@@ -170,7 +170,7 @@ class Waits(Operated):
         self.by_hand("deploy web-v2 3 4")
         timer = threading.Timer(0.5, lambda: self.by_hand("deploy web-v3 5 6"))
         timer.start()
-        told = self.operator("wait", "stable=web-v2", "--timeout", "9", "--json")
+        told = self.operator("wait", "stable=web-v2", "--timeout", "50", "--json")
         self.assertEqual(
             (json.loads(told.printed)["reason"], told.status),
             ("stable=web-v2 cannot hold unless a line is sent: web-v3 took the place of web-v2", 1),
@@ -191,7 +191,7 @@ class Waits(Operated):
         timer = threading.Timer(0.4, lambda: self.switch.start("open web-v1 1 2"))
         timer.start()
         self.assertEqual(
-            self.operator("wait", "stable=web-v1", "--timeout", "9", "--wait", "0.2").status, 0
+            self.operator("wait", "stable=web-v1", "--timeout", "50", "--wait", "2").status, 0
         )
 
 

@@ -8,6 +8,7 @@ from bg_switch_tools.controller.edits.announced_deploy import AnnouncedDeploy
 from bg_switch_tools.controller.edits.plan_edit import deploy_by_plan
 from bg_switch_tools.controller.state.plan_author import Author
 from bg_switch_tools.controller.state.state_file import StateFile
+from support.pace import widened
 from support.processes import Run
 from tests.test_bgctl import run
 from tests.test_controller import ControllerCase
@@ -154,7 +155,8 @@ class Failing(Undeployed):
         self.assertTrue(comes(lambda: failing() == list(names)), self.log())
 
     def test_who_waits_is_told(self) -> None:
-        told = self.bgctl("deploy", "web-v4", "1", "2", "--wait", "--timeout", "3")
+        longest = f"{widened(3):.0f}"
+        told = self.bgctl("deploy", "web-v4", "1", "2", "--wait", "--timeout", longest)
         self.assertEqual(
             (
                 told.status,

@@ -25,7 +25,7 @@ from tests.fake_switch import FakeSwitch
 TOP = pathlib.Path(__file__).resolve().parents[1]
 # other tools can be tried in their place
 TOOLS = pathlib.Path(os.environ.get("BG_SWITCH_TOOLS", str(TOP / "bin")))
-WAIT = 60.0  # seconds for which anything is awaited
+WAIT = 120.0  # seconds for which anything is awaited, on a busy machine too
 
 
 def comes(holds: Callable[[], object], longest: float = WAIT) -> bool:
@@ -52,8 +52,9 @@ class Endpoint(endpoints.Endpoint):
 
 
 def plan_of(folder: str, control: int) -> Plan:
-    """A plan whose probes are fast."""
-    return Plan(folder, control, health={"interval": 0.1, "timeout": 0.5, "failures": 2})
+    """A plan whose probes are fast. None takes too long on a slow machine: an endpoint that is down
+    refuses its connection."""
+    return Plan(folder, control, health={"interval": 0.1, "timeout": WAIT, "failures": 2})
 
 
 class ControllerRun:

@@ -28,6 +28,7 @@ from support.browser import NoBrowserError, browsing  # noqa: E402 (its folder i
 from support.dashboards import failing, missing, showing  # noqa: E402
 from support.endpoints import Endpoint  # noqa: E402
 from support.examples import start_switch  # noqa: E402
+from support.pace import widened  # noqa: E402
 from support.traffic import Traffic, prepared_log  # noqa: E402
 
 # isort: split; `support` tells where the tools' package is
@@ -53,7 +54,8 @@ ANALYSIS = [
     "50",
 ]
 WIDTH = 1180
-LONGEST = 60
+LONGEST = 60  # seconds for which anything is awaited; longer on a busy machine
+PROBE = 20  # seconds for a probe: an endpoint that is down refuses it, and others may be slow
 
 
 def write_plan(folder: pathlib.Path, log: pathlib.Path, *names: str) -> None:
@@ -61,7 +63,7 @@ def write_plan(folder: pathlib.Path, log: pathlib.Path, *names: str) -> None:
     analysis = [str(TOP / "bin" / "analysis"), "--log", str(log), *ANALYSIS]
     told = {
         "control": CONTROL,
-        "health": {"interval": 0.5},
+        "health": {"interval": 0.5, "timeout": PROBE},
         "analyses": {"post": analysis},
         "revisions": [{"name": name, "ports": REVISIONS[name]} for name in names],
     }
@@ -100,7 +102,10 @@ def ended(process: subprocess.Popen[str]) -> Iterator[None]:
 
 
 def await_state(*conditions: str) -> None:
-    waited = wait_for(Switch(CONTROL, LONGEST), Conditions(conditions), LONGEST, lambda _: None)
+    switch, awaited = Switch(CONTROL, LONGEST), Conditions(conditions)
+    waited = wait_for(switch, awaited, LONGEST, lambda _: None)
+    if waited.status != 0:
+        waited = wait_for(switch, awaited, widened(LONGEST) - LONGEST, lambda _: None)
     if waited.status != 0:
         sys.exit(f"{' '.join(conditions)} did not come: {waited.reason}")
 

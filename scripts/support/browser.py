@@ -16,7 +16,8 @@ from support.ports import HOST, is_open
 
 DRIVERS = ("chromedriver", "/usr/lib/chromium/chromedriver")
 BROWSERS = ("chromium", "chromium-browser", "google-chrome")
-LONGEST = 60  # seconds for a call
+LONGEST = 150  # seconds for a call
+LONGEST_END = 5  # seconds until the driver is killed
 ELEMENT = "element-6066-11e4-a52e-4f735466cecf"  # the key of an element, by WebDriver
 ARGUMENTS = (
     "--headless=new",
@@ -83,7 +84,7 @@ class Browser:
                 self.call("DELETE", "", None)
         self.driver.terminate()
         try:
-            self.driver.wait(5)
+            self.driver.wait(LONGEST_END)
         except subprocess.TimeoutExpired:
             self.driver.kill()
             self.driver.wait(LONGEST)

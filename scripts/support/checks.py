@@ -2,6 +2,7 @@
 import concurrent.futures
 import faulthandler
 import os
+import statistics
 import sys
 import threading
 import time
@@ -10,7 +11,7 @@ from collections.abc import Callable, Sequence
 from typing import NoReturn
 
 from support import TOP
-from support.pace import at_the_limit, is_within, widened
+from support.pace import at_the_limit, is_busy, is_within, widened
 
 # How long a check waits, in seconds, for what is to come soon. This limit, and each below, is wider
 # on a busy machine.
@@ -81,16 +82,22 @@ def check_beside(
 ) -> None:
     """Counts whether each of these calls took at most `most` seconds; or, on a busy machine, no
     longer than TIMES as long as the slowest of the same calls that were made in turn with them, but
-    not beside what could hold them up.
+    not beside what could hold them up. There a single call may be late by chance, so the medians may
+    be compared, too.
     """
-    slowest = max(seconds)
-    slowest_elsewhere = max(elsewhere, default=0.0)
-    if slowest <= TIMES * slowest_elsewhere or is_within(slowest, most):
+    slowest, slowest_elsewhere = max(seconds), max(elsewhere, default=0.0)
+    median, median_elsewhere = statistics.median(seconds), statistics.median(elsewhere or [0.0])
+    if (
+        slowest <= TIMES * slowest_elsewhere
+        or is_within(slowest, most)
+        or (median <= TIMES * median_elsewhere and is_busy())
+    ):
         COUNTS.add(True)
     else:
         fail(
             name,
-            f"{slowest:.3f} seconds, which is above {most:g}; elsewhere {slowest_elsewhere:.3f}",
+            f"{slowest:.3f} seconds, which is above {most:g}; elsewhere {slowest_elsewhere:.3f}; "
+            f"the medians are {median:.3f} and {median_elsewhere:.3f}",
         )
 
 

@@ -6,6 +6,7 @@ import contextlib
 import http.client
 import socket
 import struct
+import sys
 import threading
 import time
 from collections.abc import Callable, Iterable, Iterator, Sequence
@@ -16,9 +17,11 @@ from bg_switch_tools.switch.control import Control
 from support.messages import head_of, request
 from support.ports import HOST
 
-# No wait of a client is longer, in seconds.
-LONGEST = 60
+# No wait of a client is longer, in seconds. It is shorter than a script may run.
+LONGEST = 150
 SMALL_BUFFER = 4096
+# Where the system tells how many milliseconds ago the last data came: `tcpi_last_data_recv`.
+LAST_DATA = slice(52, 56)
 Body = bytes | Iterable[bytes] | None
 Given = TypeVar("Given")
 
@@ -36,6 +39,12 @@ def connect(at: Control, receive_buffer: int | None = None) -> socket.socket:
         client.close()
         raise
     return client
+
+
+def silence(connection: socket.socket) -> float:
+    """For how many seconds nothing has come to the system for a connection (tcp(7))."""
+    info = connection.getsockopt(socket.IPPROTO_TCP, socket.TCP_INFO, LAST_DATA.stop)
+    return int.from_bytes(info[LAST_DATA], sys.byteorder) / 1000
 
 
 def received(connection: socket.socket) -> bytes:

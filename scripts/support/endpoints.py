@@ -20,8 +20,9 @@ from support.ports import HOST, is_open
 
 END_OF_HEAD = b"\r\n\r\n"
 BACKLOG = 1024
-# How long an endpoint waits for its peer, in seconds.
-LONGEST = 120
+# How long an endpoint waits for its peer, in seconds: longer than any script runs, since it may hold
+# a request on a busy machine.
+LONGEST = 3600
 
 
 class Request(NamedTuple):

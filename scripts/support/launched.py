@@ -11,7 +11,8 @@ from collections.abc import Callable
 from typing import NamedTuple
 
 from support import PROGRAM, TOP, clients, processes
-from support.checks import check, comes
+from support.checks import check, check_soon, comes
+from support.pace import widened
 from support.plans import Plan
 from support.ports import free_ports
 from support.switch import LISTENING, words_of_serve
@@ -22,7 +23,7 @@ from bg_switch_tools.switch.reports import Report, read_report
 
 WAIT = 40.0  # seconds for which anything is awaited
 CLIENTS = 3
-SETTLING = 3.0  # seconds after a switch listens again within which requests may still fail
+SETTLING = 3.0  # seconds in which a switch serves again that listens; requests may fail until then
 ROLLOUT = """{"spec": {"replicas": 2, "strategy": {"blueGreen": {"activeService": "web",
 "previewService": "web-preview", "scaleDownDelaySeconds": 1}}}}"""
 
@@ -180,8 +181,9 @@ class Launched:
         self.plan = Plan(
             folder,
             self.control,
-            health={"interval": 0.2, "timeout": 2, "failures": 2},
-            timeout=20,
+            # none is too short for a busy machine: an endpoint that is down refuses its probe
+            health={"interval": 0.2, "timeout": 60, "failures": 2},
+            timeout=120,
             start=[*command, "start", *words],
             stop=[*command, "stop", *words],
         )
@@ -252,7 +254,7 @@ class Launched:
         self.switch.kill()
         time.sleep(self.random.random() / 2)
         self.switch.start()
-        self.outages.append((begun - SETTLING, time.monotonic() + SETTLING))
+        self.await_service(begun)
 
     def kill_both(self) -> None:
         begun = time.monotonic()
@@ -261,7 +263,20 @@ class Launched:
         time.sleep(self.random.random() / 2)
         self.switch.start()
         self.controller.start()
-        self.outages.append((begun - SETTLING, time.monotonic() + SETTLING))
+        self.await_service(begun)
+
+    def await_service(self, killed: float) -> None:
+        """A check that the switch that was killed then serves again soon. Requests may fail up to a
+        moment after that, at which their clients have seen it."""
+        start = time.monotonic()
+        check("it serves again", comes(self.is_served, WAIT), True)
+        check_soon("it serves again", time.monotonic() - start, SETTLING)
+        self.outages.append((killed - SETTLING, time.monotonic() + widened(SETTLING)))
+
+    def is_served(self) -> bool:
+        """Whether an endpoint of the active revision takes requests."""
+        report = self.report()
+        return report is not None and report.service("active").available > 0
 
     def kill_at_random(self, kills: int, *what: Callable[[], None]) -> None:
         """Kills one of these at a random moment, `kills` times."""

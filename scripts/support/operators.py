@@ -7,7 +7,7 @@ from bg_switch_tools.switch.reports import Report, read_report
 from support.checks import check
 
 # How long an operator waits for an answer, in seconds.
-LONGEST = 30
+LONGEST = 120
 
 
 class Operator(Connection):

@@ -4,6 +4,7 @@ If a limit is what is checked, a check compares with a control in the same run, 
 order of events.
 """
 import os
+import pathlib
 import statistics
 import subprocess
 import sys
@@ -16,20 +17,39 @@ from collections.abc import Callable
 WORK = (sys.executable, "-I", "-S", "-c", "for _ in range(300_000): pass")
 FREE = 0.025
 RUNS = 5
+BUSY = 1.5  # from this slowness on a machine is busy
+# The number of threads that run or wait for a processor is in its fourth word.
+LOADS = pathlib.Path("/proc/loadavg")
 
 
 def slowness() -> float:
     """How many times as long as on a free machine the work takes now, or took in the last minute,
-    by the number of processes that had to share a processor; 1 at least. It takes a tenth of a
+    by the number of threads that had to share a processor; 1 at least. It takes a tenth of a
     second."""
-    shared = os.getloadavg()[0] / len(os.sched_getaffinity(0))
-    return max(1.0, shared, statistics.median(seconds_of_work() for _ in range(RUNS)) / FREE)
+    seconds, threads = list[float](), list[int]()
+    for _ in range(RUNS):
+        seconds.append(seconds_of_work())
+        threads.append(runnable_threads())
+    sharing = max(statistics.median(threads), os.getloadavg()[0])
+    shared = sharing / len(os.sched_getaffinity(0))
+    return max(1.0, shared, statistics.median(seconds) / FREE)
 
 
 def seconds_of_work() -> float:
     start = time.monotonic()
     subprocess.run(WORK, stdin=subprocess.DEVNULL, check=True)
     return time.monotonic() - start
+
+
+def runnable_threads() -> int:
+    """How many threads of the machine run or wait for a processor now, but for the one that
+    asks."""
+    return int(LOADS.read_text(encoding="ascii").split()[3].partition("/")[0]) - 1
+
+
+def is_busy() -> bool:
+    """Whether the machine is so slow that a limit in seconds says little."""
+    return slowness() >= BUSY
 
 
 def widened(limit: float) -> float:

@@ -11,7 +11,7 @@ from collections.abc import Sequence
 from typing import Any, NamedTuple
 
 from support.checks import comes
-from support.pace import at_the_limit
+from support.pace import at_the_limit, widened
 
 # No program that these scripts start runs for longer, in seconds.
 LONGEST = 160
@@ -28,14 +28,40 @@ class Run(NamedTuple):
 
 
 def run_to_end(words: Sequence[str], given: str = "", longest: float = LONGEST) -> Run:
-    """A run of a program that ends by itself, with this standard input."""
-    run = subprocess.run(
-        words, input=given, capture_output=True, text=True, timeout=longest, check=False
-    )
-    return Run(run.stdout, run.stderr, run.returncode)
+    """A run of a program that ends by itself, with this standard input: see `output_of`."""
+    with subprocess.Popen(
+        words, stdin=subprocess.PIPE, stdout=subprocess.PIPE, stderr=subprocess.PIPE, text=True
+    ) as process:
+        try:
+            output = output_of(process, given, longest)
+        except BaseException:
+            process.kill()
+            raise
+    return Run(*output, process.returncode)
 
 
-def limit(process: subprocess.Popen[str], longest: float = LONGEST) -> None:
+def output_of(
+    process: subprocess.Popen[str], text: str | None = None, longest: float = LONGEST
+) -> tuple[str, str]:
+    """What a process with this standard input has printed and told up to its end.
+    `TimeoutExpired` if it does not end within `longest` seconds, or as many more as the machine is
+    slower than a free one."""
+    try:
+        return process.communicate(text, longest)
+    except subprocess.TimeoutExpired:
+        return process.communicate(timeout=widened(longest) - longest)
+
+
+def status_of(process: "subprocess.Popen[Any]", longest: float = LONGEST) -> int:
+    """The status of a process that ends. `TimeoutExpired` if it does not end within `longest`
+    seconds, or as many more as the machine is slower than a free one."""
+    try:
+        return process.wait(longest)
+    except subprocess.TimeoutExpired:
+        return process.wait(widened(longest) - longest)
+
+
+def limit(process: "subprocess.Popen[Any]", longest: float = LONGEST) -> None:
     """Ends a process after a while, and with this script, so that whoever waits for it fails and
     doesn't hang."""
     atexit.register(process.kill)

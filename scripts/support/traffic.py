@@ -33,7 +33,9 @@ def ask(port: int, target: str = "/") -> AnsweredRequest:
 
 
 class Traffic:
-    """Clients that ask without pause. `failed` counts requests that failed by the switch itself."""
+    """Clients that ask without pause. `failed` counts requests that failed by the switch itself.
+    Answers are counted in parts, by when the request began: one that is open as a part ends may be
+    answered late."""
 
     def __init__(self, port: int, clients: int, pause: float) -> None:
         self.port = port
@@ -42,6 +44,7 @@ class Traffic:
         # statuses from 500 on that a revision answered
         self.errors: collections.Counter[str] = collections.Counter()
         self.failed = 0
+        self.parts = 0
         self.lock = threading.Lock()
         self.ended = threading.Event()
         self.clients = [threading.Thread(target=self.ask, daemon=True) for _ in range(clients)]
@@ -54,15 +57,18 @@ class Traffic:
 
     def ask(self) -> None:
         while not self.ended.wait(self.pause):
+            part = self.parts
             asked = ask(self.port)
             with self.lock:
                 self.failed += not asked.revision
-                self.answered[asked.revision] += bool(asked.revision)
+                if part == self.parts:
+                    self.answered[asked.revision] += bool(asked.revision)
                 self.errors[asked.revision] += asked.status is not None and asked.status >= 500
 
     def part(self) -> collections.Counter[str]:
-        """What was answered since the last part."""
+        """What was answered of the requests that began since the last part."""
         with self.lock:
+            self.parts += 1
             answered, self.answered = self.answered, collections.Counter()
         return answered
 

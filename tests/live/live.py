@@ -34,7 +34,6 @@ from support.ports import free_port
 from support.switch import LISTENING, Switch, opened
 
 LARGE = bytes(range(256)) * 4096
-LONGEST = 20  # seconds for which curl may run
 Got = tuple[int, bytes] | None
 
 
@@ -110,7 +109,9 @@ def carried_messages(session: Session) -> None:
         session.entered += 1
         session.switch.take(session.active)
         words = ["curl", "-s", "-i", f"http://127.0.0.1:{session.active}/"]
-        got = subprocess.run(words, capture_output=True, timeout=LONGEST, check=False).stdout
+        got = subprocess.run(
+            words, capture_output=True, timeout=clients.LONGEST, check=False
+        ).stdout
         check(
             "curl",
             (got.startswith(b"HTTP/1.1 200 OK\r\n"), got.endswith(b"\r\n\r\none")),

@@ -28,8 +28,8 @@ from bg_switch_tools.switch.access_log import LogEntry, read_lines
 
 SEED = 7
 CONNECTIONS, CLIENTS, WORKERS = 2000, 32, 7
-TIMEOUT = 4  # seconds within which a response has to be whole
-LONGEST_ASK = 30  # seconds within which a request reaches its endpoint, or is answered
+TIMEOUT = 12  # seconds within which a response has to be whole, on a busy machine too
+LONGEST_ASK = 150  # seconds within which a request reaches its endpoint, or is answered
 KEPT_OF_TARGET = 1024
 LAST = "/last"  # the target of requests whose lines tell the last of what is counted
 SLACK = 2  # milliseconds by which a rounded time may be off

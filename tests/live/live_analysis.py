@@ -13,7 +13,7 @@ import threading
 import time
 from collections.abc import Callable, Iterator
 
-from support import TOP, checks
+from support import TOP, checks, processes
 from support.browser import NoBrowserError, browsing
 from support.checks import check, comes
 from support.clients import connect, reset
@@ -23,6 +23,7 @@ from support.messages import request
 from support.operators import Operator
 from support.plans import Plan
 from support.ports import free_port, free_ports
+from support.processes import status_of
 from support.switch import Switch
 from support.traffic import Traffic, ask, prepared_log
 
@@ -40,8 +41,9 @@ CLIENTS, PAUSE = 2, 0.02
 # How long, in seconds, endpoints take if clients leave: those that are asked for this, and the
 # others; and the time between two clients that leave.
 LATE_TARGET = b"/late"
-LATE, SOON, BETWEEN_LEAVING = 3.0, 0.1, 0.3
-WAIT = 30  # seconds for which anything is awaited
+LATE, SOON, BETWEEN_LEAVING = 3.0, 0.4, 0.3
+WAIT = 30  # seconds for which anything is awaited; longer on a busy machine
+PROBE = 60  # seconds for a probe: an endpoint that is down refuses it, and others may be slow
 LIMITS = ("--seconds", "1m", "--every", "1s", "--errors-at-most", "1%", "--requests-at-least", "20")
 PROMETHEUS = "prometheus"
 SHARE = (
@@ -123,7 +125,7 @@ class Running:
 
     def status(self) -> int | None:
         with contextlib.suppress(subprocess.TimeoutExpired):
-            return self.process.wait(WAIT)
+            return status_of(self.process, 3 * WAIT)
         self.process.kill()
         return None
 
@@ -134,8 +136,7 @@ def running(path: pathlib.Path, *words: str) -> Iterator[Running]:
     try:
         yield run
     finally:
-        run.process.terminate()
-        run.process.wait(WAIT)
+        processes.end(run.process, WAIT)
 
 
 def in_a_plan() -> None:
@@ -145,7 +146,7 @@ def in_a_plan() -> None:
         plan = Plan(
             str(played.folder),
             played.switch.control,
-            health={"path": "/", "interval": 0.3, "failures": 2},
+            health={"path": "/", "interval": 0.3, "timeout": PROBE, "failures": 2},
             # on a slow machine the controller must not end the attempt before the analysis fails
             progress={"outage": 600},
             analyses={"post": [ANALYSIS, "--log", str(played.log), *LIMITS]},
@@ -338,7 +339,7 @@ def several_in_a_plan() -> None:
         plan = Plan(
             str(played.folder),
             played.switch.control,
-            health={"path": "/", "interval": 0.3, "failures": 9},
+            health={"path": "/", "interval": 0.3, "timeout": PROBE, "failures": 9},
             analyses={"post": post},
         )
         plan.write([("web-v1", [played.ports["web-v1"]])])

@@ -26,15 +26,17 @@ from support.messages import (
 from support.ports import unread_at
 from support.switch import LaterEnd, Switch, opened, serving
 
-# How long, in seconds, a message may take in the parts that wait for the timeout.
-TIMEOUT = 2
+# How long, in seconds, a message may take in the parts that wait for the timeout; and if others have to
+# be answered within it, on a busy machine too.
+TIMEOUT, LONGER_TIMEOUT = 2, 8
+DRIPS = 60  # bytes that a client sends which drips: more than there is time for
 LONGEST_HEAD = 16384
 ONE = answer(b"one")
 
 
 def drip_again(port: int, text: bytes, rounds: int) -> list[clients.Timed]:
     """What a client is answered that sends this and then a byte every second, again and again."""
-    return [clients.dripped(port, [text, *[b"a"] * clients.LONGEST], 1) for _ in range(rounds)]
+    return [clients.dripped(port, [text, *[b"a"] * DRIPS], 1) for _ in range(rounds)]
 
 
 def dripping_clients() -> None:
@@ -88,7 +90,7 @@ def clients_that_close() -> None:
 def hostile_endpoints() -> None:
     """Endpoints that close, hang or send rubbish, beside polite clients."""
     switch, operator = opened(
-        Endpoint(by_target(b"one")).port, workers=3, count=30, timeout=TIMEOUT
+        Endpoint(by_target(b"one")).port, workers=3, count=30, timeout=LONGER_TIMEOUT
     )
     targets = [*BROKEN, *SILENT]
     with concurrent.futures.ThreadPoolExecutor(len(targets) + 2) as pool:
@@ -107,14 +109,14 @@ def hostile_endpoints() -> None:
 
 
 def silent_peers() -> None:
-    """A client and an endpoint that say nothing, or nothing more, are given up at the timeout,
-    which is a second here. A head without an end is refused as soon as it is as long as one may
-    be."""
-    switch, operator = opened(Endpoint(by_target(b"one")).port, workers=5, count=1, timeout=1)
+    """A client and an endpoint that say nothing, or nothing more, are given up at the timeout. A
+    head without an end is refused as soon as it is as long as one may be."""
+    timeout = 4
+    switch, operator = opened(Endpoint(by_target(b"one")).port, workers=5, count=1, timeout=timeout)
     endless = b"GET /" + b"a" * (LONGEST_HEAD - 5)
     silent = [b"", b"GET / HT", request(b"/hangs"), request(b"/halts")]
     switch.take(switch.active, 5)
-    later = LaterEnd(5)
+    later = LaterEnd(3 * timeout)
     with concurrent.futures.ThreadPoolExecutor(5) as pool:
         refused, *ends = pool.map(
             lambda text: clients.timed(switch.active, [text]), [endless, *silent]
@@ -124,7 +126,7 @@ def silent_peers() -> None:
     check("silent peers", [end.answer for end in ends], [b"", b"", BAD_GATEWAY, BAD_GATEWAY])
     check(
         "they are given up in time",
-        [0.5 <= end.seconds and later.is_after(end.seconds) for end in ends],
+        [timeout - 0.5 <= end.seconds and later.is_after(end.seconds) for end in ends],
         [True] * 4,
     )
     switch.check_end_after(operator, "the end after silent peers", 4)

@@ -9,10 +9,11 @@ import time
 from collections import Counter
 from collections.abc import Callable, Iterator
 from functools import partial
+from typing import NamedTuple
 
 from support import checks, clients, faults, processes
 from support.checks import check, check_soon, comes
-from support.clients import SMALL_BUFFER, Crowd, at_once, connect, received, reset, timed, timed_for
+from support.clients import SMALL_BUFFER, Crowd, at_once, connect, received, reset, timed
 from support.endpoints import Endpoint, Held, Request, by_target, held_at
 from support.messages import (
     BAD_REQUEST,
@@ -30,12 +31,17 @@ from support.ports import HOST, connections_at, is_refused, unread_at
 from support.switch import LaterEnd, Switch, opened, serving
 
 # How long, in seconds, a polite client waits at most beside slow ones. If one of them kept a
-# worker, it would wait for the timeout of the switch or longer.
+# worker, it would wait for the timeout of the switch or longer. That is so long that it ends nothing
+# on a busy machine.
 POLITE = 8.0
-TIMEOUT = 40
+TIMEOUT = 600
 ABORT_ON_CLOSE = "--abort-on-close"
 # What a wait may take, in seconds, beyond its limit.
 SLACK = 5.0
+# How many clients read steadily at once, how often they come at most, and the pause, in seconds,
+# below which one of them was steady: below the quarter of a second after which the port may let a
+# silent reader go.
+READERS, ROUNDS_OF_READERS, STEADY = 80, 3, 0.2
 BIG = b"x" * 4000000
 HEAD_OF_CHUNKS = b"POST / HTTP/1.1\r\nHost: x\r\nTransfer-Encoding: chunked\r\n\r\n"
 MEGABYTE = 1 << 20
@@ -142,15 +148,14 @@ def sent_and_reset(port: int, text: bytes) -> bytes:
 
 
 def answered(port: int, pieces: list[bytes], pause: float) -> bytes:
-    """What a client is answered that sends these pieces, or nothing if that takes too long."""
-    return timed_for(port, 2 * POLITE, pieces, pause).answer
+    """What a client is answered that sends these pieces."""
+    return timed(port, pieces, pause).answer
 
 
 def ended_early(port: int, text: bytes) -> bytes | None:
     """What a client is answered that sends this and ends its side; if its connection isn't ended,
     that is said."""
     with connect(port) as client:
-        client.settimeout(2 * POLITE)
         try:
             return clients.answer_of(client, text)
         except TimeoutError:
@@ -161,7 +166,8 @@ def served_once() -> None:
     """Each connection is given to one worker once, whichever way its request comes: the endpoint
     counts the requests, and the run ends with the last connection."""
     counting = Counting()
-    switch, operator = opened(Endpoint(counting).port, workers=6, count=50, timeout=3)
+    # requests in pieces have to be whole by then, on a busy machine too
+    switch, operator = opened(Endpoint(counting).port, workers=6, count=50, timeout=15)
     port, calls, expected = switch.active, list[Callable[[], bytes | None]](), list[bytes]()
     for number in range(60):
         target, body = b"/%d" % number, b"%d" % number
@@ -201,7 +207,7 @@ def served_once() -> None:
 
 def late_requests() -> None:
     """A request that isn't whole in time is ended without an answer, and not before."""
-    timeout = 3
+    timeout = 5
     firsts = {
         "that is silent": b"",
         "in its head": b"GET / HTTP/1.1\r\nHo",
@@ -273,13 +279,37 @@ def continues() -> None:
         )
 
 
+class LateReader:
+    """A client that reads a little of its answer each second, and all the rest in the end. One that
+    took nothing for too long would be let go."""
+
+    def __init__(self, port: int) -> None:
+        self.connection = connect(port, SMALL_BUFFER)
+        self.connection.sendall(request(b"/big"))
+        self.may_hurry = threading.Event()
+        self.got = b""
+        self.thread = threading.Thread(target=self.read, daemon=True)
+        self.thread.start()
+
+    def read(self) -> None:
+        with self.connection, contextlib.suppress(OSError):
+            while not self.may_hurry.wait(1.0):
+                self.got += self.connection.recv(1024)
+            self.got += received(self.connection)
+
+    def rest(self) -> bytes:
+        """The whole answer."""
+        self.may_hurry.set()
+        self.thread.join()
+        return self.got
+
+
 def slow_readers() -> None:
     """Forty clients read an answer of 4 MB at a kilobyte a second: they hold no worker, no request
     and no revision, and one that reads on gets all of its answer."""
     one, two = Endpoint(by_target(b"one")), Endpoint(by_target(b"two"))
     switch, operator = opened(one.port, workers=3, timeout=TIMEOUT)
-    late = connect(switch.active, SMALL_BUFFER)
-    late.sendall(request(b"/big"))
+    late = LateReader(switch.active)
     with clients.slow_readers(switch.active, 40, b"/big"):
         check("slow readers have reached the endpoint", comes(lambda: one.served == 41), True)
         start = time.monotonic()
@@ -297,8 +327,7 @@ def slow_readers() -> None:
             "revision 1 one desired 0 available 0 open 0 deadline none",
         )
         check_polite("slow readers of the revision before", switch.active, 5, b"two")
-        with late:
-            check("a slow reader gets the whole of its answer", received(late) == answer(BIG), True)
+        check("a slow reader gets the whole of its answer", late.rest() == answer(BIG), True)
     operator.close()
     switch.stop()
 
@@ -340,26 +369,47 @@ def many_answers() -> None:
 
 
 def steady_readers() -> None:
-    """Clients that read fast enough get the whole of their answers, however many there are."""
+    """Clients that read fast enough get the whole of their answers, however many there are. A busy
+    machine makes some of them silent: as many come as are needed until enough were steady."""
+    steady = 0
     with serving(Endpoint(by_target(b"one")).port, workers=7, timeout=TIMEOUT) as switch:
-        got = at_once([partial(read_steadily, switch.active)] * 80)
-    check(
-        "steady readers get the whole of their answers",
-        Counter(got),
-        Counter({len(answer(BIG)): 80}),
-    )
+        for _ in range(ROUNDS_OF_READERS):
+            reads = at_once([partial(read_steadily, switch.active)] * READERS)
+            cut = [one for one in reads if one.bytes_read < len(answer(BIG)) and one.is_steady()]
+            check("steady readers get the whole of their answers", cut, [])
+            steady += sum(one.is_steady() for one in reads)
+            if steady >= READERS // 2:
+                break
+    check("readers were steady", steady > 0, True)
 
 
-def read_steadily(port: int) -> int:
-    """How many bytes come to a client that reads 64,000 bytes each 40 milliseconds. A pause is far
-    below the quarter of a second after which the port may let a silent reader go."""
-    count = 0
+class SteadyRead(NamedTuple):
+    """How many bytes came to a client, and for how many seconds it took none at most."""
+
+    bytes_read: int
+    pause: float
+
+    def is_steady(self) -> bool:
+        return self.pause < STEADY
+
+
+def read_steadily(port: int) -> SteadyRead:
+    """What comes to a client that reads 64,000 bytes each 40 milliseconds."""
+    count, longest = 0, 0.0
     with connect(port, 65536) as client:
         client.sendall(request(b"/big"))
-        while piece := client.recv(64000, socket.MSG_WAITALL):
-            count += len(piece)
-            time.sleep(0.04)
-    return count
+        with contextlib.suppress(ConnectionError):
+            client.recv(1, socket.MSG_PEEK)
+        latest = time.monotonic() - clients.silence(client)
+        has_more = True
+        while has_more:
+            piece = b""
+            with contextlib.suppress(ConnectionError):
+                piece = client.recv(64000, socket.MSG_WAITALL)
+            longest, latest = max(longest, time.monotonic() - latest), time.monotonic()
+            count, has_more = count + len(piece), piece != b""
+            time.sleep(0.04 if has_more else 0)
+    return SteadyRead(count, longest)
 
 
 def large_bodies() -> None:
@@ -433,9 +483,7 @@ def few_descriptors() -> None:
         Endpoint(by_target(b"one")).port, workers=1, timeout=TIMEOUT, descriptors=30
     ) as switch:
         with Crowd(switch.active, 12, b""), clients.dripping(switch.active, 4, b"GET /"):
-            check_polite(
-                "silent clients and thirty descriptors", switch.active, 5, b"one", TIMEOUT / 2
-            )
+            check_polite("silent clients and thirty descriptors", switch.active, 5, b"one", 20.0)
         check(
             "it has let go of them", comes(lambda: connections_at(switch.active) == 0, SLACK), True
         )
@@ -484,13 +532,11 @@ def room_is_noticed() -> None:
     """A client that came while the port was full is accepted by a free worker once there is room,
     whatever the others do."""
 
-    def slow(asked: Request, connection: socket.socket) -> None:
-        time.sleep(12 if asked.target == b"/slow" else 0)
-        connection.sendall(response(b"one"))
-
     for _ in range(4):
+        held = Held(b"held")
+        endpoint = Endpoint(held_at(b"/slow", held, by_target(b"one")))
         with serving(
-            Endpoint(slow).port, workers=2, descriptors=64
+            endpoint.port, workers=2, descriptors=64, timeout=TIMEOUT
         ) as switch, contextlib.ExitStack() as stack:
             uploads: list[socket.socket] = []
             stack.enter_context(going_on(uploads))
@@ -502,9 +548,10 @@ def room_is_noticed() -> None:
             check("a client that waited for room", received(late), answer(b"one"))
             check(
                 "a worker was free: the other one still waits for its endpoint",
-                has_bytes(uploads[-1]),
-                False,
+                (has_bytes(uploads[-1]), held.holds(1)),
+                (False, True),
             )
+            held.is_free.set()
 
 
 def memory_of_pending_requests() -> None:
@@ -579,7 +626,7 @@ def busy(switch: Switch, held: Held, count: int) -> Iterator[None]:
 def all_workers_busy() -> None:
     """While all workers wait for endpoints, a pending answer is written, a request is read, and one
     is ended at its time."""
-    held, timeout = Held(b"held"), 12
+    held, timeout = Held(b"held"), 24
     endpoint = Endpoint(held_at(b"/held", held, by_target(b"one")))
     with serving(
         endpoint.port, workers=2, timeout=timeout

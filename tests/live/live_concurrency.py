@@ -17,12 +17,15 @@ from support import checks, clients, processes
 from support.checks import check, check_soon, check_within, comes
 from support.endpoints import Endpoint, Request
 from support.messages import BAD_GATEWAY, BY_HAND, UNAVAILABLE, answer, request, response
-from support.ports import free_ports
+from support.ports import connections_at, free_ports
 from support.processes import descriptors, resident_memory, threads
 from support.switch import Switch
 
 # How long a worker's thread may keep waiting if it has ended its work, in seconds.
 SOON = 10
+# For how many seconds endpoints may be silent: a busy machine needs some until hundreds of requests
+# have come.
+TIMEOUT = 600
 # A line of strace that begins a call of a thread.
 CALL = re.compile(r"\[pid +(?P<thread>\d+)\] \w+\(")
 # For how long it is seen what the switch doesn't do, in seconds.
@@ -30,6 +33,7 @@ SEEN = 0.3
 # For how many seconds a switch makes few calls that has nothing to do.
 QUIET = 3
 SEED = 52
+EACH_ORDER = 10  # requests at least, for each order beside them
 # The descriptors that a switch with a thousand workers needs, by its soft and its hard limit.
 MANY = (8192, 8192)
 
@@ -48,7 +52,7 @@ class Gate:
         if asked.target == b"/held":
             with self.lock:
                 self.held += 1
-            self.opening.wait(checks.LONGEST_WAIT)
+            self.opening.wait(TIMEOUT)
         connection.sendall(response(b"ok"))
 
 
@@ -68,7 +72,13 @@ def serving(
 ) -> Iterator[Switch]:
     """A switch with these words in place of `--workers`, that serves the endpoint. `descriptors`
     are its soft and its hard limit."""
-    switch = Switch(BY_HAND, instead_of_workers=words, preview=preview, descriptors=descriptors)
+    switch = Switch(
+        BY_HAND,
+        instead_of_workers=words,
+        preview=preview,
+        descriptors=descriptors,
+        timeout=TIMEOUT,
+    )
     try:
         check("opened", switch.answer_to(f"open one {gate.endpoint.port}"), "ok 0")
         check("available", switch.answer_to("available 1 1"), "ok 0")
@@ -217,8 +227,12 @@ class Soak:
         self.requests = requests
         self.endpoints = [Endpoint(self.answer, port) for port in free_ports(2)]
         self.switch = Switch(
-            BY_HAND, instead_of_workers=("--concurrency", str(workers)), descriptors=MANY
+            BY_HAND,
+            instead_of_workers=("--concurrency", str(workers)),
+            descriptors=MANY,
+            timeout=TIMEOUT,
         )
+        self.begun = 0  # requests
         self.ends: dict[bytes | None, int] = {}
         self.lock = threading.Lock()
         self.over = threading.Event()
@@ -232,6 +246,8 @@ class Soak:
 
     def client(self, kind: int) -> None:
         """One client: it gets its answer, closes early, sends a part, or resets."""
+        with self.lock:
+            self.begun += 1
         port = self.switch.preview if kind % 7 == 0 else self.switch.active
         target = (b"/", b"/late", b"/closes")[kind % 3]
         with contextlib.suppress(OSError), clients.connect(port) as client:
@@ -268,8 +284,12 @@ class Soak:
             "available 1 1",
             "available 2 1",
         ]
-        moment = 1
+        moment, count = 1, 0
         while not self.over.wait(0.02):
+            # a slow machine does not make more orders of the same requests
+            if self.begun < count * EACH_ORDER:
+                continue
+            count += 1
             line = rng.choice(lines)
             if line == "tick 1":
                 moment += rng.randrange(3)
@@ -303,9 +323,15 @@ class Soak:
         check("what the switch told", self.switch.told, [])
         self.check_end(before)
 
+    def has_no_client(self) -> bool:
+        """Whether all connections of clients have ended, and all requests."""
+        ports = self.switch.active, self.switch.preview
+        return not any(map(connections_at, ports)) and not any(self.switch.open_requests())
+
     def footprint(self) -> tuple[int, int]:
         """The descriptors and the threads, once no client is there any more."""
         process = self.switch.process.pid
+        check("no client is there", comes(self.has_no_client), True)
         counts = []
         for _ in range(50):
             time.sleep(0.02)

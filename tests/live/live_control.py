@@ -1,5 +1,6 @@
 """The control port and the control socket of a running `serve`: the order of connections, time limits of lines, connections that are
 idle, silent, endless or don't read, requests of browsers, and accepts that fail."""
+import concurrent.futures
 import contextlib
 import os
 import pathlib
@@ -29,6 +30,8 @@ SOON = 4.0
 PROMPT, AT_ONCE = 1.0, 0.3
 # How long a connection may take nothing of its replies.
 NOT_TAKEN = 10.0
+# After how many seconds one begins to take them that takes them late: much less, on a busy machine too.
+LATE = 2.0
 # A rollout that keeps many revisions, so that its report is long.
 MANY_REVISIONS = BY_HAND.replace('"replicas": 1', '"replicas": 1, "revisionHistoryLimit": 60')
 # How many bytes the system of a connection takes ahead that reads its replies late.
@@ -387,28 +390,41 @@ def replies_not_taken_hold_nobody() -> None:
             check("a report is long", length > 6_000, True)
         before = switch.count_descriptors()
         clients = [stack.enter_context(connect(switch.control, SMALL_BUFFER)) for _ in range(5)]
-        late = stack.enter_context(connect(switch.control, MIDDLE_BUFFER))
+        late = connect(switch.control, MIDDLE_BUFFER)
+        start = time.monotonic()
         for client in (*clients, late):
             client.sendall(b"report\n" * count)
-        for _ in range(4):
-            check_line("connections that read no replies", switch, "tick 0")
-            check("they are still there", switch.count_descriptors() >= before + len(clients), True)
-            time.sleep(0.5)
-        got = b""
-        while len(got) < count * length and (piece := late.recv(1 << 20)):
-            got += piece
+        with concurrent.futures.ThreadPoolExecutor(1) as pool:
+            taken_late = pool.submit(taken_after, LATE, late, count * length)
+            for _ in range(4):
+                check_line("connections that read no replies", switch, "tick 0")
+                are_there = switch.count_descriptors() >= before + len(clients)
+                is_over = time.monotonic() - start > NOT_TAKEN - 1
+                check("they are still there", are_there or is_over, True)
+                time.sleep(0.5)
+            got = taken_late.result()
         check(
             "the replies of a connection that takes them late",
             (got.count(b"moment 0\n"), got.count(b"\nend\n")),
             (count, count),
         )
-        late.close()
         check(
             "connections that read no replies are ended",
             comes(lambda: switch.count_descriptors() <= before, 3 * NOT_TAKEN),
             True,
         )
         check_line("connections that were ended", switch, "tick 1", PROMPT)
+
+
+def taken_after(seconds: float, connection: socket.socket, count: int) -> bytes:
+    """The first `count` bytes that come for a connection, which takes the first of them this many
+    seconds later."""
+    time.sleep(seconds)
+    got = b""
+    with connection:
+        while len(got) < count and (piece := connection.recv(1 << 20)):
+            got += piece
+    return got
 
 
 def urgent_lines(path: str = "") -> None:
@@ -547,8 +563,8 @@ def http_before_open() -> None:
 
 def sent_by_browser(switch: Switch, *pieces: bytes) -> bytes:
     """What a connection that sends this is answered up to its end, or nothing if it isn't ended
-    soon."""
-    return timed_for(switch.control, SEEN, pieces, 0.1).answer
+    for long."""
+    return timed_for(switch.control, checks.LONGEST_WAIT, pieces, 0.1).answer
 
 
 def is_one_fault(answer: bytes) -> bool:

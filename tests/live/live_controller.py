@@ -6,19 +6,19 @@ import contextlib
 import os
 import pathlib
 import re
-import signal
 import subprocess
 import tempfile
 import time
+from collections.abc import Iterator
 
-from support import TOP, checks
+from support import TOP, checks, processes
 from support.checks import check, check_soon, comes
 from support.endpoints import Endpoint, by_target
 from support.launched import Launched, Traffic
 from support.operators import Operator
 from support.plans import Plan
 from support.ports import free_ports
-from support.processes import run_to_end
+from support.processes import run_to_end, status_of
 from support.switch import Switch
 
 # isort: split; `support` tells where the tools' package is
@@ -28,7 +28,8 @@ from bg_switch_tools.controller.state.state_file import write_whole
 # SEED=7 PYTHONPATH=scripts python3 -B tests/live/live_controller.py --by-hand
 SEED = int(os.environ.get("SEED", "1"))
 CONTROLLER = str(TOP / "bin" / "controller")
-WAIT = 20  # seconds for which anything is awaited
+WAIT = 20  # seconds for which anything is awaited; longer on a busy machine
+PROBE = 60  # seconds for a probe: an endpoint that is down refuses it, and others may be slow
 LINE = re.compile(
     r"\d{4}-\d\d-\d\dT\d\d:\d\d:\d\d[+-]\d\d:\d\d (moment (?P<moment>\d+): )?(?P<text>\S.*)"
 )
@@ -55,12 +56,13 @@ class ControlledSwitch:
             if redispatch
             else Switch(ROLLOUT, workers=2, count=100)
         )
+        self.log = self.folder / "log"
         # Without --redispatch, the first endpoints up to one that is down take requests.
         self.plan = Plan(
             folder,
             self.switch.control,
             redispatch=redispatch,
-            health={"path": "/", "interval": 0.3, "failures": 2},
+            health={"path": "/", "interval": 0.3, "timeout": PROBE, "failures": 2},
             analyses={"pre": ["sh", "pre"], "post": ["sh", "post"]},
         )
         self.write("pre", GOOD)
@@ -76,6 +78,27 @@ class ControlledSwitch:
     def report(self) -> str:
         with contextlib.closing(Operator(self.switch.control)) as operator:
             return operator.report()
+
+    @contextlib.contextmanager
+    def controlled(self) -> Iterator[subprocess.Popen[bytes]]:
+        """A controller runs by the plan, and writes its log; both it and the switch are ended."""
+        with open(self.log, "wb") as log:
+            controller = subprocess.Popen([CONTROLLER, self.plan.path], stdout=log)
+        processes.limit(controller)
+        try:
+            yield controller
+        finally:
+            controller.terminate()
+            status_of(controller, WAIT)
+            self.switch.kill()
+
+    def text_of_log(self) -> str:
+        return self.log.read_text(encoding="utf-8")
+
+    def await_log(self, name: str, text: str) -> None:
+        """A check that in time the log has this text."""
+        comes(lambda: text in self.text_of_log(), WAIT)
+        check(name, text in self.text_of_log() or self.text_of_log(), True)
 
     def await_report(self, name: str, *expected: str) -> None:
         """A check that in time the report has each of these texts."""
@@ -141,9 +164,9 @@ def operator_steps_in(setup: ControlledSwitch) -> None:
     setup.write("pre", ENDLESS)
     setup.send("deploy one {} {}".format(*setup.ports["one"]), "ok 0")
     setup.await_report("an undo by hand", "phase preAnalysis\n", "newest 1\n")
-    time.sleep(1.5)
+    setup.await_log("an analysis of the undo", "analysis pre of one begins")
     setup.send("abort", "ok 0")
-    time.sleep(1.5)
+    setup.await_log("the abort", "phase: preAnalysis -> aborted")
     setup.write("pre", GOOD)
     setup.send("retry", "ok 1")
     setup.await_report("an undo that was tried again", "phase steady\n", "active 1\n", "stable 1\n")
@@ -190,18 +213,11 @@ def whole_run() -> None:
     with tempfile.TemporaryDirectory() as folder:
         setup = ControlledSwitch(folder)
         setup.write_plan("one")
-        controller = subprocess.Popen(
-            [CONTROLLER, setup.plan.path], stdout=subprocess.PIPE, text=True
-        )
-        try:
+        with setup.controlled() as controller:
             for part in (deploys, endpoints_die, analysis_fails, operator_steps_in):
                 part(setup)
-        finally:
-            controller.send_signal(signal.SIGTERM)
-            log = controller.communicate(timeout=WAIT)[0]
-            setup.switch.kill()
         check("the controller's status", controller.returncode, 0)
-        check_log(log)
+        check_log(setup.text_of_log())
 
 
 def outage_after_the_switch() -> None:
@@ -212,10 +228,7 @@ def outage_after_the_switch() -> None:
         setup.plan.told.pop("health")
         setup.write("post", ENDLESS)
         setup.write_plan("one")
-        controller = subprocess.Popen(
-            [CONTROLLER, setup.plan.path], stdout=subprocess.PIPE, text=True
-        )
-        try:
+        with setup.controlled():
             setup.await_report("it is open", "available 2 open 0 deadline none\n")
             setup.write_plan("one", "two")
             setup.await_report("it is live", "phase postAnalysis\n", "active 2\n")
@@ -225,10 +238,7 @@ def outage_after_the_switch() -> None:
             comes(lambda: "active 1\n" in setup.report(), WAIT)
             check_soon("live traffic is back", time.monotonic() - begun, 10)
             setup.check_active("the stable revision answers", (200, b"one"), 4)
-        finally:
-            controller.send_signal(signal.SIGTERM)
-            log = controller.communicate(timeout=WAIT)[0]
-            setup.switch.kill()
+        log = setup.text_of_log()
         check(
             "it is told",
             (
@@ -245,11 +255,8 @@ def endpoints_die_one_by_one() -> None:
     with tempfile.TemporaryDirectory() as folder:
         setup = ControlledSwitch(folder, redispatch=True)
         setup.write_plan("two")
-        controller = subprocess.Popen(
-            [CONTROLLER, setup.plan.path], stdout=subprocess.PIPE, text=True
-        )
         first, second = (setup.endpoints[port] for port in setup.ports["two"])
-        try:
+        with setup.controlled():
             setup.await_report("it is open", "revision 1 two desired 2 available 2 ")
             for killed, name in ((first, "first"), (second, "second")):
                 killed.stop()
@@ -269,10 +276,6 @@ def endpoints_die_one_by_one() -> None:
             first.start()
             setup.await_report("one is up again", "revision 1 two desired 2 available 1 ")
             setup.check_active("the one that is up answers", (200, b"two"), 20)
-        finally:
-            controller.send_signal(signal.SIGTERM)
-            controller.communicate(timeout=WAIT)
-            setup.switch.kill()
 
 
 def launched_rollout() -> None:

@@ -9,12 +9,13 @@ import tempfile
 import threading
 import time
 from collections.abc import Callable
+from functools import partial
 from typing import NamedTuple
 
 from support import PROGRAM, TOP, checks, clients, processes
 from support.checks import check, check_soon, comes
 from support.endpoints import Endpoint, by_target
-from support.pace import slowness
+from support.pace import is_busy
 from support.plans import Plan
 from support.ports import free_ports
 from support.switch import LISTENING, words_of_serve
@@ -30,8 +31,9 @@ NAMES = ("web-v1", "web-v2", "web-v3")
 WORKERS, COUNT = 2, 100000
 SOON = 2.0  # seconds after `listening` within which clients are answered
 WAIT = 20.0  # seconds for which anything else is awaited
-KNOWN = 0.8  # seconds after which the controller has seen an order
+KNOWN = 1.0  # seconds after which the controller has seen an order
 WATCHED = 3.0  # seconds for which clients ask after a start
+PROBE = 60  # seconds for a probe: an endpoint that is down refuses it, and others may be slow
 NO_ENDPOINT = (503, b"")
 
 
@@ -91,7 +93,7 @@ class Machine:
         ]
         self.active, preview, self.control = free_ports(3)
         self.plan = Plan(
-            folder, self.control, health={"interval": 0.2, "timeout": 1, "failures": 2}
+            folder, self.control, health={"interval": 0.2, "timeout": PROBE, "failures": 2}
         )
         self.write_plan(2)
         words = [PROGRAM, *words_of_serve(self.active, self.control, preview, WORKERS, COUNT)]
@@ -132,11 +134,12 @@ class Machine:
         )
         for endpoint in self.endpoints[:2]:
             endpoint.stop()
-        check("the attempt is remembered", comes(self.remembers_attempt, WAIT), True)
+        check("the attempt is remembered", comes(partial(self.remembers, "attempt"), WAIT), True)
 
-    def remembers_attempt(self) -> bool:
-        attempt = json.loads(self.state.read_text(encoding="ascii"))["attempt"]
-        return attempt is not None and attempt["name"] == "web-v3"
+    def remembers(self, key: str) -> bool:
+        """Whether the state file has web-v3 by this key: as the `attempt`, or as `stable`."""
+        revision = json.loads(self.state.read_text(encoding="ascii"))[key]
+        return revision is not None and revision["name"] == "web-v3"
 
     def cut_state(self) -> None:
         """Cuts the state file in the middle."""
@@ -144,17 +147,22 @@ class Machine:
         self.state.write_bytes(whole[: len(whole) // 2])
 
     def answers(self) -> list[Answer]:
-        """What a client that asks without pause is answered, from now on and for a while."""
-        begun, answers = time.monotonic(), []
-        while time.monotonic() < begun + WATCHED:
+        """What a client that asks again and again is answered, from now on and for a while: until an
+        endpoint has answered, at least."""
+        begun, answers = time.monotonic(), list[Answer]()
+
+        def ask_again() -> bool:
             text = clients.get(self.active)
             answers.append(Answer(time.monotonic() - begun, text))
+            return text != NO_ENDPOINT and time.monotonic() > begun + WATCHED
+
+        comes(ask_again, WATCHED + WAIT)
         return answers
 
     def check_answers(self, what: str) -> None:
         """web-v2 answers soon, and nothing else does."""
         answers = self.answers()
-        if slowness() >= 1.5:
+        if is_busy():
             # on a busy machine, requests may enter between the lines `open` and `available`
             answers = list(itertools.dropwhile(lambda each: each.text == NO_ENDPOINT, answers))
         first = answers[0] if answers else Answer(WATCHED, None)
@@ -193,9 +201,11 @@ def switch_is_killed(machine: Machine) -> None:
 
 
 def switch_is_killed_after_a_promote(machine: Machine) -> None:
-    """The promote was answered ok within the second before, and holds."""
+    """The controller has seen the promote soon, and it holds."""
     check("a promotion", ask(machine.control, b"promote", WAIT)[0].startswith("ok "), True)
-    time.sleep(KNOWN)
+    begun = time.monotonic()
+    check("it is remembered", comes(partial(machine.remembers, "stable"), WAIT), True)
+    check_soon("it is remembered", time.monotonic() - begun, KNOWN)
     machine.switch.kill()
     machine.switch.start()
     check(

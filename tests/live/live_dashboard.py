@@ -7,7 +7,6 @@ import http.server
 import json
 import pathlib
 import re
-import subprocess
 import sys
 import tempfile
 import threading
@@ -16,14 +15,14 @@ from collections.abc import Iterator
 from typing import NamedTuple
 
 from support import TOP, checks, looks
-from support.browser import Browser, NoBrowserError, browsing
+from support.browser import LONGEST, Browser, NoBrowserError, browsing
 from support.checks import check, comes
 from support.dashboards import failing, missing, showing
 from support.endpoints import Endpoint
 from support.looks import NARROW, PICTURES, check_no_element, check_not_cut, check_shown, picture
 from support.operators import Operator
-from support.pace import widened
 from support.ports import HOST, free_port, free_ports
+from support.processes import run_to_end
 from support.switch import Switch
 from support.traffic import Traffic, ask, prepared_log
 
@@ -545,7 +544,7 @@ def over_http() -> None:
         port = int(played.address.rsplit(":", 1)[1].strip("/"))
 
         def asked(path: str, method: str = "GET") -> tuple[int, str]:
-            connection = http.client.HTTPConnection(HOST, port, timeout=10)
+            connection = http.client.HTTPConnection(HOST, port, timeout=LONGEST)
             with contextlib.closing(connection):
                 connection.request(
                     method, path, headers={"Origin": f"http://{HOST}:{port}", "X-Token": "x"}
@@ -573,16 +572,10 @@ def over_http() -> None:
 def demonstration() -> None:
     """A revision that answers some requests with 500 goes live, and is taken back by its
     analysis."""
-    run = subprocess.run(
-        [sys.executable, "-B", str(DEMONSTRATION)],
-        capture_output=True,
-        text=True,
-        timeout=widened(LONGEST_DEMONSTRATION),
-        check=False,
-    )
+    run = run_to_end([sys.executable, "-B", str(DEMONSTRATION)], longest=LONGEST_DEMONSTRATION)
     check(
         "the demonstration's status",
-        (run.returncode, run.stderr if run.returncode else ""),
+        (run.status, run.told + run.printed if run.status else ""),
         (0, ""),
     )
     for text in (
@@ -590,7 +583,7 @@ def demonstration() -> None:
         "phase: postAnalysis -> aborted",
         "requests that failed by the switch itself: 0",
     ):
-        check(f"the demonstration tells {text}", text in run.stdout, True)
+        check(f"the demonstration tells {text}", text in run.printed, True)
 
 
 if __name__ == "__main__":

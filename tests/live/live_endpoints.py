@@ -3,6 +3,7 @@ revisions whose port is one of the switch's own, and revisions one of whose endp
 import concurrent.futures
 import contextlib
 import json
+import math
 import pathlib
 import socket
 import tempfile
@@ -28,7 +29,7 @@ from support.endpoints import (
     reset_at_once,
 )
 from support.messages import BAD_GATEWAY, ROLLOUT, answer, request, response
-from support.pace import slowness
+from support.pace import is_busy, slowness
 from support.ports import free_port, free_ports
 from support.switch import LISTENING, TIMEOUT_VARIABLE, LaterEnd, Switch, serving
 from support.traffic import prepared_log
@@ -179,7 +180,6 @@ def silence_within_the_timeout() -> None:
 
 
 def long_silence() -> None:
-    clients.LONGEST = 130
     answered_after(100, 120)
 
 
@@ -210,13 +210,36 @@ def timeouts() -> None:
 TWO = ROLLOUT.replace('{"strategy"', '{"replicas": 2, "strategy"')
 REDISPATCH = ("--redispatch",)
 CONCURRENCY = 64
-# Requests a second, for how many seconds, and after how many of them the endpoint becomes sick.
+# Requests a second on a free machine, for how many seconds, and after how many of them the endpoint
+# becomes sick.
 RATE, LASTS, SICK_AFTER = 100, 8.0, 1.0
-# The timeout of a response here, in seconds, and what a request takes at most that isn't at a sick
+# The timeout of a response there, in seconds, and what a request takes at most that isn't at a sick
 # endpoint.
 SHORT_TIMEOUT = 4
 PROMPT = 1.5
+# How many times as slow a machine is at most for which requests are rarer, and have longer.
+SLOWEST = 15.0
+# A timeout, in seconds, that ends nothing on a busy machine.
+LONG_TIMEOUT = 600
+# For how many seconds a port is asked last whose connect has failed, and how often that is tried: a
+# busy machine may need longer for a few requests.
+MARKED, ROUNDS = 1.0, 10
 ONE, OTHER = answer(b"one"), answer(b"two")
+
+
+class Tempo(NamedTuple):
+    """Requests a second, and the timeout of a response in seconds: on a busy machine fewer come, and
+    each has longer."""
+
+    rate: float
+    timeout: int
+
+
+def tempo() -> Tempo:
+    """As the machine can keep it now. The timeout stays far below the time for which a client
+    waits."""
+    slow = min(slowness(), SLOWEST)
+    return Tempo(RATE / slow, math.ceil(SHORT_TIMEOUT * slow))
 
 
 class Sent(NamedTuple):
@@ -234,16 +257,18 @@ def sent(port: int, start: float) -> Sent:
     return Sent(begun, got.answer, got.seconds)
 
 
-def traffic(port: int, become_sick: Callable[[], object], lasts: float = LASTS) -> list[Sent]:
-    """`RATE` requests a second, whatever becomes of those before. An endpoint becomes sick after a
+def traffic(
+    port: int, rate: float, become_sick: Callable[[], object], lasts: float = LASTS
+) -> list[Sent]:
+    """`rate` requests a second, whatever becomes of those before. An endpoint becomes sick after a
     while."""
     start = time.monotonic()
     with concurrent.futures.ThreadPoolExecutor(4 * CONCURRENCY) as pool:
         timer = threading.Timer(SICK_AFTER, become_sick)
         timer.start()
         asked = []
-        for number in range(int(RATE * lasts)):
-            time.sleep(max(0.0, start + number / RATE - time.monotonic()))
+        for number in range(int(rate * lasts)):
+            time.sleep(max(0.0, start + number / rate - time.monotonic()))
             asked.append(pool.submit(sent, port, start))
         timer.join()
         return [one.result() for one in asked]
@@ -254,7 +279,7 @@ def serving_two(
     ports: Sequence[int],
     options: Sequence[str] = REDISPATCH,
     variables: Mapping[str, str] | None = None,
-    timeout: int | None = SHORT_TIMEOUT,
+    timeout: int = LONG_TIMEOUT,
     available: int = 2,
 ) -> Iterator[Switch]:
     """A switch whose first revision has two endpoints, of which `available` are available."""
@@ -292,7 +317,7 @@ def check_prompt(name: str, some: Sequence[Sent], all_sent: Sequence[Sent]) -> N
 def killed_one(place: int) -> None:
     """One of two endpoints is killed under traffic: no request fails that begins afterwards, and
     each is prompt."""
-    both = two_processes()
+    both, pace = two_processes(), tempo()
     name = f"{('the first', 'the second')[place]} of two endpoints is killed"
     killed_at: list[float] = []
 
@@ -300,9 +325,9 @@ def killed_one(place: int) -> None:
         both[place].kill()
         killed_at.append(time.monotonic())
 
-    with serving_two([one.port for one in both]) as switch:
+    with serving_two([one.port for one in both], timeout=pace.timeout) as switch:
         start = time.monotonic()
-        all_sent = traffic(switch.active, kill, 4.0)
+        all_sent = traffic(switch.active, pace.rate, kill, 4.0)
     late = [one for one in failed(all_sent) if start + one.begun > killed_at[0]]
     check(f"{name}: no later request fails", late, [])
     check(f"{name}: few fail that were there", len(failed(all_sent)) <= RATE // 5, True)
@@ -310,7 +335,7 @@ def killed_one(place: int) -> None:
     check_within(
         f"{name}: none waits for the timeout",
         max(one.seconds for one in all_sent),
-        SHORT_TIMEOUT - 0.5,
+        pace.timeout - 0.5,
     )
     both[1 - place].kill()
 
@@ -349,7 +374,7 @@ def most_at_once(asked: Sequence[Sent]) -> int:
     )
 
 
-def check_sick(name: str, all_sent: Sequence[Sent]) -> None:
+def check_sick(name: str, all_sent: Sequence[Sent], timeout: int) -> None:
     """Checks that only requests failed that were at an endpoint that is silent, and that the others
     were prompt. Its share is half of the workers. While a busy machine lets the other one be at its
     own share too, it may get more, and requests wait for workers, so they are not counted there."""
@@ -357,10 +382,10 @@ def check_sick(name: str, all_sent: Sequence[Sent]) -> None:
     check(f"{name}: some requests were at it", bool(bad), True)
     check(
         f"{name}: only requests that were at it fail",
-        [one for one in bad if one.seconds < SHORT_TIMEOUT - 0.5],
+        [one for one in bad if one.seconds < timeout - 0.5],
         [],
     )
-    if slowness() < 1.5:
+    if not is_busy():
         check_within(
             f"{name}: workers that wait for it, which leaves some to the other one",
             most_at_once(bad),
@@ -368,7 +393,7 @@ def check_sick(name: str, all_sent: Sequence[Sent]) -> None:
         )
     others = [one for one in all_sent if one not in bad]
     check_prompt(f"{name}: the others are prompt", others, all_sent)
-    if slowness() < 1.5:
+    if not is_busy():
         shortest = min((one.seconds for one in bad), default=0.0)
         check_within(
             f"{name}: the others end before those at it",
@@ -380,10 +405,10 @@ def check_sick(name: str, all_sent: Sequence[Sent]) -> None:
 def stopped() -> None:
     """An endpoint that is stopped accepts connections by its backlog. It takes half of the workers
     at most."""
-    both = two_processes()
-    with serving_two([one.port for one in both]) as switch:
-        all_sent = traffic(switch.active, both[0].stop)
-    check_sick("an endpoint that is stopped", all_sent)
+    both, pace = two_processes(), tempo()
+    with serving_two([one.port for one in both], timeout=pace.timeout) as switch:
+        all_sent = traffic(switch.active, pace.rate, both[0].stop)
+    check_sick("an endpoint that is stopped", all_sent, pace.timeout)
     for one in both:
         one.kill()
 
@@ -402,12 +427,14 @@ class Switched:
         self.answer_by = self.sick
 
 
-def sick_by(sick: Answer, lasts: float = LASTS) -> tuple[list[Sent], Endpoint, Endpoint]:
+def sick_by(
+    sick: Answer, pace: Tempo, lasts: float = LASTS
+) -> tuple[list[Sent], Endpoint, Endpoint]:
     """What is answered if the first of two endpoints becomes sick, and both endpoints."""
     switched = Switched(by_target(b"one"), sick)
     first, second = Endpoint(switched), Endpoint(by_target(b"two"))
-    with serving_two([first.port, second.port]) as switch:
-        return traffic(switch.active, switched.become_sick, lasts), first, second
+    with serving_two([first.port, second.port], timeout=pace.timeout) as switch:
+        return traffic(switch.active, pace.rate, switched.become_sick, lasts), first, second
 
 
 def silent_after_the_head() -> None:
@@ -415,14 +442,15 @@ def silent_after_the_head() -> None:
         connection.sendall(CUT_HEAD)
         clients.received(connection)
 
-    all_sent, _, _ = sick_by(cut)
-    check_sick("an endpoint that is silent after a part of the head", all_sent)
+    pace = tempo()
+    all_sent, _, _ = sick_by(cut, pace)
+    check_sick("an endpoint that is silent after a part of the head", all_sent, pace.timeout)
 
 
 def resets() -> None:
     """A request of which the endpoint has got a byte is sent to no other one: it fails, and is
     counted once."""
-    all_sent, first, second = sick_by(reset_at_once, 4.0)
+    all_sent, first, second = sick_by(reset_at_once, tempo(), 4.0)
     answered = [one for one in all_sent if one.answer in (ONE, OTHER)]
     check(
         "an endpoint that resets: each request is sent once",
@@ -448,7 +476,7 @@ def slow() -> None:
         time.sleep(1.0)
         connection.sendall(response(b"one"))
 
-    all_sent, _, _ = sick_by(answer_slowly, 4.0)
+    all_sent, _, _ = sick_by(answer_slowly, tempo(), 4.0)
     check("an endpoint that is slow: no request fails", failed(all_sent), [])
 
 
@@ -508,20 +536,21 @@ def marked_is_asked_last() -> None:
     second = Endpoint(by_target(b"two"))
     first.stop()
     with serving_two([first.port, second.port]) as switch:
-        got = [timed(switch.active).answer for _ in range(2)]
-        check("a connect that fails is repeated elsewhere", got, [OTHER] * 2)
-        first.start()
-        check(
-            "a marked endpoint is not asked",
-            [timed(switch.active).answer for _ in range(4)],
-            [OTHER] * 4,
-        )
-        time.sleep(1.2)
-        check(
-            "an endpoint whose mark has ended is asked",
-            ONE in {timed(switch.active).answer for _ in range(2)},
-            True,
-        )
+        for _ in range(ROUNDS):
+            begun = time.monotonic()
+            got = [timed(switch.active).answer for _ in range(2)]
+            check("a connect that fails is repeated elsewhere", got, [OTHER] * 2)
+            first.start()
+            got = [timed(switch.active).answer for _ in range(4)]
+            is_in_time = time.monotonic() < begun + MARKED
+            if is_in_time:
+                check("a marked endpoint is not asked", got, [OTHER] * 4)
+            time.sleep(1.2 * MARKED)
+            got = [timed(switch.active).answer for _ in range(2)]
+            check("an endpoint whose mark has ended is asked", ONE in got, True)
+            if is_in_time:
+                break
+            first.stop()
 
 
 def down() -> None:
@@ -591,7 +620,7 @@ def ports_again() -> None:
     first = Endpoint(Held(b"one"))
     second, third, fourth = (Endpoint(by_target(name)) for name in (b"two", b"three", b"four"))
     with serving_two(
-        [first.port, second.port], (*REDISPATCH, "--endpoint-limit", str(LIMIT)), timeout=None
+        [first.port, second.port], (*REDISPATCH, "--endpoint-limit", str(LIMIT))
     ) as switch:
         carry_out(switch, f"deploy two {third.port} {fourth.port}", "available 2 2", "tick 1000")
         with contextlib.closing(switch.operator()) as operator:
@@ -624,7 +653,7 @@ def not_available() -> None:
     name = "an endpoint that is not available"
     held = Held(b"one")
     first, second = Endpoint(held), Endpoint(by_target(b"two"))
-    with serving_two([first.port, second.port], timeout=None, available=1) as switch:
+    with serving_two([first.port, second.port], available=1) as switch:
         with concurrent.futures.ThreadPoolExecutor(CONCURRENCY) as pool:
             asked = [pool.submit(timed, switch.active) for _ in range(CONCURRENCY)]
             comes(lambda: first.served + second.served == CONCURRENCY)

@@ -132,7 +132,7 @@ def whole_demonstration() -> None:
         return
     begun = time.monotonic()
     with demonstration() as (process, left):
-        printed, _ = process.communicate(timeout=processes.LONGEST)
+        printed, _ = processes.output_of(process)
         check(
             "the status of the demonstration",
             (process.returncode, printed if process.returncode else ""),

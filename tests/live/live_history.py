@@ -20,6 +20,8 @@ NEARLY = MOST // 10 * 9
 # How many places an event has to find, and how many each open request keeps.
 OF_EVENT, OF_REQUEST = 141, 3
 WORKERS = 7
+# So long that no request is given up that the endpoint holds, on a busy machine too.
+TIMEOUT = 600
 REVISIONS = 64
 # The old revisions are scaled down, and removed at once.
 DELAY = 30
@@ -45,7 +47,7 @@ class Filled:
         self.stack = stack
         self.held = Held(b"held")
         self.port = Endpoint(held_at(b"/held", self.held, by_target(b"one"))).port
-        self.switch = Switch(ROLLOUT, workers=WORKERS, preview=False)
+        self.switch = Switch(ROLLOUT, workers=WORKERS, preview=False, timeout=TIMEOUT)
         check("listening", self.switch.first, LISTENING)
         check("open", self.switch.answer_to(f"open v1 {self.port}"), "ok 0")
         self.entries = 0

@@ -16,7 +16,7 @@ from support import TOP, checks, clients
 from support.checks import check, check_within, comes
 from support.endpoints import Endpoint, EndpointProcess, Held, Request, by_target, held_at
 from support.messages import BY_HAND, LARGEST_BODY, answer, request, response
-from support.pace import slowness
+from support.pace import is_busy
 from support.ports import free_port
 from support.processes import greatest_memory, limit_descriptors, resident_memory, threads
 from support.switch import LISTENING, Switch
@@ -133,7 +133,7 @@ def uploads_at_once() -> None:
         # if the clients are not run for a while, the switch drops some that stand still
         check(
             "uploads that were answered",
-            answers.count(answer(b"ok")) >= ANSWERED or slowness() >= 1.5,
+            answers.count(answer(b"ok")) >= ANSWERED or is_busy(),
             True,
         )
         check_within(f"MiB of {UPLOADS} uploads of 1 MiB at once", peak(switch), MOST_OF_UPLOADS)

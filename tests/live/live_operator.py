@@ -1,5 +1,6 @@
 """bin/operator before a running `serve`: its exit statuses, several of them at once, an order that
 was given up, a prompt at a terminal, and the watcher."""
+import codecs
 import contextlib
 import fcntl
 import os
@@ -19,7 +20,7 @@ from support.checks import check, comes
 from support.messages import BY_HAND
 from support.operators import Operator
 from support.ports import free_port
-from support.processes import Run, run_to_end
+from support.processes import Run, output_of, run_to_end, status_of
 from support.switch import Switch
 
 # isort: split; `support` tells where the tools' package is
@@ -27,8 +28,9 @@ from bg_switch_tools.switch.line_help import LINES
 from bg_switch_tools.switch.meanings import FAULTS, REFUSALS
 
 OPERATOR = str(TOP / "bin" / "operator")
-WAIT = 20  # seconds for which anything is awaited
-AGAIN = 8  # seconds after which a key is typed again
+WAIT = 20  # seconds for which anything is awaited; longer on a busy machine
+AGAIN = 8  # seconds after which a key is typed again; longer on a busy machine
+TRIES = 3  # how often it is typed
 MEANING = "the rollout is not paused"
 
 
@@ -132,7 +134,7 @@ def given_up() -> None:
         switch.process.send_signal(signal.SIGCONT)
         check(
             "an order that waited",
-            (pending.communicate(timeout=WAIT)[0], pending.returncode),
+            (output_of(pending, longest=WAIT)[0], pending.returncode),
             ("ok 0\n", 0),
         )
         check("no order that was given up", moment(switch), "moment 7")
@@ -153,7 +155,10 @@ class Terminal:
             preexec_fn=lambda: fcntl.ioctl(0, termios.TIOCSCTTY, 0),
         )
         os.close(other)
+        self.prompt = f"{switch.control}> "
         self.shown = ""
+        # a piece that comes may end within a character
+        self.decoder = codecs.getincrementaldecoder("utf-8")()
 
     def type(self, text: str) -> None:
         os.write(self.end, text.encode())
@@ -162,23 +167,26 @@ class Terminal:
         """Reads what is shown next, for a moment; whether the terminal is still there."""
         if select.select([self.end], [], [], 0.1)[0]:
             try:
-                self.shown += os.read(self.end, 65536).decode()
+                self.shown += self.decoder.decode(os.read(self.end, 65536))
             except OSError:
                 return False
         return True
 
     def await_text(self, text: str) -> bool:
         """Whether this comes in time, after what was awaited before."""
-        latest = time.monotonic() + WAIT
-        while text not in self.shown and time.monotonic() < latest and self.read():
-            pass
+        comes(lambda: text in self.shown or not self.read(), WAIT)
         if text not in self.shown:
             return False
         before, _, self.shown = self.shown.rpartition(text)
         return "Traceback" not in before
 
+    def await_prompt(self) -> bool:
+        """Whether the prompt comes in time. Keys that are typed before may be taken otherwise: the
+        terminal is set up for the prompt only then."""
+        return self.await_text(self.prompt)
+
     def status(self) -> int:
-        status = self.process.wait(WAIT)
+        status = status_of(self.process, WAIT)
         os.close(self.end)
         return status
 
@@ -188,12 +196,12 @@ class Terminal:
         first ctrl-C may need a second. It comes late, since a second one would end a process that
         is already about to end.
         """
-        latest = time.monotonic() + WAIT
-        while self.process.poll() is None and time.monotonic() < latest:
+        for _ in range(TRIES):
             with contextlib.suppress(OSError):  # it ended meanwhile
                 self.type("\x03")
             with contextlib.suppress(subprocess.TimeoutExpired):
-                self.process.wait(AGAIN)
+                status_of(self.process, AGAIN)
+                break
         return self.status()
 
 
@@ -201,25 +209,23 @@ def at_a_prompt() -> None:
     """The prompt, what it says of a refusal, and how it ends."""
     with closed_book() as switch:
         terminal = Terminal(switch)
-        check("a prompt", terminal.await_text(f"{switch.control}> "), True)
-        terminal.type("help\n")
-        check("help", terminal.await_text("promote full"), True)
-        terminal.type("open one 9\n")
-        check("a reply", terminal.await_text("ok 0"), True)
-        terminal.type("promote\n")
-        check(
-            "a refusal and what it means",
-            terminal.await_text(f"refused NotPaused: {MEANING}"),
-            True,
-        )
-        # the line before, by the arrow up
-        terminal.type("\x1b[A\n")
-        check("history", terminal.await_text(f"refused NotPaused: {MEANING}"), True)
+        refusal = f"refused NotPaused: {MEANING}"
+        for name, keys, shown in (
+            ("help", "help\n", "promote full"),
+            ("a reply", "open one 9\n", "ok 0"),
+            ("a refusal and what it means", "promote\n", refusal),
+            # the line before, by the arrow up
+            ("history", "\x1b[A\n", refusal),
+        ):
+            check(f"a prompt before {name}", terminal.await_prompt(), True)
+            terminal.type(keys)
+            check(name, terminal.await_text(shown), True)
+        check("a prompt before ctrl-D", terminal.await_prompt(), True)
         check("an idle prompt holds nobody up", outcome(switch, "tick", "3"), ("ok 0\n", 0))
         terminal.type("\x04")
         check("ctrl-D", terminal.status(), 0)
         terminal = Terminal(switch)
-        check("a second prompt", terminal.await_text(f"{switch.control}> "), True)
+        check("a second prompt", terminal.await_prompt(), True)
         check("ctrl-C", terminal.interrupted(), 0)
 
 
@@ -252,7 +258,7 @@ class Watcher:
     def interrupted(self) -> int:
         """Interrupts it, and gives its status."""
         self.process.send_signal(signal.SIGINT)
-        status = self.process.wait(WAIT)
+        status = status_of(self.process, WAIT)
         self.thread.join(WAIT)
         return status
 
@@ -273,7 +279,7 @@ def side_by_side() -> None:
         check("a deploy that is seen", watcher.sees("revision 2 two: deployed, desired 1\n"), True)
         check("another", outcome(switch, "available", "2", "1"), ("ok 1\n", 0))
         check(
-            "ticks", (ticking.communicate(timeout=WAIT)[0], ticking.returncode), ("ok 0\n" * 10, 0)
+            "ticks", (output_of(ticking, longest=WAIT)[0], ticking.returncode), ("ok 0\n" * 10, 0)
         )
         check("a phase that is seen", watcher.sees("-> paused\n"), True)
         check("a promotion", outcome(switch, "promote"), ("ok 3\n", 0))

@@ -9,18 +9,21 @@ import pwd
 import signal
 import socket
 import stat
+import statistics
 import sys
 import tempfile
 import threading
 import time
 from collections.abc import Iterator
 from functools import partial
+from typing import NamedTuple
 
 from support import PROGRAM, checks, processes
-from support.checks import check, check_beside, comes
+from support.checks import check, check_beside, check_within, comes
 from support.clients import connect, received
 from support.endpoints import Endpoint, by_target
 from support.messages import BY_HAND
+from support.pace import is_busy
 from support.ports import INODE, LOCAL, STATE, TABLE, free_ports
 from support.processes import Run
 from support.socket_list import SocketList, socket_list, with_fields
@@ -39,6 +42,9 @@ AT_ONCE, PROMPT = 0.3, 1.0
 # How many connections others make at least, how many of them side by side, and how many orders wait
 # beside them.
 STRANGERS, CALLERS, ORDERS = 1500, 40, 10
+# How many times over others may go before an order that are there at a time: it takes its turn, and
+# the reply comes a little later than it is sent.
+TURNS = 5
 
 
 @contextlib.contextmanager
@@ -403,36 +409,72 @@ def strangers_hold_up_nobody() -> None:
         for operator in operators:
             operator.check("tick 1", "ok 0")
         ends = threading.Event()
-        callers = [
-            threading.Thread(target=call_again, args=(switch, ends), daemon=True)
-            for _ in range(CALLERS)
-        ]
-        for caller in callers:
-            caller.start()
+        callers = Callers(switch, ends)
         check("others call", comes(lambda: turned_away(switch) > STRANGERS), True)
-        orders: tuple[list[float], list[float]] = ([], [])
-        of_new: tuple[list[float], list[float]] = ([], [])
+        orders: tuple[list[Wait], list[Wait]] = ([], [])
+        of_new: tuple[list[Wait], list[Wait]] = ([], [])
         for moment in range(2, 2 + ORDERS):
             for each, operator, waits, waits_of_new in zip(both, operators, orders, of_new):
-                start = time.monotonic()
-                operator.check(f"tick {moment}", "ok 0")
-                waits.append(time.monotonic() - start)
-                start = time.monotonic()
-                check("an order of a new connection", each.answer_to(f"tick {moment}"), "ok 0")
-                waits_of_new.append(time.monotonic() - start)
-        check_beside("an order while others connect", *orders, AT_ONCE)
-        check_beside("a new connection while others connect", *of_new, PROMPT)
+                with callers.wait(waits):
+                    operator.check(f"tick {moment}", "ok 0")
+                with callers.wait(waits_of_new):
+                    check("an order of a new connection", each.answer_to(f"tick {moment}"), "ok 0")
+        check_waits("an order while others connect", *orders, AT_ONCE)
+        check_waits("a new connection while others connect", *of_new, PROMPT)
         ends.set()
-        for caller in callers:
-            caller.join()
+        callers.join()
         check("their descriptors are closed", comes(lambda: switch.count_descriptors() < 100), True)
 
 
-def call_again(switch: Switch, ends: threading.Event) -> None:
-    """Connects as another user, again and again, until it ends."""
-    while not ends.is_set():
-        with contextlib.suppress(OSError):
-            check("a caller", asked_as(NOBODY, switch, b"abort\n"), NOT_ALLOWED)
+class Wait(NamedTuple):
+    """How many seconds the reply to an order took, and how many connections of others were answered
+    meanwhile."""
+
+    seconds: float
+    others: int
+
+
+class Callers:
+    """Threads that connect as another user, again and again, until this ends."""
+
+    def __init__(self, switch: Switch, ends: threading.Event) -> None:
+        self.switch = switch
+        self.ends = ends
+        self.answered = 0
+        self.lock = threading.Lock()
+        self.threads = [threading.Thread(target=self.call, daemon=True) for _ in range(CALLERS)]
+        for thread in self.threads:
+            thread.start()
+
+    def call(self) -> None:
+        while not self.ends.is_set():
+            with contextlib.suppress(OSError):
+                check("a caller", asked_as(NOBODY, self.switch, b"abort\n"), NOT_ALLOWED)
+                with self.lock:
+                    self.answered += 1
+
+    @contextlib.contextmanager
+    def wait(self, waits: list[Wait]) -> Iterator[None]:
+        """Adds to the waits what the block is."""
+        start, before = time.monotonic(), self.answered
+        yield
+        waits.append(Wait(time.monotonic() - start, self.answered - before))
+
+    def join(self) -> None:
+        for thread in self.threads:
+            thread.join()
+
+
+def check_waits(name: str, waits: list[Wait], elsewhere: list[Wait], most: float) -> None:
+    """Checks that orders wait for no more connections of others than are there at a time, a few
+    times over; and if the machine is not busy, for how many seconds each one waits at most."""
+    others = statistics.median(wait.others for wait in waits)
+    check_within(f"{name}: others that go before it", others, TURNS * CALLERS)
+    if not is_busy():
+        seconds, seconds_elsewhere = (
+            [wait.seconds for wait in each] for each in (waits, elsewhere)
+        )
+        check_beside(name, seconds, seconds_elsewhere, most)
 
 
 if __name__ == "__main__":

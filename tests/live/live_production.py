@@ -147,8 +147,7 @@ class Nginx:
 
     def end(self) -> None:
         """Ends it with its workers."""
-        self.process.terminate()
-        self.process.wait(SOON)
+        processes.end(self.process, SOON)
 
 
 class NginxSetup:
@@ -360,7 +359,7 @@ def stop_by_unit(setup: NginxSetup) -> None:
     pending, asking = start_as_another_user(wait[1:]), start_as_another_user(shutdown)
     check(
         "the first command of the stop",
-        (*asking.communicate(timeout=SOON), asking.returncode),
+        (*processes.output_of(asking, longest=SOON), asking.returncode),
         ("", "", 0),
     )
     ended = setup.switch.wait()
@@ -371,7 +370,7 @@ def stop_by_unit(setup: NginxSetup) -> None:
     )
     check(
         "the second command of the stop",
-        (*pending.communicate(timeout=SOON), pending.returncode),
+        (*processes.output_of(pending, longest=SOON), pending.returncode),
         ("", "", 0),
     )
 

@@ -7,7 +7,7 @@ import resource
 import time
 
 from support import checks, clients
-from support.checks import check, comes
+from support.checks import check, check_within, comes
 from support.endpoints import Endpoint, by_target, in_pieces
 from support.messages import BAD_GATEWAY, BY_HAND, NO_PREVIEW, answer, request, response
 from support.ports import is_open, is_refused
@@ -133,10 +133,10 @@ def idle_workers() -> None:
     with serving(Endpoint(by_target(b"one")).port, workers=7) as switch:
         check("an answer before", clients.timed(switch.active).answer, answer(b"one"))
         time.sleep(2)
-        before = count_waits(switch.process.pid)
+        before, start = count_waits(switch.process.pid), time.monotonic()
         time.sleep(IDLE)
-        grown = count_waits(switch.process.pid) - before
-        check("waits of an idle switch, above ten a second", max(grown - 10 * IDLE, 0), 0)
+        grown, seconds = count_waits(switch.process.pid) - before, time.monotonic() - start
+        check_within("waits of an idle switch in a second", grown / seconds, 10)
         check("an answer after it was idle", clients.timed(switch.active).answer, answer(b"one"))
 
 

@@ -6,7 +6,6 @@ import pathlib
 import resource
 import signal
 import socket
-import subprocess
 import time
 from collections import Counter
 from collections.abc import Iterator
@@ -18,7 +17,7 @@ from support.clients import SMALL_BUFFER, connect, dripping, polite, received, t
 from support.endpoints import Endpoint, Held, by_target, held_at
 from support.messages import ROLLOUT, answer, request
 from support.operators import Operator
-from support.ports import connections_at, is_open, is_refused
+from support.ports import connections_at, is_open, is_refused, unread_at
 from support.stderr_lines import (
     accepts_fail,
     check_told_once,
@@ -33,10 +32,9 @@ from support.switch import LISTENING, EndedSwitch, Switch, opened
 # once nothing is open. If a shutdown waited for what it needn't, that would be for the timeout or
 # the sixty seconds of a shutdown.
 SOON = 5.0
-TIMEOUT = 40
-# Longer than a machine under load takes to connect some hundred clients, which must all be silent at
-# once.
-STARVED = 600
+# So long that it ends nothing on a busy machine: some hundred clients must all be silent at once, and
+# endpoints are silent until all that a part needs has come.
+TIMEOUT = 600
 BIG = b"x" * 4000000
 # The stack of each thread if only few threads are to be had: what the system lends beside that
 # number of stacks is less than one.
@@ -155,7 +153,8 @@ def pending_for_workers() -> None:
         endless = EndlessSwitch(stack, 1)
         switch = endless.switch
         arriving = [endless.client(switch.active, request()[:-1]) for _ in range(5)]
-        time.sleep(0.5)
+        check("they arrive", comes(lambda: connections_at(switch.active) == 5), True)
+        check("they are read", comes(lambda: unread_at(switch.active) == 0), True)
         served = endless.hold(switch.active, 1)
         for client in arriving:
             client.sendall(b"\n")
@@ -176,11 +175,11 @@ def backlog_at_quit() -> None:
     """Requests that came whole while all workers were busy, and wait in the system for an accept,
     are answered."""
     held = Held(b"held")
-    switch, operator = opened(Endpoint(held).port, workers=2)
+    switch, operator = opened(Endpoint(held).port, workers=2, timeout=TIMEOUT)
     clients = [connect(switch.active) for _ in range(22)]
     for client in clients:
         client.sendall(request())
-    held.holds(2)
+    check("the workers wait for their endpoint", held.holds(2), True)
     time.sleep(0.5)
     operator.send_quit()
     check_ports_closed("a shutdown with clients in the backlog", switch)
@@ -220,7 +219,7 @@ def sent_before_quit() -> None:
     """Silent clients that have sent whole requests before quit are all answered, though none was
     read by then."""
     for is_stopped in (False, True):
-        switch, operator = opened(Endpoint(by_target(b"one")).port, workers=4, timeout=STARVED)
+        switch, operator = opened(Endpoint(by_target(b"one")).port, workers=4, timeout=TIMEOUT)
         clients = silent_clients(switch, 100)
         if is_stopped:
             processes.pause(switch.process.pid)
@@ -237,7 +236,7 @@ def sent_within_the_grace() -> None:
     switch, operator = opened(
         Endpoint(by_target(b"one")).port,
         workers=4,
-        timeout=STARVED,
+        timeout=TIMEOUT,
         flags=("--shutdown-grace", "60"),
     )
     clients = silent_clients(switch, 50)
@@ -253,7 +252,7 @@ def silent_for_the_grace() -> None:
     switch, operator = opened(
         Endpoint(by_target(b"one")).port,
         workers=4,
-        timeout=STARVED,
+        timeout=TIMEOUT,
         flags=("--shutdown-grace", str(grace)),
     )
     clients = silent_clients(switch, 50)
@@ -273,7 +272,7 @@ def unread_after_the_grace() -> None:
     switch, operator = opened(
         Endpoint(by_target(b"one")).port,
         workers=4,
-        timeout=STARVED,
+        timeout=TIMEOUT,
         flags=("--shutdown-grace", str(grace)),
     )
     clients = silent_clients(switch, 200)
@@ -298,7 +297,9 @@ def watches_refused() -> None:
     operator.close()
     probe.stop()
     # a client and its endpoint have the next descriptors
-    switch, operator = opened(Endpoint(held).port, prepare=partial(faults.refuse_watches, last + 3))
+    switch, operator = opened(
+        Endpoint(held).port, timeout=TIMEOUT, prepare=partial(faults.refuse_watches, last + 3)
+    )
     with connect(switch.active) as served:
         served.sendall(request())
         check("the worker waits for its endpoint", held.holds(1), True)
@@ -323,7 +324,7 @@ def quit_of_the_opener() -> None:
     """The connection on which the book was opened ends at its quit, though the shutdown waits for a
     request."""
     held = Held(b"held")
-    endpoint, switch = Endpoint(held), Switch()
+    endpoint, switch = Endpoint(held), Switch(timeout=TIMEOUT)
     with connect(switch.control) as opener, connect(switch.active) as client:
         opener.sendall(f"open one {endpoint.port}\navailable 1 1\n".encode())
         with opener.makefile("rb") as replies:
@@ -333,7 +334,7 @@ def quit_of_the_opener() -> None:
                 [b"ok 0\n", b"ok 0\n"],
             )
         client.sendall(request())
-        held.holds(1)
+        check("a request is open", held.holds(1), True)
         opener.sendall(b"quit\n")
         start = time.monotonic()
         check("the opener after its quit", received(opener), b"")
@@ -371,14 +372,10 @@ def at_rest() -> None:
     operator.close()
     check("answers before the shutdown", set(polite(switch.active, 3).answers), {answer(b"one")})
     with connect(switch.active), connect(switch.preview):
-        run = subprocess.run(
-            [TOP / "bin" / "operator", str(switch.control), "shutdown", "--yes"],
-            capture_output=True,
-            text=True,
-            timeout=checks.LONGEST_WAIT,
-            check=False,
+        run = processes.run_to_end(
+            [str(TOP / "bin" / "operator"), str(switch.control), "shutdown", "--yes"]
         )
-        check("the operator's tool", (run.stdout, run.stderr, run.returncode), ("", "", 0))
+        check("the operator's tool", run, ("", "", 0))
         check_ends_soon("a shutdown at rest", switch, 6)
 
 

@@ -16,8 +16,9 @@ DRAINS = """{"spec": {"strategy": {"blueGreen": {"activeService": "web", "scaleD
 REQUEST, RESPONSE, ANSWER = request(), response(b"ok"), answer(b"ok")
 # A response that goes on and on, a byte at a time.
 ENDLESS = [b"HTTP/1.1 200 OK\r\nContent-Length: 1000\r\n\r\n", *[b"x"] * 1000]
-# How long, in seconds, a message may take in these checks; and what ends at once.
-TIMEOUT = 4
+# How long, in seconds, a message may take in these checks; and what ends at once. Messages that are
+# whole in time take half of it at most, as far as the machine is free.
+TIMEOUT = 8
 SOON = 6
 # For how many seconds it is seen that requests aren't given up: longer than the turns of a second
 # in which a silent endpoint is read.

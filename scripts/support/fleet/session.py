@@ -46,12 +46,14 @@ class Session:
 
     def give(self, *words: str) -> bool:
         """Gives a command of bin/fleet, again and again for a while. Whether it was carried out."""
-        latest = time.monotonic() + PERSON
-        while self.try_once(*words).status:
-            if time.monotonic() > latest:
-                return False
+
+        def is_carried_out() -> bool:
+            if self.try_once(*words).status == 0:
+                return True
             time.sleep(PAUSE)
-        return True
+            return False
+
+        return comes(is_carried_out, PERSON)
 
     def put(self, *numbers: int, **fleet: object) -> bool:
         """Puts the plan with these revisions, and this for its key `fleet`. Whether it was put."""
