@@ -70,6 +70,9 @@ class FreePorts:
 
 def is_free(port: int) -> bool:
     with socket.socket() as one:
+        # A child that another thread starts has this socket too until it runs its program. With this
+        # option the socket keeps no listener away, since it never listens.
+        one.setsockopt(socket.SOL_SOCKET, socket.SO_REUSEADDR, 1)
         try:
             one.bind((HOST, port))
         except OSError:
