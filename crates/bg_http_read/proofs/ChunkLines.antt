@@ -1,13 +1,14 @@
--- The line of a chunk at the beginning of bytes.
-use Rattle.std.proofs.Common.{◌≡◌, ℕ, ◌<◌, ◌≤◌, List, [], ◌++◌, length, take, drop, refl, ap, sym, ◌∙◌, arith, append_assoc, take-append-drop, take_all, min, subst, inl, inr}
-use Rattle.std.proofs.lemmas.List.{append-nil, length-take, length-append, take-append-le}
+-- The line of a chunk, and a sequence of chunks, at the beginning of bytes.
+use Rattle.std.proofs.Common.{◌≡◌, ℕ, ◌<◌, ◌≤◌, List, [], ◌∷◌, ◌++◌, length, take, drop, refl, ap, ap₂, sym, ◌∙◌, arith, append_assoc, take-append-drop, take_all, min, subst, inl, inr}
+use Rattle.std.proofs.lemmas.List.{append-nil, append_cancel_left, length-take, length-append, take-append-le}
 use Rattle.httparse.specs.Ascii.{crlf_bytes}
 use Rattle.httparse.specs.Grammar.{ChunkLine, print_chunk_line, chunk_size, print_extension, HasNoChunkLine, NeverHasChunkLine, MayBecomeChunkLine}
 use Rattle.httparse.specs.Spans.{IsChunkLineAt}
 use Rattle.httparse.proofs.ChunkLemmas.{chunk_line_unique}
+use Rattle.httparse.proofs.GrammarLemmas.{section_unique}
 use Rattle.bg_http_read.specs.BodyFaults.{malformed, cut, LineFails}
-use Rattle.bg_http_read.specs.Chunks.{IsLineOf, ReadsLine}
-use Rattle.bg_http_read.proofs.Fronts.{prefix_of, front_is, front_grows}
+use Rattle.bg_http_read.specs.Chunks.{IsLineOf, Leads, ReadsChunks, ReadsEnd, ReadsLine, ReadsTrailers, joined}
+use Rattle.bg_http_read.proofs.Fronts.{equal_front, prefix_of, front_is, front_grows}
 
 -- a line ends in CR LF
 text_of : (line : ChunkLine) → print_chunk_line line
@@ -92,3 +93,35 @@ line_more input more size after p = record {
   is = p.is;
   input_is = ap (λ l. l ++ more) p.input_is ∙ append_assoc (print_chunk_line p.line) after more;
 }
+
+-- an input begins with at most one of each part
+one_trailers : (input one other : List ℕ) → ReadsTrailers input one → ReadsTrailers input other → one ≡ other
+one_trailers input one other h k =
+    (section_unique input h.fields k.fields h.last k.last one other h.reads k.reads).2
+
+one_leads : (one other : List (List ℕ)) (input rest left : List ℕ) → Leads (ReadsEnd rest) one input
+    → Leads (ReadsEnd left) other input → (joined one ≡ joined other) × (rest ≡ left)
+one_leads [] [] input rest left h k =
+    let lines = one_line input 0 0 h.after k.after h.line k.line in
+    (refl, one_trailers k.after rest left (subst (λ l. ReadsTrailers l rest) lines.1 h.trailers) k.trailers)
+one_leads [] (bytes ∷ more) input rest left h (next, chunk, leads) =
+    let lines = one_line input 0 (length bytes) h.after chunk.after h.line chunk.line in
+    let some = chunk.some in
+    absurd (omega (arith, lines.0, some))
+one_leads (bytes ∷ more) [] input rest left (next, chunk, leads) k =
+    let lines = one_line input (length bytes) 0 chunk.after k.after chunk.line k.line in
+    let some = chunk.some in
+    absurd (omega (arith, lines.0, some))
+one_leads (bytes ∷ more) (others ∷ most) input rest left (next, chunk, leads) (last, second, tail) =
+    let lines = one_line input (length bytes) (length others) chunk.after second.after chunk.line second.line in
+    let texts = sym chunk.bytes_are ∙ lines.1 ∙ second.bytes_are in
+    let fronts = equal_front bytes (crlf_bytes ++ next) others (crlf_bytes ++ last) texts lines.0 in
+    let tails = append_cancel_left crlf_bytes next last fronts.1 in
+    let same = one_leads more most last rest left (subst (Leads (ReadsEnd rest) more) tails leads) tail in
+    (ap₂ (λ a b. a ++ b) fronts.0 same.0, same.1)
+
+pub one_chunks : (input one other rest left : List ℕ) → ReadsChunks input one rest
+    → ReadsChunks input other left → (one ≡ other) × (rest ≡ left)
+one_chunks input one other rest left h k =
+    let same = one_leads h.chunks k.chunks input rest left h.leads k.leads in
+    (h.body_is ∙ same.0 ∙ sym k.body_is, same.1)

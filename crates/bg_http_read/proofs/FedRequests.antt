@@ -1,5 +1,5 @@
 -- The answers of a request's parser, by the bytes that it was fed.
-use Rattle.std.proofs.Common.{◌≡◌, ◌&&◌, Bool, true, false, ℕ, ◌+◌, ◌≤◌, List, [], ◌∷◌, ◌++◌, drop, length, refl, ap, sym, ◌∙◌, arith, subst, inl, inr, Result, Ok, Err, IsErrAnd}
+use Rattle.std.proofs.Common.{◌≡◌, ◌&&◌, Bool, true, false, ℕ, List, [], ◌∷◌, ◌++◌, drop, refl, ap, sym, ◌∙◌, subst, inl, inr, Result, Ok, Err, IsErrAnd}
 use Rattle.std.proofs.lemmas.List.{append-nil}
 use Rattle.httparse.specs.Grammar.{HasNoRequest}
 use Rattle.httparse.specs.Grammar as grammar
@@ -11,29 +11,28 @@ use Rattle.bg_http.specs.declared.request_fault.RequestFault.{RequestFault}
 use Rattle.bg_http.specs.declared.request_fault.RequestFault.TheVariants as fault
 use Rattle.bg_http.specs.declared.request_rules.Framing.{Framing}
 use Rattle.bg_http.specs.declared.request_rules.Framing.TheVariants as framing
-use Rattle.bg_http_read.specs.Bodies.{Follows, KeepsLimit, Reads, Fails, Refuses, announced, can_end, is_whole}
-use Rattle.bg_http_read.specs.BodyFaults.{Failure, malformed, large, cut}
+use Rattle.bg_http_read.specs.Bodies.{KeepsLimit, Reads, Fails, Refuses, can_end, is_whole}
+use Rattle.bg_http_read.specs.BodyFaults.{malformed, large, cut}
+use Rattle.bg_http_read.specs.BodyFramings.{FedBody, FramedReads, first_stage}
 use Rattle.bg_http_read.specs.HeadEnds.{after_bytes, is_over}
 use Rattle.bg_http_read.specs.MessageFaults.{as_request}
 use Rattle.bg_http_read.specs.Heads.{HeadFails, HeadIsCut, ReadsRequestHead, request_heads}
-use Rattle.bg_http_read.specs.Requests.{FramedBodyFails, JudgedHead, ReadsRequestBody, RequestBodyFails, RequestFails}
+use Rattle.bg_http_read.specs.Requests.{JudgedHead, ReadsRequestBody, RequestBodyFails, RequestFails, body_of_request}
 use Rattle.bg_http_read.specs.RequestStates.{FailsAsked, IsReadThen, IsRefusedAsked, LacksRequest, OwesContinue}
-use Rattle.bg_http_read.specs.RequestsFed.{Advances, AdvancesTo, AwaitsHead, HasParts, IsAt, IsFedBody, IsFedStage, IsOpenStage, IsSeen, LacksHead, StartsBody, first_stage, framed_body, is_head, most_of, stage_seen, was_asked}
-use Rattle.bg_http_read.specs.declared.body.Body.{Body}
+use Rattle.bg_http_read.specs.RequestsFed.{Advances, AdvancesTo, AwaitsHead, HasParts, IsAt, IsFedStage, IsOpenStage, IsSeen, LacksHead, RequestBody, framed_body, is_head, requests, stage_seen, was_asked}
 use Rattle.bg_http_read.specs.declared.body.BodyStage.{BodyStage}
 use Rattle.bg_http_read.specs.declared.body.BodyStage.TheVariants as stage
 use Rattle.bg_http_read.specs.declared.head_end.HeadEnd.{HeadEnd}
 use Rattle.bg_http_read.specs.declared.head_end.HeadEnd.TheVariants as head_end
 use Rattle.bg_http_read.specs.declared.message_fault.MessageFault.{MessageFault}
 use Rattle.bg_http_read.specs.declared.message_fault.MessageFault.TheVariants as message_fault
-use Rattle.bg_http_read.specs.declared.request_body.RequestBody.{RequestBody}
 use Rattle.bg_http_read.specs.declared.request_progress.RequestAdvance.{RequestAdvance}
 use Rattle.bg_http_read.specs.declared.request_progress.RequestStage.{RequestStage}
 use Rattle.bg_http_read.specs.declared.request_progress.RequestStage.TheVariants as part
 use Rattle.bg_http_read.specs.declared.request_step.RequestStep.{RequestStep}
 use Rattle.bg_http_read.specs.declared.request_step.RequestStep.TheVariants as step
-use Rattle.bg_http_read.proofs.BodyLoop.{follows_behind, follows_both, follows_itself, whole_reads}
-use Rattle.bg_http_read.proofs.FramedBodies.{framed_fails, framed_reads}
+use Rattle.bg_http_read.proofs.BodyLoop.{whole_reads}
+use Rattle.bg_http_read.proofs.FedBodies.{fed_failure, fed_longer, fed_reads}
 use Rattle.bg_http_read.proofs.HeadsOver.{after_bytes-append, no_request_yet}
 use Rattle.bg_http_read.proofs.HeadsFound.{head_fails_more, head_more, request_head_fails, request_laws}
 use Rattle.bg_http_read.proofs.RequestOrFault.{request_or_fault}
@@ -44,45 +43,11 @@ pub judged_more : (input more : List ℕ) (head : RequestHead) (named : Framing)
 judged_more input more head named after h =
     record { reads = head_more request_heads request_laws input more head after h.reads; judged = h.judged }
 
--- the head was found, and no byte of the body was taken
-pub fed_head : (head : RequestHead) (named : Framing) (p : RequestBody) (waits seen : List ℕ)
-    → JudgedHead seen head named waits → p.head ≡ head → p.framing ≡ named
-    → StartsBody named p.body → IsFedBody p waits seen
-fed_head head named p waits seen found of_head of_framing starts = record {
-  after = waits;
-  found = subst (λ n. JudgedHead seen p.head n waits) (sym of_framing)
-      (subst (λ h. JudgedHead seen h named waits) (sym of_head) found);
-  start = p.body;
-  starts = subst (λ n. StartsBody n p.body) (sym of_framing) starts;
-  follows = follows_itself p.body waits;
-  limit = refl;
-}
-
--- bytes that wait were taken
-pub fed_taken : (p : RequestBody) (next : Body) (waits now seen : List ℕ)
-    → IsFedBody p waits seen → Follows p.body waits next now → next.limit ≡ p.body.limit
-    → IsFedBody (record p { body = next }) now seen
-fed_taken p next waits now seen h follows limit = record {
-  after = h.after;
-  found = h.found;
-  start = h.start;
-  starts = h.starts;
-  follows = follows_both h.start p.body next h.after waits now h.follows follows;
-  limit = limit ∙ h.limit;
-}
-
 -- more bytes were fed
 pub fed_behind : (s : RequestStage) (waits seen more : List ℕ) → IsFedStage s waits seen
     → IsFedStage s (waits ++ more) (seen ++ more)
 fed_behind (part.Head end) waits seen more h = ap (λ l. l ++ more) h
-fed_behind (part.Body p) waits seen more h = record {
-  after = h.after ++ more;
-  found = judged_more seen more p.head p.framing h.after h.found;
-  start = h.start;
-  starts = h.starts;
-  follows = follows_behind h.start p.body h.after waits more h.follows;
-  limit = h.limit;
-}
+fed_behind (part.Body p) waits seen more h = fed_longer requests judged_more p waits seen more h
 fed_behind (part.Done told) waits seen more h = h
 
 pub fed_added : (s : RequestStage) (waits now seen bytes : List ℕ) → IsFedStage s waits seen
@@ -96,17 +61,17 @@ pub fed_first : (s : RequestStage) (waits seen bytes : List ℕ) → IsFedStage 
 fed_first s waits seen bytes h none =
     fed_added s waits bytes seen bytes h (ap (λ l. l ++ bytes) (sym none))
 
--- bytes were read directly into the body, and none waited
-pub fed_straight : (p : RequestBody) (next : Body) (seen came now : List ℕ) → IsFedBody p [] seen
-    → now ≡ seen ++ came → Follows p.body came next [] → next.limit ≡ p.body.limit
-    → IsFedBody (record p { body = next }) [] now
-fed_straight p next seen came now h is follows limit =
-    subst (IsFedBody (record p { body = next }) []) (sym is)
-    (fed_taken p next came [] (seen ++ came) (fed_behind (part.Body p) [] seen came h) follows limit)
+-- the body that the framing names, by its bytes
+as_named : (named : Framing) (input bytes rest : List ℕ)
+    → FramedReads (body_of_request named) input bytes rest
+    → ReadsRequestBody named input (framed_body named bytes) rest
+as_named framing.NoBody input bytes rest h = (refl, h.1)
+as_named framing.Chunks input bytes rest h = (bytes, refl, h.0, h.1)
+as_named (framing.Length size) input bytes rest h = (bytes, refl, h.0, h.1)
 
 -- the body is complete
 pub fed_whole : (p : RequestBody) (waits seen : List ℕ) (request : Request) (asked : Bool)
-    → IsFedBody p waits seen → KeepsLimit p.body → HasParts request p
+    → FedBody requests p waits seen → KeepsLimit p.body → HasParts request p
     → is_whole p.body.stage ≡ true → owes_continue p.head p.framing ≡ asked
     → IsReadThen asked request seen waits
 fed_whole p waits seen request asked h within parts whole owes more = (
@@ -124,20 +89,17 @@ fed_whole p waits seen request asked h within parts whole owes more = (
   owes,
 )
   where
-    small : length p.body.bytes.items ≤ h.start.limit
-    small = omega (arith, within, h.limit)
-
     reads : Reads p.body (waits ++ more) p.body.bytes.items (waits ++ more)
     reads = whole_reads p.body.stage p.body.bytes.items (waits ++ more) whole
 
     body : ReadsRequestBody p.framing (h.after ++ more) (framed_body p.framing p.body.bytes.items) (waits ++ more)
     body =
-        framed_reads p.framing h.start h.starts (h.after ++ more) p.body.bytes.items (waits ++ more)
-        small (h.follows.read more p.body.bytes.items (waits ++ more) reads)
+        as_named p.framing (h.after ++ more) p.body.bytes.items (waits ++ more)
+        (fed_reads requests p waits seen more (waits ++ more) h within reads)
 
 -- a failure of the bytes that wait, and of those that follow, is one of the input
 fed_fails : (p : RequestBody) (waits seen more : List ℕ) (e : RequestFault) (asked : Bool)
-    → (h : IsFedBody p waits seen) → owes_continue p.head p.framing ≡ asked
+    → (h : FedBody requests p waits seen) → owes_continue p.head p.framing ≡ asked
     → RequestBodyFails p.framing (h.after ++ more) e → FailsAsked asked (seen ++ more) e
 fed_fails p waits seen more e asked h owes fails = inr (record {
   head = p.head;
@@ -147,34 +109,27 @@ fed_fails p waits seen more e asked h owes fails = inr (record {
   holds = (fails, owes);
 })
 
-framed : (p : RequestBody) (waits seen more : List ℕ) (failure : Failure)
-    → (h : IsFedBody p waits seen) → Fails p.body failure (waits ++ more)
-    → FramedBodyFails failure p.framing (h.after ++ more)
-framed p waits seen more failure h fails =
-    framed_fails p.framing h.start h.starts failure (h.after ++ more)
-    (h.follows.fails failure more fails)
-
 pub fed_refused : (p : RequestBody) (waits seen : List ℕ) (e : MessageFault) (asked : Bool)
-    → IsFedBody p waits seen → owes_continue p.head p.framing ≡ asked → Refuses p.body waits e
+    → FedBody requests p waits seen → owes_continue p.head p.framing ≡ asked → Refuses p.body waits e
     → IsRefusedAsked asked (as_request e) seen
 fed_refused p waits seen message_fault.Bad asked h owes refused more =
     fed_fails p waits seen more fault.Bad asked h owes
-    (framed p waits seen more malformed h (refused more))
+    (fed_failure requests p waits seen more malformed h (refused more))
 fed_refused p waits seen message_fault.HeadTooLarge asked h owes refused more = absurd refused
 fed_refused p waits seen message_fault.TooLarge asked h owes refused more =
     fed_fails p waits seen more fault.TooLarge asked h owes
-    (framed p waits seen more large h (refused more))
+    (fed_failure requests p waits seen more large h (refused more))
 fed_refused p waits seen message_fault.OutOfMemory asked h owes refused more =
     fed_fails p waits seen more fault.OutOfMemory asked h owes tt
 
 -- the body is cut off
 pub fed_cut_off : (p : RequestBody) (waits seen : List ℕ) (asked : Bool)
-    → IsFedBody p waits seen → owes_continue p.head p.framing ≡ asked → Fails p.body cut waits
+    → FedBody requests p waits seen → owes_continue p.head p.framing ≡ asked → Fails p.body cut waits
     → FailsAsked asked seen fault.Closed
 fed_cut_off p waits seen asked h owes fails =
     subst (λ l. FailsAsked asked l fault.Closed) (append-nil seen)
     (fed_fails p waits seen [] fault.Closed asked h owes
-    (framed p waits seen [] cut h (subst (Fails p.body cut) (sym (append-nil waits)) fails)))
+    (fed_failure requests p waits seen [] cut h (subst (Fails p.body cut) (sym (append-nil waits)) fails)))
 
 -- there is no head
 pub head_refused : (seen : List ℕ) (e : MessageFault) → HeadFails request_heads seen e
@@ -328,7 +283,7 @@ no_continue_here (part.Body p) waits seen fed lacks head owed = cc
 no_continue_here (part.Done told) waits seen fed lacks head owed = cc
 
 -- no body of a request goes to the end of the input
-never_to_the_end : (named : Framing) → first_stage named ≡ stage.ToTheEnd → ⊥
+never_to_the_end : (named : Framing) → first_stage (body_of_request named) ≡ stage.ToTheEnd → ⊥
 never_to_the_end framing.NoBody e = cc
 never_to_the_end framing.Chunks e = cc
 never_to_the_end (framing.Length size) e = cc
@@ -341,7 +296,7 @@ cannot_end stage.Trailers missing never = refl
 cannot_end stage.ToTheEnd missing never = absurd (never refl)
 cannot_end stage.Whole missing never = cc
 
-pub fed_cannot_end : (p : RequestBody) (waits seen : List ℕ) → IsFedBody p waits seen
+pub fed_cannot_end : (p : RequestBody) (waits seen : List ℕ) → FedBody requests p waits seen
     → is_whole p.body.stage ≡ false → can_end p.body.stage ≡ false
 fed_cannot_end p waits seen h missing =
     cannot_end p.body.stage missing
@@ -352,18 +307,6 @@ pub judged : (seen after : List ℕ) (head : RequestHead) (named : Framing)
     → ReadsRequestHead seen head after → request_framing head ≡ Ok named
     → JudgedHead seen head named after
 judged seen after head named reads rules = record { reads = reads; judged = rules }
-
--- a body is within its limit before its first byte
-pub body_starts : (named : Framing) (body : Body) → StartsBody named body → KeepsLimit body
-body_starts named body h =
-    subst (λ n. length body.bytes.items + announced body.stage ≤ n) (sym h.limit_is)
-    (subst (λ s. length body.bytes.items + announced s ≤ most_of named) (sym h.stage_is)
-    (subst (λ l. length l + announced (first_stage named) ≤ most_of named) (sym h.none) (fits named)))
-  where
-    fits : (named : Framing) → 0 + announced (first_stage named) ≤ most_of named
-    fits framing.NoBody = omega arith
-    fits framing.Chunks = omega arith
-    fits (framing.Length size) = omega arith
 
 -- the result of a stage that looks for the head
 pub head_advances : (end : HeadEnd) (seen bytes : List ℕ) (other : HeadEnd) (old : RequestStage)

@@ -1,25 +1,23 @@
 -- The bytes that a response's parser was fed, and what is read from them.
-use Rattle.std.proofs.Common.{◌≡◌, ◌⊎◌, Bool, true, false, ℕ, ◌==◌, ◌≤◌, List, [], ◌++◌, length, refl, ap, sym, ◌∙◌, arith, subst, inl, inr}
+use Rattle.std.proofs.Common.{◌≡◌, ◌⊎◌, Bool, true, false, IsFalse, ℕ, ◌==◌, ◌≤◌, List, [], ◌++◌, length, refl, ap, sym, ◌∙◌, arith, subst, inl, inr}
 use Rattle.std.proofs.lemmas.List.{append-nil}
 use Rattle.bg_http.specs.declared.request.Request.{Request}
 use Rattle.bg_http.specs.declared.response.Response.{Response}
-use Rattle.bg_http.specs.declared.response.ResponseHead.{ResponseHead}
 use Rattle.bg_http.specs.declared.response_fault.ResponseFault.{ResponseFault}
 use Rattle.bg_http.specs.declared.response_fault.ResponseFault.TheVariants as fault
 use Rattle.bg_http.specs.declared.response_rules.ResponseFraming.{ResponseFraming}
 use Rattle.bg_http.specs.declared.response_rules.ResponseFraming.TheVariants as framing
-use Rattle.bg_http_read.specs.Bodies.{Follows, KeepsLimit, Reads, Fails, Refuses, can_end, is_whole}
-use Rattle.bg_http_read.specs.BodyFaults.{Failure, malformed, large, cut}
-use Rattle.bg_http_read.specs.Responses.{AfterInterim, IsFinalHead, SkipsInterim, FramedResponseBodyFails, ReadsResponse, ReadsResponseThen, ReadsResponseBody, ResponseBodyFails, ResponseFails, length_of_response, most_response_body, no_body}
-use Rattle.bg_http_read.specs.ResponsesFed.{AwaitsHead, IsSeen, Starts, stage_seen, HasParts, IsFedBody, IsFedStage, IsOpenStage, StartsBody, WantsBody, WantsStage, first_stage, most_of}
+use Rattle.bg_http_read.specs.Bodies.{KeepsLimit, Reads, Fails, Refuses, can_end, is_whole}
+use Rattle.bg_http_read.specs.BodyFaults.{malformed, large, cut}
+use Rattle.bg_http_read.specs.BodyFramings.{FedBody, FramedReads, first_stage, most_of}
+use Rattle.bg_http_read.specs.Responses.{AfterInterim, IsFinalHead, SkipsInterim, ReadsResponse, ReadsResponseThen, ReadsResponseBody, ResponseBodyFails, ResponseFails, body_of_response, length_of_response, most_response_body, names_another, no_body}
+use Rattle.bg_http_read.specs.ResponsesFed.{AwaitsHead, IsSeen, Starts, stage_seen, HasParts, IsFedStage, IsOpenStage, ResponseBody, WantsBody, WantsStage, responses}
 use Rattle.bg_http_read.specs.ResponseStates.{LacksResponse, GoesToTheEnd, IsReadThen, IsRefused, NeedsMore}
-use Rattle.bg_http_read.specs.declared.body.Body.{Body}
 use Rattle.bg_http_read.specs.declared.body.BodyStage.{BodyStage}
 use Rattle.bg_http_read.specs.declared.body.BodyStage.TheVariants as stage
 use Rattle.bg_http_read.specs.MessageFaults.{as_response}
 use Rattle.bg_http_read.specs.declared.message_fault.MessageFault.{MessageFault}
 use Rattle.bg_http_read.specs.declared.message_fault.MessageFault.TheVariants as message_fault
-use Rattle.bg_http_read.specs.declared.response_body.ResponseBody.{ResponseBody}
 use Rattle.bg_http_read.specs.HeadEnds.{after_bytes, is_over}
 use Rattle.bg_http_read.specs.declared.head_end.HeadEnd.TheVariants as head_end
 use Rattle.bg_http_read.specs.Heads.{ReadsResponseHead}
@@ -29,51 +27,18 @@ use Rattle.bg_http_read.proofs.InterimOrder.{IsInterim, in_order, final_or_inter
 use Rattle.bg_http_read.proofs.ResponseOrFault.{response_or_fault}
 use Rattle.bg_http_read.specs.declared.response_progress.ResponseStage.{ResponseStage}
 use Rattle.bg_http_read.specs.declared.response_progress.ResponseStage.TheVariants as part
-use Rattle.bg_http_read.proofs.BodyLoop.{end_reads, follows_behind, follows_both, follows_itself, whole_reads}
+use Rattle.bg_http_read.proofs.BodyLoop.{end_reads, whole_reads}
 use Rattle.bg_http_read.proofs.InterimTaken.{final_behind, memory_refuses, skips_behind}
-use Rattle.bg_http_read.proofs.ResponseBodies.{end_of, framed_fails, framed_reads}
-
--- the head was found, and no byte of the body was taken
-pub fed_head : (request : Request) (head : ResponseHead) (named : ResponseFraming)
-    (p : ResponseBody) (waits seen : List ℕ)
-    → AfterInterim request seen (IsFinalHead request head named waits) → p.head ≡ head
-    → p.framing ≡ named → StartsBody named p.body → IsFedBody request p waits seen
-fed_head request head named p waits seen found of_head of_framing starts = record {
-  after = waits;
-  found = subst (λ n. AfterInterim request seen (IsFinalHead request p.head n waits)) (sym of_framing)
-      (subst (λ h. AfterInterim request seen (IsFinalHead request h named waits)) (sym of_head) found);
-  start = p.body;
-  starts = subst (λ n. StartsBody n p.body) (sym of_framing) starts;
-  follows = follows_itself p.body waits;
-  limit = refl;
-}
-
--- bytes that wait were taken
-pub fed_taken : (request : Request) (p : ResponseBody) (next : Body) (waits now seen : List ℕ)
-    → IsFedBody request p waits seen → Follows p.body waits next now
-    → next.limit ≡ p.body.limit → IsFedBody request (record p { body = next }) now seen
-fed_taken request p next waits now seen h follows limit = record {
-  after = h.after;
-  found = h.found;
-  start = h.start;
-  starts = h.starts;
-  follows = follows_both h.start p.body next h.after waits now h.follows follows;
-  limit = limit ∙ h.limit;
-}
+use Rattle.bg_http_read.proofs.FedBodies.{fed_failure, fed_longer, fed_reads}
+use Rattle.bg_http_read.proofs.FramedBodies.{end_of}
 
 -- more bytes were fed
 fed_behind : (request : Request) (s : ResponseStage) (waits seen more : List ℕ)
     → IsFedStage request s waits seen → IsFedStage request s (waits ++ more) (seen ++ more)
 fed_behind request (part.Heads search) waits seen more h =
     skips_behind request search.interim seen waits more h
-fed_behind request (part.Body p) waits seen more h = record {
-  after = h.after ++ more;
-  found = final_behind request seen h.after more p.head p.framing h.found;
-  start = h.start;
-  starts = h.starts;
-  follows = follows_behind h.start p.body h.after waits more h.follows;
-  limit = h.limit;
-}
+fed_behind request (part.Body p) waits seen more h =
+    fed_longer (responses request) (final_behind request) p waits seen more h
 fed_behind request part.Done waits seen more h = h
 
 pub fed_added : (request : Request) (s : ResponseStage) (waits now seen bytes : List ℕ)
@@ -89,21 +54,24 @@ pub fed_first : (request : Request) (s : ResponseStage) (waits seen bytes : List
 fed_first request s waits seen bytes h none =
     fed_added request s waits bytes seen bytes h (ap (λ l. l ++ bytes) (sym none))
 
--- bytes were read directly into the body, and none waited
-pub fed_straight : (request : Request) (p : ResponseBody) (next : Body) (seen came now : List ℕ)
-    → IsFedBody request p [] seen → now ≡ seen ++ came → Follows p.body came next []
-    → next.limit ≡ p.body.limit → IsFedBody request (record p { body = next }) [] now
-fed_straight request p next seen came now h is follows limit =
-    subst (IsFedBody request (record p { body = next }) []) (sym is)
-    (fed_taken request p next came [] (seen ++ came)
-    (fed_behind request (part.Body p) [] seen came h) follows limit)
+-- the body that the framing names
+as_named : (named : ResponseFraming) (input body rest : List ℕ) → IsFalse (names_another named)
+    → FramedReads (body_of_response named) input body rest → ReadsResponseBody named input body rest
+as_named framing.Interim input body rest last h = absurd (no_true last)
+  where
+    no_true : IsFalse true → ⊥
+    no_true e = cc
+as_named framing.NoBody input body rest last h = h
+as_named framing.Chunks input body rest last h = h
+as_named (framing.Length size) input body rest last h = h
+as_named framing.ToTheEnd input body rest last h = h
 
 -- what is read from the bytes that wait, and from those that follow, is the response
-fed_reads : (request : Request) (p : ResponseBody) (waits seen more rest : List ℕ)
-    (response : Response) → IsFedBody request p waits seen → KeepsLimit p.body
+reads_fed : (request : Request) (p : ResponseBody) (waits seen more rest : List ℕ)
+    (response : Response) → FedBody (responses request) p waits seen → KeepsLimit p.body
     → HasParts response p → Reads p.body (waits ++ more) p.body.bytes.items rest
     → ReadsResponseThen request (seen ++ more) response rest
-fed_reads request p waits seen more rest response h within parts reads = record {
+reads_fed request p waits seen more rest response h within parts reads = record {
   count = found.count;
   few = found.few;
   after = found.after;
@@ -125,43 +93,40 @@ fed_reads request p waits seen more rest response h within parts reads = record 
 }
   where
     found : AfterInterim request (seen ++ more) (IsFinalHead request p.head p.framing (h.after ++ more))
-    found = final_behind request seen h.after more p.head p.framing h.found
-
-    small : length p.body.bytes.items ≤ h.start.limit
-    small = omega (arith, within, h.limit)
+    found = final_behind request seen more p.head p.framing h.after h.found
 
     body : ReadsResponseBody p.framing (h.after ++ more) p.body.bytes.items rest
     body =
-        framed_reads p.framing h.start h.starts h.found.holds.1 (h.after ++ more)
-        p.body.bytes.items rest small (h.follows.read more p.body.bytes.items rest reads)
+        as_named p.framing (h.after ++ more) p.body.bytes.items rest h.found.holds.1
+        (fed_reads (responses request) p waits seen more rest h within reads)
 
 -- the body is complete
 pub fed_whole : (request : Request) (p : ResponseBody) (waits seen : List ℕ) (response : Response)
-    → IsFedBody request p waits seen → KeepsLimit p.body → HasParts response p
+    → FedBody (responses request) p waits seen → KeepsLimit p.body → HasParts response p
     → is_whole p.body.stage ≡ true → IsReadThen request response seen waits
 fed_whole request p waits seen response h within parts whole more =
-    fed_reads request p waits seen more (waits ++ more) response h within parts
+    reads_fed request p waits seen more (waits ++ more) response h within parts
     (whole_reads p.body.stage p.body.bytes.items (waits ++ more) whole)
 
 -- the body ends with the input
 pub fed_end : (request : Request) (p : ResponseBody) (waits seen : List ℕ) (response : Response)
-    → IsFedBody request p waits seen → KeepsLimit p.body → HasParts response p
+    → FedBody (responses request) p waits seen → KeepsLimit p.body → HasParts response p
     → can_end p.body.stage ≡ true → (p.body.stage ≡ stage.ToTheEnd → waits ≡ [])
     → ReadsResponse request response seen
 fed_end request p waits seen response h within parts ends empty =
     subst (ReadsResponse request response) (append-nil seen) (
       waits,
-      fed_reads request p waits seen [] waits response h within parts
+      reads_fed request p waits seen [] waits response h within parts
           (subst (λ l. Reads p.body l p.body.bytes.items waits) (sym (append-nil waits))
           (end_reads p.body.stage p.body.bytes.items waits ends empty)),
     )
 
 -- a failure of the bytes that wait, and of those that follow, is one of the input
 fed_fails : (request : Request) (p : ResponseBody) (waits seen more : List ℕ) (e : ResponseFault)
-    → (h : IsFedBody request p waits seen) → ResponseBodyFails p.framing (h.after ++ more) e
+    → (h : FedBody (responses request) p waits seen) → ResponseBodyFails p.framing (h.after ++ more) e
     → ResponseFails request (seen ++ more) e
 fed_fails request p waits seen more e h fails =
-    let found = final_behind request seen h.after more p.head p.framing h.found in
+    let found = final_behind request seen more p.head p.framing h.after h.found in
     no_body (record {
       count = found.count;
       few = found.few;
@@ -170,34 +135,27 @@ fed_fails request p waits seen more e h fails =
       holds = (p.head, p.framing, h.after ++ more, found.holds, fails);
     })
 
-framed : (request : Request) (p : ResponseBody) (waits seen more : List ℕ) (failure : Failure)
-    → (h : IsFedBody request p waits seen) → Fails p.body failure (waits ++ more)
-    → FramedResponseBodyFails failure p.framing (h.after ++ more)
-framed request p waits seen more failure h fails =
-    framed_fails p.framing h.start h.starts failure (h.after ++ more)
-    (h.follows.fails failure more fails)
-
 pub fed_refused : (request : Request) (p : ResponseBody) (waits seen : List ℕ) (e : MessageFault)
-    → IsFedBody request p waits seen → Refuses p.body waits e
+    → FedBody (responses request) p waits seen → Refuses p.body waits e
     → IsRefused request (as_response e) seen
 fed_refused request p waits seen message_fault.Bad h refused more =
     fed_fails request p waits seen more fault.Bad h
-    (framed request p waits seen more malformed h (refused more))
+    (fed_failure (responses request) p waits seen more malformed h (refused more))
 fed_refused request p waits seen message_fault.HeadTooLarge h refused more = absurd refused
 fed_refused request p waits seen message_fault.TooLarge h refused more =
     fed_fails request p waits seen more fault.TooLarge h
-    (framed request p waits seen more large h (refused more))
+    (fed_failure (responses request) p waits seen more large h (refused more))
 fed_refused request p waits seen message_fault.OutOfMemory h refused more =
     memory_refuses request seen more
 
 -- the body is cut off
 pub fed_cut_off : (request : Request) (p : ResponseBody) (waits seen : List ℕ)
-    → IsFedBody request p waits seen → Fails p.body cut waits
+    → FedBody (responses request) p waits seen → Fails p.body cut waits
     → ResponseFails request seen fault.Closed
 fed_cut_off request p waits seen h fails =
     subst (λ l. ResponseFails request l fault.Closed) (append-nil seen)
     (fed_fails request p waits seen [] fault.Closed h
-    (framed request p waits seen [] cut h (subst (Fails p.body cut) (sym (append-nil waits)) fails)))
+    (fed_failure (responses request) p waits seen [] cut h (subst (Fails p.body cut) (sym (append-nil waits)) fails)))
 
 -- a body that may end and is not complete goes to the end of the input
 to_the_end : (s : BodyStage) → can_end s ≡ true → is_whole s ≡ false → s ≡ stage.ToTheEnd
@@ -211,7 +169,7 @@ to_the_end stage.Trailers ends missing = cc
 to_the_end stage.ToTheEnd ends missing = refl
 to_the_end stage.Whole ends missing = cc
 
-framed_to_the_end : (named : ResponseFraming) → first_stage named ≡ stage.ToTheEnd
+framed_to_the_end : (named : ResponseFraming) → first_stage (body_of_response named) ≡ stage.ToTheEnd
     → named ≡ framing.ToTheEnd
 framed_to_the_end framing.Interim e = cc
 framed_to_the_end framing.NoBody e = cc
@@ -220,7 +178,7 @@ framed_to_the_end (framing.Length size) e = cc
 framed_to_the_end framing.ToTheEnd e = refl
 
 fed_to_the_end : (request : Request) (p : ResponseBody) (waits seen : List ℕ)
-    → IsFedBody request p waits seen → KeepsLimit p.body → WantsBody request p waits seen
+    → FedBody (responses request) p waits seen → KeepsLimit p.body → WantsBody request p waits seen
     → p.body.stage ≡ stage.ToTheEnd → GoesToTheEnd request seen
 fed_to_the_end request p waits seen h within wants is = record {
   count = h.found.count;
@@ -251,7 +209,7 @@ fed_to_the_end request p waits seen h within wants is = record {
         end.1
 
     limit : h.start.limit ≡ most_response_body
-    limit = subst (λ n. h.start.limit ≡ most_of n) named h.starts.limit_is
+    limit = subst (λ n. h.start.limit ≡ most_of (body_of_response n)) named h.starts.limit_is
 
     few : length h.after ≤ most_response_body
     few = omega (arith, ap length (all ∙ append-nil h.after), within, h.limit, limit)

@@ -32,10 +32,10 @@ skips_behind request (suc count) input after more (before, head, skips, judged) 
   judged_more request before more head framing.Interim after judged,
 )
 
-pub final_behind : (request : Request) (input after more : List ℕ) (head : ResponseHead)
-    (named : ResponseFraming) → AfterInterim request input (IsFinalHead request head named after)
+pub final_behind : (request : Request) (input more : List ℕ) (head : ResponseHead)
+    (named : ResponseFraming) (after : List ℕ) → AfterInterim request input (IsFinalHead request head named after)
     → AfterInterim request (input ++ more) (IsFinalHead request head named (after ++ more))
-final_behind request input after more head named h = record {
+final_behind request input more head named after h = record {
   count = h.count;
   few = h.few;
   after = h.after ++ more;

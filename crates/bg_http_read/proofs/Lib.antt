@@ -7,6 +7,7 @@ pub mod ChunkLines
 pub mod CopiedHeads
 pub mod DataSteps
 pub mod FaultStays
+pub mod FedBodies
 pub mod FedRequests
 pub mod FedResponses
 pub mod FieldTexts
@@ -31,12 +32,10 @@ pub mod OneResponseFault
 pub mod OneSequence
 pub mod Pieces
 pub mod RefusedHeads
-pub mod RequestBodies
 pub mod RequestOrFault
 pub mod RequestPieces
 pub mod RequestSteps
 pub mod RequestsRead
-pub mod ResponseBodies
 pub mod ResponseOrFault
 pub mod ResponseSteps
 pub mod RuleFaults

@@ -3,17 +3,16 @@ use Rattle.std.proofs.Common.{◌≡◌, ◌⊎◌, ℕ, true, false, List, [], 
 use Rattle.httparse.specs.Grammar as grammar
 use Rattle.bg_http.specs.RequestRules.{request_framing}
 use Rattle.bg_http.specs.declared.request_rules.Framing.{Framing}
-use Rattle.bg_http.specs.declared.request_rules.Framing.TheVariants as framing
 use Rattle.bg_http.specs.declared.request_fault.RequestFault.{RequestFault}
 use Rattle.bg_http.specs.declared.request_fault.RequestFault.TheVariants as fault
 use Rattle.bg_http_read.specs.BodyFaults.{Failure, malformed, large, cut}
 use Rattle.bg_http_read.specs.HeadFaults.{RequestHeadFails}
 use Rattle.bg_http_read.specs.Laws.{is_of_machine, EndsInManyTrailers, EndsInWrongTarget, IsUndecided}
 use Rattle.bg_http_read.specs.Heads.{request_heads}
-use Rattle.bg_http_read.specs.Requests.{HeadRefused, BodyRefused, FramedBodyFails, RequestBodyFails, RequestFails}
+use Rattle.bg_http_read.specs.Requests.{HeadRefused, BodyRefused, FramedBodyFails, RequestBodyFails, RequestFails, body_of_request}
 use Rattle.bg_http_read.proofs.HeadsFound.{large_or_cut, large_or_malformed, malformed_or_cut, one_head, request_laws}
 use Rattle.bg_http_read.proofs.RequestOrFault.{head_or_fault}
-use Rattle.bg_http_read.proofs.OneFailure.{one_body_failure, one_length_failure}
+use Rattle.bg_http_read.proofs.FramedBodies.{one_framed_failure}
 
 of_both : {A : Type 0} (e : RequestFault) → is_of_machine e ≡ true → is_of_machine e ≡ false → A
 of_both e is isnt = absurd (differ (sym is ∙ isnt))
@@ -60,15 +59,6 @@ one_head_fault input fault.Closed fault.NotDone h k isnt neither = absurd k
 one_head_fault input fault.Closed fault.TooLarge h k isnt neither = absurd k
 one_head_fault input fault.Closed fault.OutOfMemory h k isnt neither = of_both fault.OutOfMemory refl neither
 
-one_framed_failure : (named : Framing) (one other : Failure) (input : List ℕ)
-    → FramedBodyFails one named input → FramedBodyFails other named input
-    → (one ≡ other) ⊎ EndsInManyTrailers input
-one_framed_failure framing.NoBody one other input h k = absurd h
-one_framed_failure framing.Chunks one other input h k =
-    one_body_failure one other 1048576 input h k
-one_framed_failure (framing.Length size) one other input h k =
-    inl (one_length_failure one other size input h k)
-
 abbrev fault_of : Failure → RequestFault
 fault_of malformed = fault.Bad
 fault_of large = fault.TooLarge
@@ -94,7 +84,7 @@ one_body_fault : (named : Framing) (input : List ℕ) (one other : RequestFault)
 one_body_fault named input one other h k isnt neither =
     let first = body_failure named input one h isnt in
     let second = body_failure named input other k neither in
-    same first.2 second.2 (one_framed_failure named first.0 second.0 input first.1 second.1)
+    same first.2 second.2 (one_framed_failure (body_of_request named) first.0 second.0 input first.1 second.1)
   where
     same : {f g : Failure} → one ≡ fault_of f → other ≡ fault_of g
         → (f ≡ g) ⊎ EndsInManyTrailers input → (one ≡ other) ⊎ EndsInManyTrailers input

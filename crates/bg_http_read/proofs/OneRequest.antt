@@ -1,64 +1,40 @@
 -- An input begins with at most one request, which has bytes of its own.
-use Rattle.std.proofs.Common.{◌≡◌, ◌⊎◌, inl, inr, ℕ, ◌<◌, ◌≤◌, Bool, List, [], ◌∷◌, ◌++◌, length, drop, refl, ap, ap₂, sym, ◌∙◌, arith, subst, append_assoc, Option, Some, Ok}
+use Rattle.std.proofs.Common.{◌≡◌, ◌⊎◌, inl, inr, ℕ, ◌<◌, ◌≤◌, Bool, List, [], ◌∷◌, ◌++◌, length, drop, refl, ap, sym, ◌∙◌, arith, subst, append_assoc, Option, Ok}
 use Rattle.std.proofs.lemmas.List.{append-nil, append_cancel_left}
 use Rattle.httparse.specs.Ascii.{crlf_bytes}
 use Rattle.httparse.specs.Grammar.{print_chunk_line, print_request, print_section}
-use Rattle.httparse.proofs.GrammarLemmas.{section_unique}
 use Rattle.bg_http.specs.RequestRules.{request_framing}
 use Rattle.bg_http.specs.declared.request.Request.{Request}
 use Rattle.bg_http.specs.declared.request_rules.Framing.{Framing}
 use Rattle.bg_http.specs.declared.request_rules.Framing.TheVariants as framing
-use Rattle.bg_http_read.specs.Chunks.{Leads, ReadsChunks, ReadsEnd, ReadsTrailers, joined}
+use Rattle.bg_http_read.specs.Chunks.{Leads, ReadsEnd}
 use Rattle.bg_http_read.specs.RequestStates.{IsReadThen, LacksRequest}
-use Rattle.bg_http_read.specs.Requests.{ReadsRequest, ReadsRequestBody}
-use Rattle.bg_http_read.proofs.ChunkLines.{one_line}
-use Rattle.bg_http_read.proofs.Fronts.{equal_front, prefix_of}
+use Rattle.bg_http_read.specs.BodyFramings.{FramedReads}
+use Rattle.bg_http_read.specs.Requests.{ReadsRequest, ReadsRequestBody, body_of_request}
+use Rattle.bg_http_read.specs.RequestsFed.{framed_body}
+use Rattle.bg_http_read.proofs.FramedBodies.{one_framed}
+use Rattle.bg_http_read.proofs.Fronts.{prefix_of}
 use Rattle.bg_http_read.proofs.InterimOrder.{compare}
 use Rattle.bg_http_read.specs.Heads.{request_heads}
 use Rattle.bg_http_read.proofs.HeadsFound.{one_head, request_laws}
 
--- an input begins with at most one of each part
-one_trailers : (input one other : List ℕ) → ReadsTrailers input one → ReadsTrailers input other → one ≡ other
-one_trailers input one other h k =
-    (section_unique input h.fields k.fields h.last k.last one other h.reads k.reads).2
-
-one_leads : (one other : List (List ℕ)) (input rest left : List ℕ) → Leads (ReadsEnd rest) one input
-    → Leads (ReadsEnd left) other input → (joined one ≡ joined other) × (rest ≡ left)
-one_leads [] [] input rest left h k =
-    let lines = one_line input 0 0 h.after k.after h.line k.line in
-    (refl, one_trailers k.after rest left (subst (λ l. ReadsTrailers l rest) lines.1 h.trailers) k.trailers)
-one_leads [] (bytes ∷ more) input rest left h (next, chunk, leads) =
-    let lines = one_line input 0 (length bytes) h.after chunk.after h.line chunk.line in
-    let some = chunk.some in
-    absurd (omega (arith, lines.0, some))
-one_leads (bytes ∷ more) [] input rest left (next, chunk, leads) k =
-    let lines = one_line input (length bytes) 0 chunk.after k.after chunk.line k.line in
-    let some = chunk.some in
-    absurd (omega (arith, lines.0, some))
-one_leads (bytes ∷ more) (others ∷ most) input rest left (next, chunk, leads) (last, second, tail) =
-    let lines = one_line input (length bytes) (length others) chunk.after second.after chunk.line second.line in
-    let texts = sym chunk.bytes_are ∙ lines.1 ∙ second.bytes_are in
-    let fronts = equal_front bytes (crlf_bytes ++ next) others (crlf_bytes ++ last) texts lines.0 in
-    let tails = append_cancel_left crlf_bytes next last fronts.1 in
-    let same = one_leads more most last rest left (subst (Leads (ReadsEnd rest) more) tails leads) tail in
-    (ap₂ (λ a b. a ++ b) fronts.0 same.0, same.1)
-
-pub one_chunks : (input one other rest left : List ℕ) → ReadsChunks input one rest
-    → ReadsChunks input other left → (one ≡ other) × (rest ≡ left)
-one_chunks input one other rest left h k =
-    let same = one_leads h.chunks k.chunks input rest left h.leads k.leads in
-    (h.body_is ∙ same.0 ∙ sym k.body_is, same.1)
+-- the body of a request, by its bytes
+pub named_bytes : (named : Framing) (input : List ℕ) (body : Option (List ℕ)) (rest : List ℕ)
+    → ReadsRequestBody named input body rest
+    → (bytes : List ℕ) × (body ≡ framed_body named bytes)
+    × FramedReads (body_of_request named) input bytes rest
+named_bytes framing.NoBody input body rest (is, whole) = ([], is, (refl, whole))
+named_bytes framing.Chunks input body rest (bytes, is, reads, fits) = (bytes, is, (reads, fits))
+named_bytes (framing.Length size) input body rest (bytes, is, long, whole) = (bytes, is, (long, whole))
 
 pub one_body : (named : Framing) (input : List ℕ) (one other : Option (List ℕ)) (rest left : List ℕ)
     → ReadsRequestBody named input one rest → ReadsRequestBody named input other left
     → (one ≡ other) × (rest ≡ left)
-one_body framing.NoBody input one other rest left h k = (h.0 ∙ sym k.0, sym h.1 ∙ k.1)
-one_body framing.Chunks input one other rest left (a, is, reads, fits) (b, was, again, short) =
-    let same = one_chunks input a b rest left reads again in
-    (is ∙ ap Some same.0 ∙ sym was, same.1)
-one_body (framing.Length size) input one other rest left (a, is, long, whole) (b, was, same, all) =
-    let fronts = equal_front a rest b left (sym whole ∙ all) (long ∙ sym same) in
-    (is ∙ ap Some fronts.0 ∙ sym was, fronts.1)
+one_body named input one other rest left h k =
+    let a = named_bytes named input one rest h in
+    let b = named_bytes named input other left k in
+    let same = one_framed (body_of_request named) input a.0 b.0 rest left a.2 b.2 in
+    (a.1 ∙ ap (framed_body named) same.0 ∙ sym b.1, same.1)
 
 pub one_request : (input : List ℕ) (one other : Request) (rest left : List ℕ)
     → ReadsRequest input one rest → ReadsRequest input other left → (one ≡ other) × (rest ≡ left)

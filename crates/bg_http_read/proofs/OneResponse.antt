@@ -6,22 +6,21 @@ use Rattle.bg_http.specs.declared.response.Response.{Response}
 use Rattle.bg_http.specs.declared.response.ResponseHead.{ResponseHead}
 use Rattle.bg_http.specs.declared.response_rules.ResponseFraming.{ResponseFraming}
 use Rattle.bg_http.specs.declared.response_rules.ResponseFraming.TheVariants as framing
-use Rattle.bg_http_read.specs.Responses.{IsFinalHead, IsResponse, ReadsResponseBody, ReadsResponseThen, length_of_response}
-use Rattle.bg_http_read.proofs.Fronts.{equal_front}
+use Rattle.bg_http_read.specs.BodyFramings.{FramedReads}
+use Rattle.bg_http_read.specs.Responses.{IsFinalHead, IsResponse, ReadsResponseBody, ReadsResponseThen, body_of_response, length_of_response}
+use Rattle.bg_http_read.proofs.FramedBodies.{one_framed}
 use Rattle.bg_http_read.specs.Heads.{response_heads}
 use Rattle.bg_http_read.proofs.HeadsFound.{one_head, response_laws}
 use Rattle.bg_http_read.proofs.InterimOrder.{IsInterim, final_or_interim, in_order}
-use Rattle.bg_http_read.proofs.OneRequest.{one_chunks}
 
-pub one_response_body : (named : ResponseFraming) (input one other rest left : List ℕ)
-    → ReadsResponseBody named input one rest → ReadsResponseBody named input other left
-    → (one ≡ other) × (rest ≡ left)
-one_response_body framing.Interim input one other rest left h k = absurd h
-one_response_body framing.NoBody input one other rest left h k = (h.0 ∙ sym k.0, sym h.1 ∙ k.1)
-one_response_body framing.Chunks input one other rest left h k = one_chunks input one other rest left h.0 k.0
-one_response_body (framing.Length size) input one other rest left h k =
-    equal_front one rest other left (sym h.1 ∙ k.1) (h.0 ∙ sym k.0)
-one_response_body framing.ToTheEnd input one other rest left h k = (h.1 ∙ sym k.1, h.0 ∙ sym k.0)
+-- the body of a response, by its framing
+pub named_body : (named : ResponseFraming) (input body rest : List ℕ)
+    → ReadsResponseBody named input body rest → FramedReads (body_of_response named) input body rest
+named_body framing.Interim input body rest h = absurd h
+named_body framing.NoBody input body rest h = h
+named_body framing.Chunks input body rest h = h
+named_body (framing.Length size) input body rest h = h
+named_body framing.ToTheEnd input body rest h = h
 
 pub same_response : (a b : Response) → a.code ≡ b.code → a.reason ≡ b.reason → a.fields ≡ b.fields
     → a.length ≡ b.length → a.body ≡ b.body → a ≡ b
@@ -39,9 +38,10 @@ pub same_answer : (one other : Response) (head second : ResponseHead) (named cal
     → IsResponse one head named after rest → IsResponse other second called next left
     → (one ≡ other) × (rest ≡ left)
 same_answer one other head second named called after next rest left heads names places is was =
-    let bodies = one_response_body called next one.body other.body rest left
-    (subst (λ n. ReadsResponseBody n next one.body rest) names
-    (subst (λ l. ReadsResponseBody named l one.body rest) places is.body)) was.body in
+    let first = subst (λ n. ReadsResponseBody n next one.body rest) names
+    (subst (λ l. ReadsResponseBody named l one.body rest) places is.body) in
+    let bodies = one_framed (body_of_response called) next one.body other.body rest left
+    (named_body called next one.body rest first) (named_body called next other.body left was.body) in
     let lengths : one.length ≡ other.length =
     is.length_is ∙ ap (λ n. length_of_response n head one.body) names
     ∙ ap₂ (λ t b. length_of_response called t b) heads bodies.0 ∙ sym was.length_is in (

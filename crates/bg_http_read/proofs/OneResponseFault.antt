@@ -7,15 +7,15 @@ use Rattle.bg_http.specs.declared.response_rules.ResponseFraming.{ResponseFramin
 use Rattle.bg_http.specs.declared.response_rules.ResponseFraming.TheVariants as framing
 use Rattle.bg_http.specs.declared.response_fault.ResponseFault.{ResponseFault}
 use Rattle.bg_http.specs.declared.response_fault.ResponseFault.TheVariants as fault
-use Rattle.bg_http_read.specs.BodyFaults.{Failure, malformed, large, cut, EndFails}
+use Rattle.bg_http_read.specs.BodyFaults.{Failure, malformed, large, cut}
 use Rattle.bg_http_read.specs.HeadFaults.{ResponseHeadFails}
 use Rattle.bg_http_read.specs.Laws.{is_of_reading, EndsInManyTrailers, IsUndecidedResponse}
 use Rattle.bg_http_read.specs.Heads.{response_heads}
-use Rattle.bg_http_read.specs.Responses.{FramedResponseBodyFails, ResponseBodyFails, AfterInterim, HasManyInterim, BreaksResponseRule, FinalHeadThen, ResponseFails, breaks_rule, no_head, many_interim, no_body}
+use Rattle.bg_http_read.specs.Responses.{FramedResponseBodyFails, ResponseBodyFails, AfterInterim, HasManyInterim, BreaksResponseRule, FinalHeadThen, ResponseFails, body_of_response, breaks_rule, no_head, many_interim, no_body}
 use Rattle.bg_http_read.proofs.HeadsFound.{large_or_cut, large_or_malformed, malformed_or_cut, one_head, response_laws}
 use Rattle.bg_http_read.proofs.InterimOrder.{IsInterim, in_order, interim_earlier, final_or_interim}
 use Rattle.bg_http_read.proofs.ResponseOrFault.{head_or_fault}
-use Rattle.bg_http_read.proofs.OneFailure.{one_body_failure, one_length_failure}
+use Rattle.bg_http_read.proofs.FramedBodies.{one_framed_failure}
 
 of_both : {A : Type 0} (e : ResponseFault) → is_of_reading e ≡ true → is_of_reading e ≡ false → A
 of_both e is isnt = absurd (differ (sym is ∙ isnt))
@@ -53,26 +53,6 @@ one_head_fault input fault.Closed fault.TooLarge h k isnt neither = absurd k
 one_head_fault input fault.Closed fault.Closed h k isnt neither = refl
 one_head_fault input fault.Closed fault.OutOfMemory h k isnt neither = of_both fault.OutOfMemory refl neither
 
-one_end_failure : (one other : Failure) (limit : ℕ) (input : List ℕ) → EndFails one limit input
-    → EndFails other limit input → one ≡ other
-one_end_failure malformed other limit input h k = absurd h
-one_end_failure cut other limit input h k = absurd h
-one_end_failure large malformed limit input h k = absurd k
-one_end_failure large cut limit input h k = absurd k
-one_end_failure large large limit input h k = refl
-
-one_framed_failure : (named : ResponseFraming) (one other : Failure) (input : List ℕ)
-    → FramedResponseBodyFails one named input → FramedResponseBodyFails other named input
-    → (one ≡ other) ⊎ EndsInManyTrailers input
-one_framed_failure framing.Interim one other input h k = absurd h
-one_framed_failure framing.NoBody one other input h k = absurd h
-one_framed_failure framing.Chunks one other input h k =
-    one_body_failure one other 4194304 input h k
-one_framed_failure (framing.Length size) one other input h k =
-    inl (one_length_failure one other size input h k)
-one_framed_failure framing.ToTheEnd one other input h k =
-    inl (one_end_failure one other 4194304 input h k)
-
 abbrev fault_of : Failure → ResponseFault
 fault_of malformed = fault.Bad
 fault_of large = fault.TooLarge
@@ -96,7 +76,7 @@ one_body_fault : (named : ResponseFraming) (input : List ℕ) (one other : Respo
 one_body_fault named input one other h k isnt neither =
     let first = body_failure named input one h isnt in
     let second = body_failure named input other k neither in
-    same first.2 second.2 (one_framed_failure named first.0 second.0 input first.1 second.1)
+    same first.2 second.2 (one_framed_failure (body_of_response named) first.0 second.0 input first.1 second.1)
   where
     same : {f g : Failure} → one ≡ fault_of f → other ≡ fault_of g
         → (f ≡ g) ⊎ EndsInManyTrailers input → (one ≡ other) ⊎ EndsInManyTrailers input

@@ -8,11 +8,11 @@ use Rattle.bg_http.specs.declared.request_rules.Framing.{Framing}
 use Rattle.bg_http.specs.declared.request_fault.RequestFault.TheVariants as fault
 use Rattle.bg_http_read.specs.RefusedHeads.{BeginsRefused, TellsHead}
 use Rattle.bg_http_read.specs.Heads.{HeadIsCut, ReadsRequestHead, request_heads}
+use Rattle.bg_http_read.specs.BodyFramings.{FedBody}
 use Rattle.bg_http_read.specs.Requests.{JudgedHead}
 use Rattle.bg_http_read.specs.RequestStates.{FailsAsked, IfWhole, goes_on}
-use Rattle.bg_http_read.specs.RequestsFed.{AdvancesTo, IsAt, IsFedBody, IsFedStage, LacksHead, head_after, LacksHead, known_head, was_asked}
+use Rattle.bg_http_read.specs.RequestsFed.{AdvancesTo, IsAt, IsFedStage, LacksHead, RequestBody, head_after, known_head, requests, was_asked}
 use Rattle.bg_http_read.specs.declared.refused_head.RefusedHead.{RefusedHead}
-use Rattle.bg_http_read.specs.declared.request_body.RequestBody.{RequestBody}
 use Rattle.bg_http_read.specs.declared.request_progress.RequestStage.{RequestStage}
 use Rattle.bg_http_read.specs.declared.request_progress.RequestStage.TheVariants as part
 use Rattle.bg_http_read.specs.declared.request_step.RequestStep.{RequestStep}
@@ -28,14 +28,14 @@ tells_judged head back named after seen h same =
 
 -- the head of a body that was fed
 pub tells_sound : (p : RequestBody) (waits seen : List ℕ) (e : RequestFault) (told : Option RefusedHead)
-    → told ≡ Some (record { head = p.head; is_sound = true }) → IsFedBody p waits seen
+    → told ≡ Some (record { head = p.head; is_sound = true }) → FedBody requests p waits seen
     → TellsHead seen e told
 tells_sound p waits seen e told is h = subst (TellsHead seen e) (sym is)
     (tells_judged p.head p.head p.framing h.after seen h.found refl)
 
 -- the body that was fed fails
 pub tells_body : (A : Type 0) (r : Result A RequestFault) (p : RequestBody) (waits seen : List ℕ)
-    (told : Option RefusedHead) → IsFedBody p waits seen
+    (told : Option RefusedHead) → FedBody requests p waits seen
     → IfErr r (λ e. told ≡ Some (record { head = p.head; is_sound = true }))
     → IfErr r (λ e. TellsHead seen e told)
 tells_body A (Ok a) p waits seen told h is = tt

@@ -4,16 +4,16 @@ use Rattle.bg_http.specs.RequestRules.{request_framing}
 use Rattle.bg_http.specs.declared.request.Request.{Request}
 use Rattle.bg_http.specs.declared.request.RequestHead.{RequestHead}
 use Rattle.bg_http.specs.declared.request_rules.Framing.{Framing}
-use Rattle.bg_http.specs.declared.request_rules.Framing.TheVariants as framing
 use Rattle.bg_http.specs.declared.request_fault.RequestFault.{RequestFault}
 use Rattle.bg_http.specs.declared.request_fault.RequestFault.TheVariants as fault
 use Rattle.bg_http_read.specs.BodyFaults.{Failure, malformed, large, cut}
 use Rattle.bg_http_read.specs.HeadFaults.{RequestHeadFails}
 use Rattle.bg_http_read.specs.Laws.{is_of_machine}
 use Rattle.bg_http_read.specs.Heads.{ReadsRequestHead, request_heads}
-use Rattle.bg_http_read.specs.Requests.{ReadsRequest, ReadsRequestBody, FramedBodyFails, RequestBodyFails, RequestFails}
-use Rattle.bg_http_read.proofs.BodyOrFault.{body_or_fault, length_or_fault}
+use Rattle.bg_http_read.specs.Requests.{ReadsRequest, ReadsRequestBody, FramedBodyFails, RequestBodyFails, RequestFails, body_of_request}
+use Rattle.bg_http_read.proofs.FramedBodies.{framed_or_fault}
 use Rattle.bg_http_read.proofs.HeadsFound.{not_cut, not_large, not_malformed, one_head, request_laws}
+use Rattle.bg_http_read.proofs.OneRequest.{named_bytes}
 
 pub head_or_fault : (input : List ℕ) (head : RequestHead) (after : List ℕ) (e : RequestFault)
     → ReadsRequestHead input head after → RequestHeadFails input e
@@ -30,14 +30,12 @@ head_or_fault input head after fault.NotDone h f = absurd f
 head_or_fault input head after fault.TooLarge h f = absurd f
 head_or_fault input head after fault.OutOfMemory h f = refl
 
-framed_or_fault : (named : Framing) (failure : Failure) (input : List ℕ) (body : Option (List ℕ))
+body_or_failure : (named : Framing) (failure : Failure) (input : List ℕ) (body : Option (List ℕ))
     (rest : List ℕ) → ReadsRequestBody named input body rest → FramedBodyFails failure named input
     → ⊥
-framed_or_fault framing.NoBody failure input body rest h f = f
-framed_or_fault framing.Chunks failure input body rest (bytes, is, reads, fits) f =
-    body_or_fault failure 1048576 input bytes rest reads fits f
-framed_or_fault (framing.Length size) failure input body rest (bytes, is, long, whole) f =
-    length_or_fault failure size input bytes rest long whole f
+body_or_failure named failure input body rest h f =
+    let bytes = named_bytes named input body rest h in
+    framed_or_fault (body_of_request named) failure input bytes.0 rest bytes.2 f
 
 request_body_or_fault : (named : Framing) (input : List ℕ) (body : Option (List ℕ)) (rest : List ℕ)
     (e : RequestFault) → ReadsRequestBody named input body rest → RequestBodyFails named input e
@@ -46,12 +44,12 @@ request_body_or_fault named input body rest fault.ReadFailed h f = refl
 request_body_or_fault named input body rest fault.WriteFailed h f = absurd f
 request_body_or_fault named input body rest fault.HeadTooLarge h f = absurd f
 request_body_or_fault named input body rest fault.Bad h f =
-    absurd (framed_or_fault named malformed input body rest h f)
+    absurd (body_or_failure named malformed input body rest h f)
 request_body_or_fault named input body rest fault.Closed h f =
-    absurd (framed_or_fault named cut input body rest h f)
+    absurd (body_or_failure named cut input body rest h f)
 request_body_or_fault named input body rest fault.NotDone h f = absurd f
 request_body_or_fault named input body rest fault.TooLarge h f =
-    absurd (framed_or_fault named large input body rest h f)
+    absurd (body_or_failure named large input body rest h f)
 request_body_or_fault named input body rest fault.OutOfMemory h f = refl
 
 pub request_or_fault : (input rest : List ℕ) (request : Request) (e : RequestFault)

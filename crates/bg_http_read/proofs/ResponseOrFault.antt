@@ -1,5 +1,5 @@
 -- An input that begins with a response has no fault of the input.
-use Rattle.std.proofs.Common.{◌≡◌, ◌⊎◌, ℕ, ◌≤◌, true, List, length, refl, ap, sym, ◌∙◌, arith, subst, Ok, Err, inl, inr}
+use Rattle.std.proofs.Common.{◌≡◌, ◌⊎◌, ℕ, true, List, refl, ap, sym, ◌∙◌, arith, subst, Ok, Err, inl, inr}
 use Rattle.bg_http.specs.ResponseRules.{response_framing}
 use Rattle.bg_http.specs.declared.request.Request.{Request}
 use Rattle.bg_http.specs.declared.response.Response.{Response}
@@ -8,13 +8,14 @@ use Rattle.bg_http.specs.declared.response_rules.ResponseFraming.{ResponseFramin
 use Rattle.bg_http.specs.declared.response_rules.ResponseFraming.TheVariants as framing
 use Rattle.bg_http.specs.declared.response_fault.ResponseFault.{ResponseFault}
 use Rattle.bg_http.specs.declared.response_fault.ResponseFault.TheVariants as wrong
-use Rattle.bg_http_read.specs.BodyFaults.{Failure, malformed, large, cut, EndFails}
+use Rattle.bg_http_read.specs.BodyFaults.{Failure, malformed, large, cut}
 use Rattle.bg_http_read.specs.HeadFaults.{ResponseHeadFails}
 use Rattle.bg_http_read.specs.Laws.{is_of_reading}
 use Rattle.bg_http_read.specs.Heads.{ReadsResponseHead, response_heads}
-use Rattle.bg_http_read.specs.Responses.{ReadsResponseBody, FramedResponseBodyFails, ResponseBodyFails, BreaksResponseRule, FinalHeadThen, ReadsResponse, ResponseFails, breaks_rule, no_head, many_interim, no_body}
-use Rattle.bg_http_read.proofs.BodyOrFault.{body_or_fault, length_or_fault}
+use Rattle.bg_http_read.specs.Responses.{ReadsResponseBody, FramedResponseBodyFails, ResponseBodyFails, BreaksResponseRule, FinalHeadThen, ReadsResponse, ResponseFails, body_of_response, breaks_rule, no_head, many_interim, no_body}
+use Rattle.bg_http_read.proofs.FramedBodies.{framed_or_fault}
 use Rattle.bg_http_read.proofs.HeadsFound.{not_cut, not_large, not_malformed, one_head, response_laws}
+use Rattle.bg_http_read.proofs.OneResponse.{named_body}
 use Rattle.bg_http_read.proofs.InterimOrder.{IsInterim, in_order, interim_earlier, final_or_interim}
 
 pub head_or_fault : (input : List ℕ) (head : ResponseHead) (after : List ℕ) (e : ResponseFault)
@@ -29,22 +30,10 @@ head_or_fault input head after wrong.Closed h f =
     absurd (not_cut response_heads input head after h f)
 head_or_fault input head after wrong.OutOfMemory h f = refl
 
-end_or_fault : (failure : Failure) (limit : ℕ) (input body : List ℕ) → body ≡ input
-    → length body ≤ limit → EndFails failure limit input → ⊥
-end_or_fault malformed limit input body is fits f = f
-end_or_fault large limit input body is fits f = omega (arith, f, fits, ap length is)
-end_or_fault cut limit input body is fits f = f
-
-framed_or_fault : (named : ResponseFraming) (failure : Failure) (input body rest : List ℕ)
+body_or_failure : (named : ResponseFraming) (failure : Failure) (input body rest : List ℕ)
     → ReadsResponseBody named input body rest → FramedResponseBodyFails failure named input → ⊥
-framed_or_fault framing.Interim failure input body rest h f = f
-framed_or_fault framing.NoBody failure input body rest h f = f
-framed_or_fault framing.Chunks failure input body rest (reads, fits) f =
-    body_or_fault failure 4194304 input body rest reads fits f
-framed_or_fault (framing.Length size) failure input body rest (long, whole) f =
-    length_or_fault failure size input body rest long whole f
-framed_or_fault framing.ToTheEnd failure input body rest (ends, is, fits) f =
-    end_or_fault failure 4194304 input body is fits f
+body_or_failure named failure input body rest h f =
+    framed_or_fault (body_of_response named) failure input body rest (named_body named input body rest h) f
 
 response_body_or_fault : (named : ResponseFraming) (input body rest : List ℕ) (e : ResponseFault)
     → ReadsResponseBody named input body rest → ResponseBodyFails named input e
@@ -52,11 +41,11 @@ response_body_or_fault : (named : ResponseFraming) (input body rest : List ℕ) 
 response_body_or_fault named input body rest wrong.ReadFailed h f = refl
 response_body_or_fault named input body rest wrong.HeadTooLarge h f = absurd f
 response_body_or_fault named input body rest wrong.Bad h f =
-    absurd (framed_or_fault named malformed input body rest h f)
+    absurd (body_or_failure named malformed input body rest h f)
 response_body_or_fault named input body rest wrong.TooLarge h f =
-    absurd (framed_or_fault named large input body rest h f)
+    absurd (body_or_failure named large input body rest h f)
 response_body_or_fault named input body rest wrong.Closed h f =
-    absurd (framed_or_fault named cut input body rest h f)
+    absurd (body_or_failure named cut input body rest h f)
 response_body_or_fault named input body rest wrong.OutOfMemory h f = refl
 
 pub response_or_fault : (request : Request) (input : List ℕ) (response : Response)

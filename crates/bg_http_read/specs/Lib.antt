@@ -2,6 +2,7 @@ pub mod AnsweredRequests
 pub mod AnySize
 pub mod Bodies
 pub mod BodyFaults
+pub mod BodyFramings
 pub mod Chunks
 pub mod ForwardedRequests
 pub mod HeadEnds

@@ -9,10 +9,13 @@ use Rattle.bg_http.specs.declared.request_rules.Framing.TheVariants as framing
 use Rattle.bg_http.specs.declared.request_rules.TheConstants.{MOST_REQUEST_BODY}
 use Rattle.bg_http.specs.declared.request_fault.RequestFault.{RequestFault}
 use Rattle.bg_http.specs.declared.request_fault.RequestFault.TheVariants as fault
-use Rattle.bg_http_read.specs.BodyFaults.{Failure, malformed, large, cut, ChunksFail, LengthFails}
+use Rattle.bg_http_read.specs.BodyFaults.{Failure, malformed, large, cut}
+use Rattle.bg_http_read.specs.BodyFramings.{FramedFails}
 use Rattle.bg_http_read.specs.Chunks.{ReadsChunks}
 use Rattle.bg_http_read.specs.HeadFaults.{RequestHeadFails}
 use Rattle.bg_http_read.specs.Heads.{ReadsRequestHead}
+use Rattle.bg_http_read.specs.declared.body.BodyFraming.{BodyFraming}
+use Rattle.bg_http_read.specs.declared.body.BodyFraming.TheVariants as ends
 
 -- the most bytes that a request's body may have
 abbrev pub most_body : ℕ
@@ -67,11 +70,15 @@ pub record AfterHead (input : List ℕ) (P : RequestHead → Framing → List �
   pub begins : JudgedHead input head framing after
   pub holds : P head framing after
 
+-- how the body of a request ends
+abbrev pub body_of_request : Framing → BodyFraming
+body_of_request framing.NoBody = ends.Empty
+body_of_request framing.Chunks = ends.Chunks most_body
+body_of_request (framing.Length size) = ends.Length size
+
 -- how the body that the framing names fails
 abbrev pub FramedBodyFails : Failure → Framing → List ℕ → Type 0
-FramedBodyFails failure framing.NoBody input = ⊥
-FramedBodyFails failure framing.Chunks input = ChunksFail failure most_body 0 input
-FramedBodyFails failure (framing.Length size) input = LengthFails failure size input
+FramedBodyFails failure named input = FramedFails failure (body_of_request named) input
 
 -- what a fault says about the input of a body
 abbrev pub RequestBodyFails : Framing → List ℕ → RequestFault → Type 0

@@ -1,23 +1,22 @@
 -- The bytes of a request that were fed, and those that are still to be read.
-use Rattle.std.specs.Prelude.{◌≡◌, Bool, true, false, IsTrue, ℕ, List, [], drop, Option, Some, None, Result, Ok, Err, ⊤}
+use Rattle.std.specs.Prelude.{◌≡◌, Bool, true, false, IsTrue, ℕ, List, drop, Option, Some, None, Result, Ok, Err, ⊤}
 use Rattle.httparse.specs.Grammar.{HasNoRequest}
 use Rattle.bg_http.specs.RequestRules.{owes_continue}
 use Rattle.bg_http.specs.declared.request.Request.{Request}
+use Rattle.bg_http.specs.declared.request.RequestHead.{RequestHead}
 use Rattle.bg_http.specs.declared.request_fault.RequestFault.{RequestFault}
 use Rattle.bg_http.specs.declared.request_fault.RequestFault.TheVariants as fault
 use Rattle.bg_http.specs.declared.request_rules.Framing.{Framing}
 use Rattle.bg_http.specs.declared.request_rules.Framing.TheVariants as framing
-use Rattle.bg_http_read.specs.Bodies.{Follows, KeepsLimit}
+use Rattle.bg_http_read.specs.Bodies.{KeepsLimit}
+use Rattle.bg_http_read.specs.BodyFramings.{FedBody, Finding}
 use Rattle.bg_http_read.specs.HeadEnds.{after_bytes, is_over}
-use Rattle.bg_http_read.specs.Requests.{JudgedHead, most_body}
+use Rattle.bg_http_read.specs.Requests.{JudgedHead, body_of_request}
 use Rattle.bg_http_read.specs.RequestStates.{FailsAsked, IsReadThen, IsRefusedAsked, LacksRequest, OwesContinue, ReadsAsked}
 use Rattle.bg_http_read.specs.Streams.{waiting}
+use Rattle.bg_http_read.specs.declared.message_body.MessageBody.{MessageBody}
 use Rattle.bg_http_read.specs.declared.head_end.HeadEnd.TheVariants as head_end
-use Rattle.bg_http_read.specs.declared.body.Body.{Body}
-use Rattle.bg_http_read.specs.declared.body.BodyStage.{BodyStage}
-use Rattle.bg_http_read.specs.declared.body.BodyStage.TheVariants as stage
 use Rattle.bg_http_read.specs.declared.refused_head.RefusedHead.{RefusedHead}
-use Rattle.bg_http_read.specs.declared.request_body.RequestBody.{RequestBody}
 use Rattle.bg_http_read.specs.declared.request_feed.RequestFeed.{RequestFeed}
 use Rattle.bg_http_read.specs.declared.request_progress.RequestAdvance.{RequestAdvance}
 use Rattle.bg_http_read.specs.declared.request_progress.RequestStage.{RequestStage}
@@ -25,37 +24,16 @@ use Rattle.bg_http_read.specs.declared.request_progress.RequestStage.TheVariants
 use Rattle.bg_http_read.specs.declared.request_step.RequestStep.{RequestStep}
 use Rattle.bg_http_read.specs.declared.request_step.RequestStep.TheVariants as step
 
--- the first stage of a body
-abbrev pub first_stage : Framing → BodyStage
-first_stage framing.NoBody = stage.Length 0
-first_stage framing.Chunks = stage.Line
-first_stage (framing.Length size) = stage.Length size
+abbrev pub RequestBody : Type 0
+RequestBody = MessageBody RequestHead Framing
 
--- the maximum number of bytes of a body
-abbrev pub most_of : Framing → ℕ
-most_of framing.NoBody = 0
-most_of framing.Chunks = most_body
-most_of (framing.Length size) = size
-
--- the state before the first byte of the body that the framing names
-pub record StartsBody (named : Framing) (body : Body) : Type 0 where
-  pub stage_is : body.stage ≡ first_stage named
-  pub none : body.bytes.items ≡ []
-  pub limit_is : body.limit ≡ most_of named
-
--- the head was found in the bytes, and reading the body from the bytes after the head is reading
--- its rest from the bytes that wait
-pub record IsFedBody (request : RequestBody) (waits seen : List ℕ) : Type 0 where
-  pub after : List ℕ
-  pub found : JudgedHead seen request.head request.framing after
-  pub start : Body
-  pub starts : StartsBody request.framing start
-  pub follows : Follows start after request.body waits
-  pub limit : request.body.limit ≡ start.limit
+-- how the head of a request is found, and how its body ends
+abbrev pub requests : Finding RequestHead Framing
+requests = record { Found = JudgedHead; ends = body_of_request }
 
 abbrev pub IsFedStage : RequestStage → List ℕ → List ℕ → Type 0
 IsFedStage (part.Head end) waits seen = seen ≡ waits
-IsFedStage (part.Body request) waits seen = IsFedBody request waits seen
+IsFedStage (part.Body request) waits seen = FedBody requests request waits seen
 IsFedStage (part.Done told) waits seen = ⊥
 
 abbrev pub IsOpenStage : RequestStage → Type 0

@@ -10,10 +10,13 @@ use Rattle.bg_http.specs.declared.response_fault.ResponseFault.TheVariants as fa
 use Rattle.bg_http.specs.declared.response_rules.ResponseFraming.{ResponseFraming}
 use Rattle.bg_http.specs.declared.response_rules.ResponseFraming.TheVariants as framing
 use Rattle.bg_http.specs.declared.response_rules.TheConstants.{MOST_RESPONSE_BODY}
-use Rattle.bg_http_read.specs.BodyFaults.{Failure, malformed, large, cut, ChunksFail, LengthFails, EndFails}
+use Rattle.bg_http_read.specs.BodyFaults.{Failure, malformed, large, cut}
+use Rattle.bg_http_read.specs.BodyFramings.{FramedFails}
 use Rattle.bg_http_read.specs.Chunks.{ReadsChunks}
 use Rattle.bg_http_read.specs.HeadFaults.{ResponseHeadFails}
 use Rattle.bg_http_read.specs.Heads.{ReadsResponseHead}
+use Rattle.bg_http_read.specs.declared.body.BodyFraming.{BodyFraming}
+use Rattle.bg_http_read.specs.declared.body.BodyFraming.TheVariants as ends
 use Rattle.bg_http_read.specs.declared.final_head.TheConstants.{MOST_INTERIM}
 
 -- the most bytes that a response's body may have
@@ -31,15 +34,17 @@ ReadsResponseBody (framing.Length size) input body rest =
 ReadsResponseBody framing.ToTheEnd input body rest =
     (rest ≡ []) × (body ≡ input) × (length body ≤ most_response_body)
 
+-- how the body of a response ends
+abbrev pub body_of_response : ResponseFraming → BodyFraming
+body_of_response framing.Interim = ends.Empty
+body_of_response framing.NoBody = ends.Empty
+body_of_response framing.Chunks = ends.Chunks most_response_body
+body_of_response (framing.Length size) = ends.Length size
+body_of_response framing.ToTheEnd = ends.ToTheEnd most_response_body
+
 -- how the body that the framing names fails
 abbrev pub FramedResponseBodyFails : Failure → ResponseFraming → List ℕ → Type 0
-FramedResponseBodyFails failure framing.Interim input = ⊥
-FramedResponseBodyFails failure framing.NoBody input = ⊥
-FramedResponseBodyFails failure framing.Chunks input =
-    ChunksFail failure most_response_body 0 input
-FramedResponseBodyFails failure (framing.Length size) input = LengthFails failure size input
-FramedResponseBodyFails failure framing.ToTheEnd input =
-    EndFails failure most_response_body input
+FramedResponseBodyFails failure named input = FramedFails failure (body_of_response named) input
 
 -- what a fault says about the input of a body
 abbrev pub ResponseBodyFails : ResponseFraming → List ℕ → ResponseFault → Type 0

@@ -3,21 +3,20 @@ use Rattle.std.specs.Prelude.{◌≡◌, false, IsFalse, ℕ, ◌≤◌, List, [
 use Rattle.bg_http.specs.ResponseRules.{asks_for_head}
 use Rattle.bg_http.specs.declared.request.Request.{Request}
 use Rattle.bg_http.specs.declared.response.Response.{Response}
+use Rattle.bg_http.specs.declared.response.ResponseHead.{ResponseHead}
 use Rattle.bg_http.specs.declared.response_fault.ResponseFault.{ResponseFault}
 use Rattle.bg_http.specs.declared.response_fault.ResponseFault.TheVariants as fault
 use Rattle.bg_http.specs.declared.response_rules.ResponseFraming.{ResponseFraming}
-use Rattle.bg_http.specs.declared.response_rules.ResponseFraming.TheVariants as framing
-use Rattle.bg_http_read.specs.Bodies.{Follows, KeepsLimit, can_end, is_whole}
-use Rattle.bg_http_read.specs.Responses.{AfterInterim, IsFinalHead, ResponseFails, SkipsInterim, length_of_response, most_response_body}
+use Rattle.bg_http_read.specs.Bodies.{KeepsLimit, can_end, is_whole}
+use Rattle.bg_http_read.specs.BodyFramings.{FedBody, Finding}
+use Rattle.bg_http_read.specs.Responses.{AfterInterim, IsFinalHead, ResponseFails, SkipsInterim, body_of_response, length_of_response}
 use Rattle.bg_http_read.specs.ResponseStates.{IsReadThen, IsRefused}
 use Rattle.bg_http_read.specs.Streams.{waiting}
 use Rattle.bg_http_read.specs.HeadEnds.{after_bytes, is_over}
+use Rattle.bg_http_read.specs.declared.message_body.MessageBody.{MessageBody}
 use Rattle.bg_http_read.specs.declared.head_end.HeadEnd.TheVariants as head_end
-use Rattle.bg_http_read.specs.declared.body.Body.{Body}
-use Rattle.bg_http_read.specs.declared.body.BodyStage.{BodyStage}
 use Rattle.bg_http_read.specs.declared.body.BodyStage.TheVariants as stage
 use Rattle.bg_http_read.specs.declared.final_head.HeadSearch.{HeadSearch}
-use Rattle.bg_http_read.specs.declared.response_body.ResponseBody.{ResponseBody}
 use Rattle.bg_http_read.specs.declared.response_feed.ResponseFeed.{ResponseFeed}
 use Rattle.bg_http_read.specs.declared.response_progress.Advance.{Advance}
 use Rattle.bg_http_read.specs.declared.response_progress.ResponseStage.{ResponseStage}
@@ -28,43 +27,19 @@ use Rattle.bg_http_read.specs.declared.final_head.TheConstants.{MOST_INTERIM}
 abbrev pub IsReady : HeadSearch → Type 0
 IsReady search = search.interim ≤ MOST_INTERIM
 
--- the first stage of a body
-abbrev pub first_stage : ResponseFraming → BodyStage
-first_stage framing.Interim = stage.Length 0
-first_stage framing.NoBody = stage.Length 0
-first_stage framing.Chunks = stage.Line
-first_stage (framing.Length size) = stage.Length size
-first_stage framing.ToTheEnd = stage.ToTheEnd
+abbrev pub ResponseBody : Type 0
+ResponseBody = MessageBody ResponseHead ResponseFraming
 
--- the maximum number of bytes of a body
-abbrev pub most_of : ResponseFraming → ℕ
-most_of framing.Interim = 0
-most_of framing.NoBody = 0
-most_of framing.Chunks = most_response_body
-most_of (framing.Length size) = size
-most_of framing.ToTheEnd = most_response_body
-
--- the state before the first byte of the body that the framing names
-pub record StartsBody (named : ResponseFraming) (body : Body) : Type 0 where
-  pub stage_is : body.stage ≡ first_stage named
-  pub none : body.bytes.items ≡ []
-  pub limit_is : body.limit ≡ most_of named
-
--- the head was found in the bytes, and reading the body from the bytes after the head is reading
--- its rest from the bytes that wait
-pub record IsFedBody (request : Request) (response : ResponseBody) (waits seen : List ℕ)
-    : Type 0 where
-  pub after : List ℕ
-  pub found : AfterInterim request seen
-      (IsFinalHead request response.head response.framing after)
-  pub start : Body
-  pub starts : StartsBody response.framing start
-  pub follows : Follows start after response.body waits
-  pub limit : response.body.limit ≡ start.limit
+-- how the head of the response to a request is found, and how its body ends
+abbrev pub responses : Request → Finding ResponseHead ResponseFraming
+responses request = record {
+  Found = λ seen head named after. AfterInterim request seen (IsFinalHead request head named after);
+  ends = body_of_response;
+}
 
 abbrev pub IsFedStage : Request → ResponseStage → List ℕ → List ℕ → Type 0
 IsFedStage request (part.Heads search) waits seen = SkipsInterim request search.interim seen waits
-IsFedStage request (part.Body response) waits seen = IsFedBody request response waits seen
+IsFedStage request (part.Body response) waits seen = FedBody (responses request) response waits seen
 IsFedStage request part.Done waits seen = ⊥
 
 -- no byte came

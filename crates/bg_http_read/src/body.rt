@@ -5,7 +5,9 @@ ghost use Rattle.std.specs.Io.KnownBytes.{Keeps};
 ghost use Rattle.bg_http_read.specs.Bodies.{Fails, Follows, KeepsLimit, Refuses, Takes, Unchanged};
 ghost use Rattle.bg_http_read.specs.Bodies.{can_end, is_whole};
 ghost use Rattle.bg_http_read.specs.BodyFaults.{cut};
+ghost use Rattle.bg_http_read.specs.BodyFramings.{StartsBody};
 ghost use Rattle.bg_http_read.specs.Streams.{CameStraight};
+ghost use Rattle.bg_http_read.specs.declared.body.BodyFraming.TheVariants as framing;
 ghost use Rattle.bg_http_read.specs.declared.body.BodyStage.TheVariants as stage;
 
 use crate::arrival::Straight;
@@ -16,6 +18,19 @@ use crate::seen::Seen;
 use crate::trailers::find_trailers;
 use bg_http::{Bytes, Duplex};
 use std::alloc::{AllocError, Global};
+
+/// The framing of a body.
+#[derive(Clone, Copy, Drop)]
+pub(crate) enum BodyFraming {
+    /// There is no body.
+    Empty,
+    /// The body is chunked, and has at most this many bytes.
+    Chunks(usize),
+    /// The body has this many bytes.
+    Length(usize),
+    /// The body is everything before the end of the input, and has at most this many bytes.
+    ToTheEnd(usize),
+}
 
 /// The part of a body that comes next.
 #[derive(Clone, Copy, Drop)]
@@ -43,11 +58,28 @@ pub(crate) struct Body {
 }
 
 impl Body {
-    /// A body of `size` bytes. All its memory is allocated at once.
-    pub(crate) fn of_length(alloc: Global, size: usize) -> Result<Body, AllocError>
-        ensures bytes { IfOk result (λ body. body.bytes.items ≡ []) }
-        ensures stage { IfOk result (λ body. body.stage ≡ stage.Length size) }
-        ensures limit { IfOk result (λ body. body.limit ≡ size) }
+    /// A body before its first byte. All memory of a body of a known length is allocated at once.
+    pub(crate) fn new(alloc: Global, framing: BodyFraming) -> Result<Body, AllocError>
+        ensures { IfOk result (StartsBody framing) }
+    {
+        match framing {
+            BodyFraming::Empty => Body::of_length(alloc, 0),
+            BodyFraming::Length(size) => Body::of_length(alloc, size),
+            BodyFraming::Chunks(limit) => Ok(Body {
+                limit,
+                stage: BodyStage::Line,
+                bytes: Vec::new(alloc),
+            }),
+            BodyFraming::ToTheEnd(limit) => Ok(Body {
+                limit,
+                stage: BodyStage::ToTheEnd,
+                bytes: Vec::new(alloc),
+            }),
+        }
+    }
+
+    fn of_length(alloc: Global, size: usize) -> Result<Body, AllocError>
+        ensures { IfOk result (StartsBody (framing.Length size)) }
     {
         let bytes = Vec::with_capacity(alloc, size)?;
         Ok(Body {
@@ -55,32 +87,6 @@ impl Body {
             stage: BodyStage::Length(size),
             bytes,
         })
-    }
-
-    /// A body in chunks, of at most `limit` bytes.
-    pub(crate) fn of_chunks(alloc: Global, limit: usize) -> Body
-        ensures bytes { result.bytes.items ≡ [] }
-        ensures stage { result.stage ≡ stage.Line }
-        ensures limit { result.limit ≡ limit }
-    {
-        Body {
-            limit,
-            stage: BodyStage::Line,
-            bytes: Vec::new(alloc),
-        }
-    }
-
-    /// A body up to the end of the input, of at most `limit` bytes.
-    pub(crate) fn to_the_end(alloc: Global, limit: usize) -> Body
-        ensures bytes { result.bytes.items ≡ [] }
-        ensures stage { result.stage ≡ stage.ToTheEnd }
-        ensures limit { result.limit ≡ limit }
-    {
-        Body {
-            limit,
-            stage: BodyStage::ToTheEnd,
-            bytes: Vec::new(alloc),
-        }
     }
 
     /// The bytes that were taken so far, with their memory.

@@ -12,6 +12,7 @@ mod head_limits;
 mod in_memory;
 mod intake;
 pub mod laws;
+mod message_body;
 mod message_fault;
 mod one_way;
 mod parsed_head;

@@ -1,64 +1,29 @@
 //! A request whose head is known and whose body is being fed.
-ghost use Rattle.std.specs.Prelude.{◌≡◌, IfErr, IfOk, true};
+ghost use Rattle.std.specs.Prelude.{◌≡◌, true};
 ghost use Rattle.bg_http.specs.RequestRules.{owes_continue as owed};
-ghost use Rattle.bg_http_read.specs.RequestsFed.{HasParts, StartsBody};
+ghost use Rattle.bg_http_read.specs.Requests.{body_of_request};
+ghost use Rattle.bg_http_read.specs.RequestsFed.{HasParts};
 
-use crate::body::Body;
+use crate::body::BodyFraming;
+use crate::message_body::MessageBody;
 use crate::refused_head::RefusedHead;
 use bg_http::{Framing, MOST_REQUEST_BODY, Request, RequestHead, owes_continue};
-use std::alloc::{AllocError, Global};
 
 /// A request whose head is known and whose body is being fed.
-pub(crate) struct RequestBody {
-    head: RequestHead,
-    framing: Framing,
-    pub(crate) body: Body,
-}
+pub(crate) type RequestBody = MessageBody<RequestHead, Framing>;
 
-impl Drop for RequestBody {
-    /// Drops the fields by one call, so that the proofs of what owns a value are short (CONTRIBUTING.md, "What a check costs").
-    fn drop(self) {
-        let RequestBody {
-            head: _,
-            framing: _,
-            body: _,
-        } = self;
-    }
-}
-
-/// The body before its first byte.
-fn body_of(alloc: Global, framing: Framing) -> Result<Body, AllocError>
-    ensures { IfOk result (StartsBody framing) }
+/// How the body of a request ends.
+pub(crate) fn body_of_request(framing: Framing) -> BodyFraming
+    ensures { result ≡ body_of_request framing }
 {
     match framing {
-        Framing::NoBody => Body::of_length(alloc, 0),
-        Framing::Chunks => Ok(Body::of_chunks(alloc, MOST_REQUEST_BODY)),
-        Framing::Length(size) => Body::of_length(alloc, size),
+        Framing::NoBody => BodyFraming::Empty,
+        Framing::Chunks => BodyFraming::Chunks(MOST_REQUEST_BODY),
+        Framing::Length(size) => BodyFraming::Length(size),
     }
 }
 
-impl RequestBody {
-    /// The state before the first byte of the body. Gives the head back if an allocation fails.
-    pub(crate) fn new(
-        alloc: Global,
-        head: RequestHead,
-        framing: Framing,
-    ) -> Result<RequestBody, RequestHead>
-        ensures head { IfOk result (λ part. part.head ≡ head) }
-        ensures framing { IfOk result (λ part. part.framing ≡ framing) }
-        ensures body { IfOk result (λ part. StartsBody framing part.body) }
-        ensures back { IfErr result (λ back. back ≡ head) }
-    {
-        match body_of(alloc, framing) {
-            Ok(body) => Ok(RequestBody {
-                head,
-                framing,
-                body,
-            }),
-            Err(_) => Err(head),
-        }
-    }
-
+impl MessageBody<RequestHead, Framing> {
     /// Whether `100 Continue` is owed before the body is read.
     pub(crate) fn owes_continue(&self) -> bool
         ensures { result ≡ owed self.now.head self.now.framing }
@@ -70,11 +35,7 @@ impl RequestBody {
     pub(crate) fn into_refused_head(self) -> RefusedHead
         ensures { result ≡ record { head = self.head; is_sound = true } }
     {
-        let RequestBody {
-            head,
-            framing: _,
-            body: _,
-        } = self;
+        let (head, _, _) = self.into_parts();
         RefusedHead {
             head,
             is_sound: true,
@@ -85,11 +46,7 @@ impl RequestBody {
     pub(crate) fn into_request(self) -> Request
         ensures { HasParts result self }
     {
-        let RequestBody {
-            head,
-            framing,
-            body,
-        } = self;
+        let (head, framing, body) = self.into_parts();
         let bytes = body.into_bytes();
         let body = match framing {
             Framing::NoBody => None,

@@ -3,9 +3,10 @@ ghost use Rattle.std.specs.Prelude.{◌≡◌, ◌≤◌, [], false, true, List,
 ghost use Rattle.std.specs.Prelude.{None, Some};
 ghost use Rattle.std.specs.Io.KnownBytes.{Keeps};
 ghost use Rattle.bg_http_read.specs.Bodies.{KeepsLimit};
+ghost use Rattle.bg_http_read.specs.BodyFramings.{FedBody};
 ghost use Rattle.bg_http_read.specs.RefusedHeads.{TellsHead};
 ghost use Rattle.bg_http_read.specs.RequestStates.{IfWhole, is_of_stream};
-ghost use Rattle.bg_http_read.specs.RequestsFed.{Advances, AwaitsHead, IsAt, IsFedBody, IsFedStage};
+ghost use Rattle.bg_http_read.specs.RequestsFed.{Advances, AwaitsHead, IsAt, IsFedStage, requests};
 ghost use Rattle.bg_http_read.specs.RequestsFed.{IsOpenStage, LacksHead, is_head, known_head, stage_seen, was_asked};
 ghost use Rattle.bg_http_read.specs.Streams.{SeesStraight};
 ghost use Rattle.bg_http.specs.RequestRules.{owes_continue as owed};
@@ -17,9 +18,10 @@ use crate::arrival::Straight;
 use crate::head_end::HeadEnd;
 use crate::head_limits::MOST_HEAD;
 use crate::intake::behind;
+use crate::message_body::MessageBody;
 use crate::parsed_head::find_head;
 use crate::refused_head::RefusedHead;
-use crate::request_body::RequestBody;
+use crate::request_body::{RequestBody, body_of_request};
 use crate::request_step::RequestStep;
 use crate::seen::Seen;
 use bg_http::{Duplex, RequestFault, judge_request};
@@ -184,7 +186,8 @@ impl RequestProgress {
                 return Err(fault);
             }
         };
-        let part = match RequestBody::new(self.alloc, head, framing) {
+        let ends = body_of_request(framing);
+        let part = match MessageBody::new(self.alloc, head, framing, ends) {
             Ok(part) => part,
             Err(head) => {
                 let is_sound = true;
@@ -214,7 +217,7 @@ impl RequestProgress {
         ensures fits { IfOk result (λ advance. advance.taken ≤ length bytes.now) }
         ensures answer { (old : StageValue) (seen : List ℕ)
             → owed part.head part.framing ≡ was_asked old
-            → IsFedBody part (drop at bytes.now) seen
+            → FedBody requests part (drop at bytes.now) seen
             → Advances old seen bytes.now result self.new.stage }
         ensures head { IfErr result (λ fault. known_head self.new.stage
             ≡ Some (record { head = part.head; is_sound = true })) }

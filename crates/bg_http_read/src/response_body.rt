@@ -1,9 +1,10 @@
 //! A response whose head is known and whose body is being fed.
 ghost use Rattle.std.specs.Prelude.{◌≡◌, IfOk};
-ghost use Rattle.bg_http_read.specs.Responses.{length_of_response};
-ghost use Rattle.bg_http_read.specs.ResponsesFed.{HasParts, StartsBody};
+ghost use Rattle.bg_http_read.specs.Responses.{body_of_response, length_of_response};
+ghost use Rattle.bg_http_read.specs.ResponsesFed.{HasParts};
 
-use crate::body::Body;
+use crate::body::BodyFraming;
+use crate::message_body::MessageBody;
 use bg_http::{Bytes, MOST_RESPONSE_BODY, Response, ResponseFraming, ResponseHead, length_told};
 use std::alloc::{AllocError, Global};
 
@@ -31,64 +32,27 @@ fn length_of_response(
 }
 
 /// A response whose head is known and whose body is being fed.
-pub(crate) struct ResponseBody {
-    head: ResponseHead,
-    framing: ResponseFraming,
-    pub(crate) body: Body,
-}
+pub(crate) type ResponseBody = MessageBody<ResponseHead, ResponseFraming>;
 
-impl Drop for ResponseBody {
-    /// Drops the fields by one call, so that the proofs of what owns a value are short (CONTRIBUTING.md, "What a check costs").
-    fn drop(self) {
-        let ResponseBody {
-            head: _,
-            framing: _,
-            body: _,
-        } = self;
-    }
-}
-
-/// The body before its first byte.
-fn body_of(alloc: Global, framing: ResponseFraming) -> Result<Body, AllocError>
-    ensures { IfOk result (StartsBody framing) }
+/// How the body of a response ends.
+pub(crate) fn body_of_response(framing: ResponseFraming) -> BodyFraming
+    ensures { result ≡ body_of_response framing }
 {
     match framing {
-        ResponseFraming::Interim | ResponseFraming::NoBody => Body::of_length(alloc, 0),
-        ResponseFraming::Chunks => Ok(Body::of_chunks(alloc, MOST_RESPONSE_BODY)),
-        ResponseFraming::Length(size) => Body::of_length(alloc, size),
-        ResponseFraming::ToTheEnd => Ok(Body::to_the_end(alloc, MOST_RESPONSE_BODY)),
+        ResponseFraming::Interim | ResponseFraming::NoBody => BodyFraming::Empty,
+        ResponseFraming::Chunks => BodyFraming::Chunks(MOST_RESPONSE_BODY),
+        ResponseFraming::Length(size) => BodyFraming::Length(size),
+        ResponseFraming::ToTheEnd => BodyFraming::ToTheEnd(MOST_RESPONSE_BODY),
     }
 }
 
-impl ResponseBody {
-    /// The state before the first byte of the body. The only error is an allocation failure.
-    pub(crate) fn new(
-        alloc: Global,
-        head: ResponseHead,
-        framing: ResponseFraming,
-    ) -> Result<ResponseBody, AllocError>
-        ensures head { IfOk result (λ part. part.head ≡ head) }
-        ensures framing { IfOk result (λ part. part.framing ≡ framing) }
-        ensures body { IfOk result (λ part. StartsBody framing part.body) }
-    {
-        let body = body_of(alloc, framing)?;
-        Ok(ResponseBody {
-            head,
-            framing,
-            body,
-        })
-    }
-
+impl MessageBody<ResponseHead, ResponseFraming> {
     /// The response, with the bytes of its body that were fed. The only error is an allocation
     /// failure.
     pub(crate) fn into_response(self, alloc: Global) -> Result<Response, AllocError>
         ensures { IfOk result (λ response. HasParts response self) }
     {
-        let ResponseBody {
-            head,
-            framing,
-            body,
-        } = self;
+        let (head, framing, body) = self.into_parts();
         let body = body.into_bytes();
         let length = length_of_response(alloc, framing, &head, &body)?;
         Ok(head.with_body(length, body))

@@ -5,8 +5,9 @@ ghost use Rattle.bg_http.specs.ResponseRules.{asks_for_head};
 ghost use Rattle.bg_http.specs.declared.request.Request.{Request as RequestValue};
 ghost use Rattle.bg_http.specs.declared.response_fault.ResponseFault.TheVariants as response_fault;
 ghost use Rattle.bg_http_read.specs.Bodies.{KeepsLimit};
+ghost use Rattle.bg_http_read.specs.BodyFramings.{FedBody};
 ghost use Rattle.bg_http_read.specs.Responses.{ReadsResponse, ResponseFails, SkipsInterim};
-ghost use Rattle.bg_http_read.specs.ResponsesFed.{Advances, AwaitsHead, IsFedBody, IsFedStage};
+ghost use Rattle.bg_http_read.specs.ResponsesFed.{Advances, AwaitsHead, IsFedStage, responses};
 ghost use Rattle.bg_http_read.specs.ResponsesFed.{IsOpenStage, IsReady, IsSeen, Starts, WantsStage};
 ghost use Rattle.bg_http_read.specs.ResponsesFed.{stage_seen};
 ghost use Rattle.bg_http_read.specs.ResponseStates.{is_of_stream};
@@ -15,7 +16,8 @@ ghost use Rattle.bg_http_read.specs.Streams.{SeesStraight};
 use crate::arrival::Straight;
 use crate::final_head::{HeadFound, HeadSearch};
 use crate::intake::behind;
-use crate::response_body::ResponseBody;
+use crate::message_body::MessageBody;
+use crate::response_body::{ResponseBody, body_of_response};
 use crate::seen::Seen;
 use bg_http::{Duplex, Response, ResponseFault};
 use std::alloc::Global;
@@ -157,7 +159,8 @@ impl ResponseProgress {
                 taken,
             });
         };
-        let Ok(part) = ResponseBody::new(self.alloc, head, framing) else {
+        let ends = body_of_response(framing);
+        let Ok(part) = MessageBody::new(self.alloc, head, framing, ends) else {
             return Err(ResponseFault::OutOfMemory);
         };
         self.advance_body(part, bytes, taken)
@@ -175,7 +178,7 @@ impl ResponseProgress {
         ensures fits { IfOk result (λ advance. advance.taken ≤ length bytes.now) }
         ensures answer { (request : RequestValue) (seen : List ℕ)
             → self.old.to_head ≡ asks_for_head request
-            → IsFedBody request part (drop at bytes.now) seen
+            → FedBody (responses request) part (drop at bytes.now) seen
             → Advances request seen bytes.now result self.new.stage }
         ensures fault { IfErr result (λ fault. IsFalse (is_of_stream fault)) }
         ensures goes_on { IfOk result (λ advance. IfNone advance.response

@@ -1,10 +1,13 @@
 use Rattle.std.proofs.Common.{drop, refl, subst, sym, ◌∙◌}
 use Rattle.bg_http_read.specs.MessageFaults.{as_request}
 use Rattle.bg_http_read.specs.RefusedHeads.{TellsHead}
-use Rattle.bg_http_read.specs.RequestsFed.{known_head}
+use Rattle.bg_http_read.specs.Requests.{body_of_request}
+use Rattle.bg_http_read.specs.RequestsFed.{known_head, requests}
 use Rattle.bg_http_read.specs.declared.head_end.HeadEnd.TheVariants as end
 use Rattle.bg_http_read.specs.declared.request_progress.RequestStage.TheVariants as part
-use Rattle.bg_http_read.proofs.FedRequests.{advances_err, body_starts, fed_head, head_refused, judged, owes, rule_refused}
+use Rattle.bg_http_read.proofs.FedRequests.{advances_err, head_refused, judged, owes, rule_refused}
+use Rattle.bg_http_read.proofs.FedBodies.{fed_head}
+use Rattle.bg_http_read.proofs.FramedBodies.{body_starts}
 use Rattle.bg_http_read.proofs.HeadsFound.{request_head_fails}
 use Rattle.bg_http_read.proofs.RefusedHeads.{tells_body, tells_broken, tells_err, tells_judged}
 use Rattle.bg_http_read.proofs.RuleFaults.{judged_request_of_bytes}
@@ -52,13 +55,14 @@ returns-then-owes_continue-clause-answer c =
     let bytes = c.args.bytes.now in
     let left = drop c.in-Some.taken bytes in
     let found = judged bytes left c.in-Some.head c.in-Ok.framing (rw c.in-Some.is at c.in_ok-head.ensures).1 (sym c.in-Ok.ensures) in
-    let fed = fed_head c.in-Some.head c.in-Ok.framing c.in-Ok-new.part left bytes found c.in-Ok-new.ensures.head c.in-Ok-new.ensures.framing c.in-Ok-new.ensures.body in
+    let starts = rw c.body_of_request-ends.ensures at c.in-Ok-new.ensures.body in
+    let fed = fed_head requests c.in-Some.head c.in-Ok.framing c.in-Ok-new.part left bytes found c.in-Ok-new.ensures.head c.in-Ok-new.ensures.framing starts in
     let owed = sym c.owes_continue.ensures ∙ c.if-owes_continue.true in (
       refl,
       owes bytes fed.after c.in-Ok-new.part.head c.in-Ok-new.part.framing fed.found owed,
       record {
         fed = fed;
-        ready = body_starts c.in-Ok.framing c.in-Ok-new.part.body c.in-Ok-new.ensures.body;
+        ready = body_starts (body_of_request c.in-Ok.framing) c.in-Ok-new.part.body starts;
         sees = tt;
       },
       tt,
@@ -70,7 +74,8 @@ returns-clause-answer c =
     let bytes = c.args.bytes.now in
     let left = drop c.in-Some.taken bytes in
     let found = judged bytes left c.in-Some.head c.in-Ok.framing (rw c.in-Some.is at c.in_ok-head.ensures).1 (sym c.in-Ok.ensures) in
-    let fed = fed_head c.in-Some.head c.in-Ok.framing c.in-Ok-new.part left bytes found c.in-Ok-new.ensures.head c.in-Ok-new.ensures.framing c.in-Ok-new.ensures.body in
+    let starts = rw c.body_of_request-ends.ensures at c.in-Ok-new.ensures.body in
+    let fed = fed_head requests c.in-Some.head c.in-Ok.framing c.in-Ok-new.part left bytes found c.in-Ok-new.ensures.head c.in-Ok-new.ensures.framing starts in
     c.advance_body.ensures.answer (part.Head end.Blank) bytes (sym c.owes_continue.ensures ∙ c.if-owes_continue.false) fed
 
 pub returns-clause-head : goal.returns-clause-head
@@ -78,5 +83,6 @@ returns-clause-head c none =
     let bytes = c.args.bytes.now in
     let left = drop c.in-Some.taken bytes in
     let found = judged bytes left c.in-Some.head c.in-Ok.framing (rw c.in-Some.is at c.in_ok-head.ensures).1 (sym c.in-Ok.ensures) in
-    let fed = fed_head c.in-Some.head c.in-Ok.framing c.in-Ok-new.part left bytes found c.in-Ok-new.ensures.head c.in-Ok-new.ensures.framing c.in-Ok-new.ensures.body in
+    let starts = rw c.body_of_request-ends.ensures at c.in-Ok-new.ensures.body in
+    let fed = fed_head requests c.in-Some.head c.in-Ok.framing c.in-Ok-new.part left bytes found c.in-Ok-new.ensures.head c.in-Ok-new.ensures.framing starts in
     tells_body _ c.advance_body.result c.in-Ok-new.part left bytes (known_head c.advance_body.new.self.stage) fed c.advance_body.ensures.head

@@ -1,5 +1,6 @@
 use Rattle.std.proofs.Common.{drop}
-use Rattle.bg_http_read.proofs.FedResponses.{fed_head}
+use Rattle.bg_http_read.specs.ResponsesFed.{responses}
+use Rattle.bg_http_read.proofs.FedBodies.{fed_head}
 use Rattle.bg_http_read.proofs.ResponseSteps.{advances_err}
 use Rattle.bg_http_read.proofs.response_progress.ResponseProgress.advance_head.Goals as goal
 
@@ -13,6 +14,6 @@ returns-clause-answer c request seen asked skips =
     let bytes = c.args.bytes.now in
     let found = rw c.in-Some.is at c.in_ok-head.ensures.head request seen asked skips in
     c.advance_body.ensures.answer request seen asked
-    (fed_head request c.in-Some.head c.in-Some.framing c.in-Ok.part
+    (fed_head (responses request) c.in-Some.head c.in-Some.framing c.in-Ok.part
     (drop c.in_ok-head.field-0.taken bytes) seen found c.in-Ok.ensures.head c.in-Ok.ensures.framing
-    c.in-Ok.ensures.body)
+    (rw c.body_of_response-ends.ensures at c.in-Ok.ensures.body))
