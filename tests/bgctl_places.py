@@ -33,7 +33,8 @@ from bg_switch_tools.controller.state.state_file import (
 from bg_switch_tools.operator import cli as operator_cli
 from support.processes import Run
 from tests.fake_port import ENDS, REPORT, FakePort, free_port
-from tests.fake_switch import FakeSwitch
+from tests.fake_journal import FakeJournal
+from tests.fake_switch import QUESTIONS, FakeSwitch
 from tests.tool_runs import run_in_process
 
 MAINS = {"bgctl": bgctl_cli.main, "operator": operator_cli.main}
@@ -86,15 +87,26 @@ def nothing(_: contextlib.ExitStack, folder: str) -> Place:
     return Place({"free": str(free_port()), "folder": folder})
 
 
-def switch_with(*lines: str, path: bool = False) -> Making:
-    """A switch that has carried these lines out, named by BG_CONTROL."""
+def switch_with(
+    *lines: str, path: bool = False, has_journal: bool = False, unsaved: str = ""
+) -> Making:
+    """A switch that has carried these lines out, named by BG_CONTROL. With a journal, that fails
+    then, and the switch carries out the line `unsaved` if there is one."""
 
     def make(stack: contextlib.ExitStack, folder: str) -> Place:
         place = nothing(stack, folder)
-        switch = FakeSwitch("pause", path=os.path.join(folder, "control") if path else "")
+        journal = FakeJournal()
+        switch = FakeSwitch(
+            "pause",
+            path=os.path.join(folder, "control") if path else "",
+            journal=journal if has_journal else None,
+        )
         stack.callback(switch.kill)
         for line in lines:
             switch.book.answer(line)
+        journal.fails = True
+        if unsaved:
+            switch.book.answer(unsaved)
         place.values["control"] = switch.path or str(switch.port)
         place.variables["BG_CONTROL"] = place.values["control"]
         place.sent = switch.sent_lines
@@ -165,7 +177,7 @@ def port_that(answers: Callable[[str], list[str] | None]) -> Making:
         port = FakePort(answers)
         stack.callback(port.close)
         place.values["control"] = place.variables["BG_CONTROL"] = str(port.port)
-        place.sent = lambda: [line for line in port.lines if line != "report"]
+        place.sent = lambda: [line for line in port.lines if line not in QUESTIONS]
         return place
 
     return make
@@ -249,6 +261,8 @@ PLACES: Mapping[str, Making] = {
     "aborted": switch_with(*PAUSED, "abort"),
     "promoted": switch_with(*PAUSED, "promote"),
     "three revisions": switch_with(*PAUSED, "promote", "deploy web-v3 5 6", "available 3 2"),
+    "journal fails": switch_with(*PAUSED, has_journal=True),
+    "unsaved": switch_with(*PAUSED, has_journal=True, unsaved="promote"),
     "dark": dark,
     "plan": by_plan(*STEADY),
     "plan, no controller": by_plan(*STEADY, runs=False),

@@ -5,15 +5,20 @@ import threading
 from collections.abc import Sequence
 
 from bg_switch_tools.switch.before import WORD, boot_clock
+from bg_switch_tools.switch.connection import NEVER_IN_TIME
+from bg_switch_tools.switch.replies import JOURNAL_FAILED, Done, Unsaved, read_reply
 from support.rule import attempts, selections
 from support.rule.book import RevisionState, RuleBook, revision_states
 from support.rule.entries import Entry
 from support.rule.history import History
 from support.rule.strategy import Strategy
-from tests.before_line import Clock, answer_before
+from tests.before_line import EVENTS, Clock, answer_before
+from tests.fake_journal import FakeJournal
 from tests.fake_port import ENDS, FakePort
 
 REPLICAS = 2
+# By which tools learn how a switch stands.
+QUESTIONS = ("report", str(NEVER_IN_TIME))
 
 
 def overtakes(event: Entry, last: Entry) -> bool:
@@ -28,7 +33,8 @@ class FakeBook(RuleBook):
     """A strategy with two replicas, and with those steps that are given: an analysis before (`pre`),
     a pause (`pause`), an analysis after (`post`). Old and aborted revisions have the same delay."""
 
-    def __init__(self, *steps: str, delay: int = 30) -> None:
+    def __init__(self, *steps: str, delay: int = 30, journal: FakeJournal | None = None) -> None:
+        """With a journal, the book is the one that a start resumes from it."""
         super().__init__(
             Strategy(
                 replicas=REPLICAS,
@@ -41,6 +47,9 @@ class FakeBook(RuleBook):
                 abort_delay=delay,
             )
         )
+        self.journal = journal
+        if journal is not None:
+            self.history = journal.crash()
         # what the line `down` has named; None for a switch that does not know the line
         self.down: list[str] | None = None
         self.clock: Clock = boot_clock  # by which a line `before` is judged
@@ -56,14 +65,31 @@ class FakeBook(RuleBook):
             return ENDS if line == "quit" else self._answer(line.split(), line)
 
     def _answer(self, words: list[str], line: str) -> Sequence[str] | None:
-        if words[:1] == [WORD] and self.knows_before:
-            return answer_before(line, self.history is not None, self.clock, self.answer)
         word = words[0] if words else ""
+        if self.journal is not None and not self._may_carry_out(self.journal, word):
+            return [str(JOURNAL_FAILED)]
+        if word == WORD and self.knows_before:
+            return answer_before(line, self.history is not None, self.clock, self.answer)
         if word in self.refusals and (word == "open" or self.history is not None):
             return [f"refused {self.refusals[word]}"]
         if word == "down" and self.down is not None:
             return [self._down(words[1:])]
-        return self.reply(line)
+        reply = self.reply(line)
+        return self._journaled(reply) if word in ("open", *EVENTS) else reply
+
+    def _may_carry_out(self, journal: FakeJournal, word: str) -> bool:
+        """Whether the journal keeps all that was carried out before. An opening that it can't keep is
+        refused as well."""
+        if self.history is None:
+            return word != "open" or not journal.fails
+        return word not in (WORD, *EVENTS) or journal.is_ready()
+
+    def _journaled(self, reply: list[str]) -> list[str]:
+        """The reply to an order, after the journal was given its entries."""
+        done = read_reply(reply[0])
+        if self.journal is None or self.history is None or not isinstance(done, Done):
+            return reply
+        return reply if self.journal.append(self.history) else [str(Unsaved(done.number))]
 
     def _down(self, ports: list[str]) -> str:
         if not all(port.isdecimal() and int(port) < 65536 for port in ports):
@@ -113,14 +139,20 @@ class FakeBook(RuleBook):
 
 class FakeSwitch:
     """A switch at a control port, or with `path` at a control socket. It can be killed, after which
-    its book is gone, and started again."""
+    its book is gone, and started again. With a journal, its book is then as the journal has it."""
 
     def __init__(
-        self, *steps: str, delay: int = 30, knows_down: bool = False, path: str = ""
+        self,
+        *steps: str,
+        delay: int = 30,
+        knows_down: bool = False,
+        path: str = "",
+        journal: FakeJournal | None = None,
     ) -> None:
         self.steps = steps
         self.delay = delay
         self.knows_down = knows_down
+        self.journal = journal
         self.lines: list[str] = []
         self.port = 0
         self.path = path
@@ -128,7 +160,7 @@ class FakeSwitch:
 
     def start(self, *lines: str) -> None:
         """Starts it; these lines have been carried out when it listens."""
-        self.book = FakeBook(*self.steps, delay=self.delay)
+        self.book = FakeBook(*self.steps, delay=self.delay, journal=self.journal)
         self.book.down = [] if self.knows_down else None
         for line in lines:
             self.book.answer(line)
@@ -141,9 +173,9 @@ class FakeSwitch:
         self.control.close()
 
     def sent_lines(self) -> list[str]:
-        """The lines that it was sent, but for reports, ticks and the ports that are down."""
+        """The lines that it was sent, but for questions, ticks and the ports that are down."""
         return [
             line
             for line in list(self.lines)
-            if line.split(" ")[0] not in ("report", "tick", "down")
+            if line not in QUESTIONS and line.split(" ")[0] not in ("tick", "down")
         ]

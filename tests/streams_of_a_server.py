@@ -27,7 +27,7 @@ async def read_nothing(looked_at: SwitchPages, port: int) -> socket.socket:
     """A stream whose client reads nothing is ended, once it is too far behind. Gives the client's
     end."""
     while looked_at.listeners:  # the page of before has gone, which its next update shows
-        looked_at.take(None, None, False)
+        looked_at.take(None, (None, False), False)
         await asyncio.sleep(0.01)
     client = socket.create_connection(("127.0.0.1", port))
     client.sendall(b"GET /api/events HTTP/1.1\r\nHost: localhost\r\n\r\n")
@@ -35,7 +35,7 @@ async def read_nothing(looked_at: SwitchPages, port: int) -> socket.socket:
         await asyncio.sleep(0.01)
     while looked_at.listeners:
         looked_at.board.say("change", "x" * 100000)
-        looked_at.take(None, None, False)
+        looked_at.take(None, (None, False), False)
         await asyncio.sleep(0.001)
     return client
 
@@ -57,7 +57,7 @@ async def send_command(looked_at: SwitchPages, port: int) -> str:
             event = json.loads((await stream.content.readline()).removeprefix(b"data: "))
             seen.append(sum(each["kind"] == "order" for each in event["happened"]))
             await stream.content.readline()
-            looked_at.take(None, None, False)
+            looked_at.take(None, (None, False), False)
     return f"orders in the state and the update: {seen[0]}, {seen[1]}"
 
 
@@ -69,10 +69,10 @@ async def look_on(control: int) -> str:
         KeyError("planted"),
     ]
 
-    def look() -> tuple[None, None]:
+    def look() -> tuple[None, tuple[None, bool]]:
         if faults:
             raise faults.pop()
-        return None, None
+        return None, (None, False)
 
     traces = io.StringIO()
     with mock.patch.object(looked_at, "look", look), mock.patch.object(

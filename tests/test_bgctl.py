@@ -6,6 +6,7 @@ import re
 import subprocess
 import sys
 import tempfile
+import time
 import unittest
 import zipapp
 from typing import Any
@@ -16,13 +17,16 @@ from bg_switch_tools.bgctl import exit_statuses
 from bg_switch_tools.bgctl.argument_parser import in_order, long_options, parser, place_of_command
 from bg_switch_tools.bgctl.cli import main
 from bg_switch_tools.bgctl.commands import BGCTL_COMMANDS, FIRST_ONES
+from bg_switch_tools.bgctl.state_commands import NOT_KNOWN
 from bg_switch_tools.dashboard import cli as dashboard_cli
 from bg_switch_tools.operator import cli as operator_cli
 from bg_switch_tools.switch.client import Answer, Switch
+from bg_switch_tools.switch.connection import NEVER_IN_TIME
+from bg_switch_tools.switch.meanings import LACKS_ORDER, UNSAVED
 from support.processes import Run
-from tests.fake_port import free_port
+from tests.fake_port import REPORT, FakePort, free_port
 from tests.fake_switch import FakeSwitch
-from tests.tool_runs import TOP, WithBook, plan_of, run_in_process
+from tests.tool_runs import TOP, WithBook, WithJournal, plan_of, run_in_process
 
 
 def run(*words: str, lines: str = "", **variables: str) -> Run:
@@ -308,8 +312,73 @@ class Lines(Operated):
         )
 
     def test_interrupted(self) -> None:
-        with mock.patch("bg_switch_tools.switch.client.ask_report", side_effect=KeyboardInterrupt):
+        with mock.patch("bg_switch_tools.switch.client.ask_state", side_effect=KeyboardInterrupt):
             self.assertEqual(self.bgctl("status").status, 130)
+
+
+class Unsaved(WithJournal):
+    """The journal of the switch fails."""
+
+    def setUp(self) -> None:
+        super().setUp()
+        self.by_hand("deploy web-v2 3 4", "available 2 2")
+        self.failing.fails = True
+
+    def bgctl(self, *words: str, lines: str = "") -> Run:
+        return run(*words, lines=lines, BG_CONTROL=str(self.switch.port))
+
+    def test_it_was_carried_out_with_a_warning(self) -> None:
+        told = f"bgctl: unsaved 3: {UNSAVED}\n"
+        self.assertEqual(self.bgctl("promote"), ("unsaved 3\n", told, 0))
+        refused = self.bgctl("deploy", "web-v3", "5", "6")
+        self.assertEqual((refused.printed, refused.status), ("refused JournalFailed\n", 1))
+        self.assertIn(
+            "the journal lacks an earlier order, so nothing was carried out", refused.told
+        )
+
+    def test_the_warning_stands_beside_what_a_deploy_has_made(self) -> None:
+        told = f"bgctl: makes revision 3 web-v3\nbgctl: unsaved 1: {UNSAVED}\n"
+        self.assertEqual(self.bgctl("deploy", "web-v3", "5", "6"), ("unsaved 1\n", told, 0))
+
+    def test_lines_go_on_after_it(self) -> None:
+        told = self.bgctl("line", lines="promote\nreport\ntick 9\ntick 10\n")
+        self.assertEqual(told.printed.splitlines()[0], "unsaved 3")
+        self.assertEqual((told.printed.splitlines()[-1], told.status), ("refused JournalFailed", 1))
+
+    def test_as_json(self) -> None:
+        shown = json.loads(self.bgctl("promote", "--json").printed)
+        self.assertEqual(
+            (shown["reply"], shown["carried_out"], shown["meaning"]), ("unsaved 3", True, UNSAVED)
+        )
+
+    def test_the_state_tells_it_until_it_is_kept(self) -> None:
+        self.assertEqual(self.bgctl("status").told, "")
+        self.bgctl("promote")
+        for _ in range(2):
+            told = self.bgctl("status")
+            self.assertEqual((told.told, told.status), (f"bgctl: {LACKS_ORDER}\n", 0))
+        self.assertTrue(json.loads(self.bgctl("status", "--json").printed)["unsaved"])
+        self.failing.fails = False
+        self.assertEqual((self.bgctl("status").told, self.bgctl("status").status), ("", 0))
+        self.assertFalse(json.loads(self.bgctl("status", "--json").printed)["unsaved"])
+
+
+class Silent(unittest.TestCase):
+    def test_a_disk_that_gives_no_answer(self) -> None:
+        """The report is shown, and what is not known."""
+        lines = list[str]()
+
+        def answers(line: str) -> list[str]:
+            lines.append(line)
+            if line != "report":
+                time.sleep(1)
+            return [*REPORT]
+
+        with FakePort(answers) as port:
+            told = run("status", "--request-timeout", "0.3", BG_CONTROL=str(port.port))
+        self.assertEqual((told.printed[:7], told.status), ("steady:", 0))
+        self.assertEqual(told.told, f"bgctl: {NOT_KNOWN}\n")
+        self.assertEqual(lines, ["report", str(NEVER_IN_TIME)])
 
 
 class OtherTools(Operated):

@@ -6,9 +6,10 @@ from bg_switch_tools.switch.client import Answer, Switch
 from bg_switch_tools.switch.conditions import Conditions
 from bg_switch_tools.switch.connection import UnreachableError
 from bg_switch_tools.switch.lines import AnalysisKind, VerdictResult
+from bg_switch_tools.switch.meanings import UNSAVED
 from bg_switch_tools.switch.wait import NEVER, REACHED, TOO_LATE, wait_for
 from tests.fake_port import ENDS, REPORT, FakePort, free_port
-from tests.tool_runs import WithBook
+from tests.tool_runs import WithBook, WithJournal
 
 # by the line that is sent: the call
 CALLS: dict[str, Callable[[Switch], Answer]] = {
@@ -109,6 +110,14 @@ class WithASwitch(WithBook):
         self.assertEqual([line for line in self.switch.lines if line != "report"], [])
         self.assertTrue(self.client.send(b"tick 999999", is_sure=True).carried_out)
 
+    def test_a_switch_without_a_journal_lacks_no_order(self) -> None:
+        self.assertFalse(self.client.state()[1])
+        self.switch.book.knows_before = False
+        self.assertFalse(self.client.state()[1], "a switch that was built before the line `before`")
+        self.switch.kill()
+        self.switch.start()
+        self.assertEqual(self.client.state(), (None, False))
+
     def test_waits(self) -> None:
         for condition, status in (("settled", REACHED), ("phase=paused", NEVER)):
             waited = wait_for(self.client, Conditions([condition]), 5, lambda _: None)
@@ -116,6 +125,35 @@ class WithASwitch(WithBook):
         self.by_hand("deploy web-v2 3 4")
         waited = wait_for(self.client, Conditions(["phase=paused"]), 0.3, lambda _: None)
         self.assertEqual(waited.status, TOO_LATE)
+
+
+class WithAJournal(WithJournal):
+    def setUp(self) -> None:
+        super().setUp()
+        self.client = Switch(self.switch.port, 5)
+
+    def test_an_order_that_is_not_saved_was_carried_out(self) -> None:
+        self.failing.fails = True
+        answer = self.client.deploy("web-v2", [3, 4])
+        self.assertEqual(
+            (answer.lines, answer.carried_out, answer.meaning, answer.note),
+            (["unsaved 0"], True, UNSAVED, "makes revision 2 web-v2"),
+        )
+        refused = self.client.promote()
+        self.assertEqual((refused.lines, refused.carried_out), (["refused JournalFailed"], False))
+
+    def test_whether_it_lacks_an_order(self) -> None:
+        """To ask changes nothing, but that the switch tries once more."""
+        self.assertFalse(self.client.state()[1])
+        self.failing.fails = True
+        self.assertFalse(self.client.state()[1], "each order is kept")
+        self.client.abort()
+        self.client.deploy("web-v2", [3, 4])
+        before, (after, lacks_order) = self.client.report(), self.client.state()
+        self.assertEqual((before, lacks_order), (after, True))
+        self.failing.fails = False
+        self.assertFalse(self.client.state()[1])
+        self.assertEqual(self.client.report(), before)
 
 
 if __name__ == "__main__":

@@ -21,6 +21,7 @@ from bg_switch_tools.controller.plan.plan_file import PlanFile
 from bg_switch_tools.controller.rounds import controller
 from bg_switch_tools.controller.state.state_file import StateFile, StateLock
 from support.pace import is_within
+from tests.fake_journal import FakeJournal
 from tests.fake_port import REPORT, FakePort
 from tests.fake_switch import FakeBook, FakeSwitch
 from tests.tool_runs import WAIT, Endpoint, comes, plan_of
@@ -34,6 +35,7 @@ class ControllerCase(unittest.TestCase):
 
     steps: Sequence[str] = ("pause",)
     knows_down = False
+    has_journal = False
 
     def setUp(self) -> None:
         self.stack = contextlib.ExitStack()
@@ -44,7 +46,12 @@ class ControllerCase(unittest.TestCase):
         for pair in self.endpoints.values():
             for endpoint in pair:
                 self.stack.callback(endpoint.stop)
-        self.switch = FakeSwitch(*self.steps, knows_down=self.knows_down)
+        self.journal = FakeJournal()
+        self.switch = FakeSwitch(
+            *self.steps,
+            knows_down=self.knows_down,
+            journal=self.journal if self.has_journal else None,
+        )
         self.stack.callback(self.switch.kill)
         self.plan = plan_of(self.folder, self.switch.port)
         self.out = io.StringIO()

@@ -25,6 +25,7 @@ from bg_switch_tools.switch.access_log import LogEntry
 from support.pace import is_within
 from tests.dashboard_runs import HAS_LIBRARIES, MISSING, PYTHON, Answer, WithDashboard
 from tests.fake_port import free_port
+from tests.fake_journal import FakeJournal
 from tests.fake_switch import FakeSwitch
 from tests.synthetic_log import ANSWERED, GrowingLog, Part, entries, refused
 from tests.tool_runs import TOOLS, TOP, WAIT, comes
@@ -54,7 +55,8 @@ class Dashboard(WithDashboard):
     def setUp(self) -> None:
         super().setUp()
         path = str(self.folder / "control") if self.at_socket else ""
-        self.switch = FakeSwitch("pause", "post", path=path)
+        self.journal = FakeJournal()
+        self.switch = FakeSwitch("pause", "post", path=path, journal=self.journal)
         self.addCleanup(self.switch.kill)
         self.by_hand("open web-v1 1 2", "available 1 2", "deploy web-v2 3 4", "available 2 2")
         self.log = GrowingLog(self.folder / "access.log")
@@ -436,6 +438,7 @@ class Metrics(Dashboard):
             ('bg_switch_replicas_desired{revision="web-v2"}', 2),
             ('bg_switch_replicas_available{revision="web-v2"}', 2),
             ('bg_switch_service_without_endpoint{service="active"}', 0),
+            ("bg_switch_journal_lacks_order", 0),
             ("bg_switch_dashboard_faults_total", 0),
         ):
             self.assertEqual(self.value(line), expected, line)
@@ -479,6 +482,14 @@ class Metrics(Dashboard):
         labels = '{revision="web-v1",service="active",status="5xx"}'
         self.assertTrue(comes(lambda: self.value(f"bg_switch_http_requests_total{labels}") == 3))
         self.assertIn("No endpoint of web-v1 is up.", self.get("/api/state").body)
+
+    def test_the_journal_of_the_switch_fails(self) -> None:
+        self.journal.fails = True
+        self.by_hand("abort")
+        self.assertTrue(comes(lambda: self.value("bg_switch_journal_lacks_order") == 1))
+        self.assertIn("a crash may undo it", self.get("/api/state").body)
+        self.journal.fails = False
+        self.assertTrue(comes(lambda: self.value("bg_switch_journal_lacks_order") == 0))
 
     def test_requests_that_were_sent_to_another_endpoint(self) -> None:
         self.log.add(

@@ -21,6 +21,7 @@ from bg_switch_tools.dashboard.totals import DurationTally, Labels, Totals, reas
 from bg_switch_tools.dashboard.traffic import Durations, Traffic
 from bg_switch_tools.switch.access_log import Batch, LogEntry, written
 from bg_switch_tools.switch.lines import Abort, Promote
+from bg_switch_tools.switch.meanings import LACKS_ORDER
 from bg_switch_tools.switch.phases import PHASES, RUNNING, Phase
 from bg_switch_tools.switch.replies import Done, Refused
 from bg_switch_tools.switch.report_text import in_one_line
@@ -458,6 +459,19 @@ class Alarmed(unittest.TestCase):
         self.assertEqual(len(self.said("alarm")), 1)
         self.board.take_silence("gone")
         self.assertEqual(self.board.head()["alarms"], [])
+
+    def test_a_journal_that_lacks_an_order_is_told(self) -> None:
+        report = reports(*OPENED)[-1]
+        for lacks_order, told in ((True, LACKS_ORDER), (True, LACKS_ORDER), (False, "")):
+            self.board.take_report(report, lacks_order)
+            self.assertEqual(self.board.head()["journal"], told)
+        self.assertEqual(
+            (self.said("alarm"), self.said("answer")[-1]),
+            ([LACKS_ORDER], "the journal of the switch keeps each order again"),
+        )
+        self.board.take_report(report, True)
+        self.board.take_silence("gone")
+        self.assertEqual(self.board.head()["journal"], "")
 
     def test_requests_without_an_endpoint_are_errors_of_the_selected_revision(self) -> None:
         now = [refused("no_endpoint")._replace(time=time.time() - 3)] * 4

@@ -8,7 +8,7 @@ import sys
 import tempfile
 import time
 import unittest
-from collections.abc import Callable
+from collections.abc import Callable, Sequence
 from unittest import mock
 
 from bg_switch_tools.controller.endpoints.probes import Probes
@@ -37,6 +37,7 @@ from bg_switch_tools.fleet.record.record import (
 )
 from bg_switch_tools.switch.before import boot_clock
 from bg_switch_tools.switch.connection import Connection
+from tests.fake_journal import FakeJournal
 from tests.fake_switch import FakeSwitch
 from tests.memory_store import Keys, MemoryStore
 from tests.tool_runs import WAIT, Endpoint
@@ -50,6 +51,7 @@ class FleetLinesCase(unittest.TestCase):
     file `good` is there."""
 
     named: object = "errors"  # the analyses that the plan names
+    journal: FakeJournal | None = None  # of the switch
 
     def setUp(self) -> None:
         self.stack = self.enterContext(contextlib.ExitStack())
@@ -64,7 +66,7 @@ class FleetLinesCase(unittest.TestCase):
             PlannedRevision(name, tuple(endpoint.port for endpoint in pair))
             for name, pair in self.endpoints.items()
         )
-        self.switch = FakeSwitch("pause", "post")
+        self.switch = FakeSwitch("pause", "post", journal=self.journal)
         self.stack.callback(self.switch.kill)
         self.ahead = 0.0
         self.switch.book.clock = self.clock
@@ -293,6 +295,85 @@ class Attempts(FleetLinesCase):
             self.own_lines()[1:], [self.words(self.v2), "promote", "verdict post failed"]
         )
         self.assertEqual(self.told().reason, "catches up with web-v2: analysis post: failed")
+
+
+class Journaled(FleetLinesCase):
+    """A switch with a journal, whose starts resume its book."""
+
+    def setUp(self) -> None:
+        self.journal = FakeJournal()
+        super().setUp()
+
+    def resume_switch(self) -> None:
+        self.switch.kill()
+        self.switch.lines.clear()
+        self.switch.start()
+        self.switch.book.clock = self.clock
+
+    def test_a_switch_that_was_resumed_is_joined_still(self) -> None:
+        """It is not opened, deploys nothing again, and takes part in the attempt as before."""
+        self.joins()
+        self.resume_switch()
+        self.rounds_to(READY)
+        self.some_rounds()
+        self.assertEqual((self.own_lines(), self.switch.book.phase), ([], "paused"))
+        self.put(PROMOTING)
+        self.rounds_to(PASSED)
+        self.resume_switch()
+        self.some_rounds()
+        self.assertEqual((self.told().state, self.own_lines()), (PASSED, []))
+        self.put(SUCCESSFUL)
+        self.rounds_to(FOLLOWS)
+        self.assertEqual(self.own_lines(), ["verdict post successful"])
+        self.assertEqual((self.switch.book.phase, self.switch.book.stable), ("steady", 2))
+        self.assertNotIn("started again", self.out.getvalue())
+
+    def test_an_agent_that_is_started_with_it_goes_on(self) -> None:
+        self.joins()
+        self.controller.end()
+        self.resume_switch()
+        self.start()
+        self.rounds_to(READY)
+        self.assertEqual(self.own_lines(), [])
+
+    def test_an_agent_joins_a_switch_that_was_resumed(self) -> None:
+        """It knows nothing of the book, as after the loss of its files."""
+        self.rounds_to(FOLLOWS)
+        self.controller.end()
+        for file in pathlib.Path(self.folder).glob("fleet.json.*"):
+            file.unlink()
+        self.resume_switch()
+        self.start()
+        self.joins()
+        self.assertEqual(self.own_lines(), [self.words(self.v2)])
+
+    def test_what_the_fleet_has_decided_meanwhile_is_made_up_for(self) -> None:
+        self.joins()
+        self.switch.kill()
+        self.put(ABORTED)
+        self.resume_switch()
+        self.rounds_to(FOLLOWS)
+        self.assertEqual((self.own_lines(), self.switch.book.phase), (["abort"], "aborted"))
+
+    def test_a_deploy_that_a_crash_has_undone_comes_again(self) -> None:
+        assert self.journal is not None
+        self.rounds_to(FOLLOWS)
+        answer, journal, deploys = self.switch.control.answer, self.journal, list[str]()
+
+        def fails(line: str) -> Sequence[str] | None:
+            if line.startswith("deploy "):
+                journal.fails = True
+                deploys.append(line)
+            return answer(line)
+
+        self.switch.control.answer = fails
+        self.put(DEPLOYING)
+        self.rounds_until(lambda: bool(deploys))
+        self.assertIn(" => unsaved 0: ", self.out.getvalue())
+        journal.fails = False
+        self.resume_switch()
+        self.rounds_to(READY)
+        self.assertEqual(self.own_lines(), [self.words(self.v2)])
 
 
 class SeveralAnalyses(FleetLinesCase):

@@ -34,7 +34,7 @@ from bg_switch_tools.switch.lines import (
     read_line,
     without_time_limit,
 )
-from bg_switch_tools.switch.meanings import FAULTS, REFUSALS
+from bg_switch_tools.switch.meanings import FAULTS, REFUSALS, UNSAVED
 from bg_switch_tools.switch.phases import PAST_THE_PAUSE, PHASES, RUNNING, Phase
 from bg_switch_tools.switch.replies import (
     NAMED,
@@ -50,6 +50,7 @@ from bg_switch_tools.switch.replies import (
     Reply,
     ReplyError,
     ReportBegin,
+    Unsaved,
     as_json,
     read_reply,
     reply_in,
@@ -104,6 +105,7 @@ WRONG: dict[str, tuple[bytes, ...]] = {
 REPLIES: dict[str, Reply] = {
     "ok 0": Done(0),
     "ok 18446744073709551615": Done(18446744073709551615),
+    "unsaved 2": Unsaved(2),
     "compacted 4": Compacted(4),
     "moment 30": ReportBegin(30),
     "refused SameTemplate": SAME_TEMPLATE,
@@ -112,6 +114,7 @@ REPLIES: dict[str, Reply] = {
     "fault UnknownWord": UNKNOWN_WORD,
 }
 NO_REPLIES = (
+    *("unsaved", "unsaved x"),
     *("", " ", "ok", "ok ", "ok x", "ok 1 2", "ok 01", "ok -1", " ok 1", "ok 1 ", "OK 1"),
     *("refused", "refused ", "refused A B", "refused 1", "fault", "fault A\n", "end"),
     *("moment", "moment x", "phase steady", "HTTP/1.1 400 Bad Request", "ok \u0663"),
@@ -210,9 +213,10 @@ class Replies(unittest.TestCase):
                 self.assertIsNone(reply_in(text))
 
     def test_which_were_carried_out(self) -> None:
-        for word in NUMBERED:
+        for word, kind in NUMBERED.items():
             reply = read_reply(f"{word} 1")
-            self.assertEqual((reply.was_carried_out, reply.meaning), (True, None))
+            meaning = UNSAVED if kind is Unsaved else None
+            self.assertEqual((reply.was_carried_out, reply.meaning), (True, meaning))
         for word in NAMED:
             self.assertFalse(read_reply(f"{word} OutOfMemory").was_carried_out)
 

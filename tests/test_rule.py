@@ -10,6 +10,7 @@ from support.messages import BY_HAND
 from support.rule.book import RuleBook
 from support.rule.entries import Command, Deploy, Entry, Outcome, Template, Tick
 from support.rule.history import History, Opening
+from support.rule.journals import resumed
 from support.rule.refusals import control_refusal
 from support.rule.steps import fault
 from support.rule.strategy import Strategy, strategy_of
@@ -197,6 +198,30 @@ class ScaleDown(RuleCase):
         short = PLAIN._replace(history_limit=0)
         self.assertEqual(replies(short, READY, "tick 30"), ["ok 2"])
         self.assertNotIn("revision 1", report(short, *READY, "tick 30"))
+
+
+class Journals(RuleCase):
+    def resumed_report(self, *lines: str) -> list[str]:
+        """What a book reports that was resumed from the journal of one that has carried these lines
+        out."""
+        before, after = book_after(PAUSED, *lines), RuleBook(PAUSED)
+        assert before.history is not None
+        after.history = resumed(before.history)
+        self.assertIsNone(fault(after.history))
+        return after.reply("report")
+
+    def test_a_book_is_resumed_as_it_was(self) -> None:
+        for lines in (OPENED, READY, PROMOTED, (*READY, "abort"), (*PROMOTED, "tick 30")):
+            self.assertEqual(
+                self.resumed_report(*lines), book_after(PAUSED, *lines).reply("report")
+            )
+
+    def test_no_request_is_open_any_more(self) -> None:
+        """What drained is scaled down, and a request that has left leaves no entry."""
+        lines = (*READY, "enter 0 active", "promote", "tick 30")
+        left = book_after(PAUSED, *lines, "leave 0").reply("report")
+        self.assertEqual(self.resumed_report(*lines), left)
+        self.assertEqual(self.resumed_report(*lines, "leave 0"), left)
 
 
 class Requests(RuleCase):

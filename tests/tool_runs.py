@@ -20,6 +20,7 @@ from support.messages import response
 from support.plans import Plan
 from support.processes import Run, run_to_end
 from tests.fake_port import free_port
+from tests.fake_journal import FakeJournal
 from tests.fake_switch import FakeSwitch
 
 TOP = pathlib.Path(__file__).resolve().parents[1]
@@ -165,14 +166,24 @@ def run_in_process(
 class WithBook(unittest.TestCase):
     """A switch whose book is open with web-v1."""
 
+    journal: FakeJournal | None = None
+
     def setUp(self) -> None:
-        self.switch = FakeSwitch("pause")
+        self.switch = FakeSwitch("pause", journal=self.journal)
         self.addCleanup(self.switch.kill)
         self.by_hand("open web-v1 1 2", "available 1 2")
 
     def by_hand(self, *lines: str) -> None:
         for line in lines:
             self.switch.book.answer(line)
+
+
+class WithJournal(WithBook):
+    """The same with a journal, which fails once a test wants it."""
+
+    def setUp(self) -> None:
+        self.failing = self.journal = FakeJournal()
+        super().setUp()
 
 
 def operator(port: int, *words: str, lines: str = "") -> Run:

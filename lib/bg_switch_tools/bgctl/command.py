@@ -101,7 +101,7 @@ class CommandRun:
             print(with_meaning(line) if is_plain_terminal else line, flush=True)
         if answer.note:
             self.tell(answer.note)
-        elif answer.meaning and not is_plain_terminal:
+        if answer.meaning not in (None, answer.note) and not is_plain_terminal:
             self.tell(f"{answer.lines[0]}: {answer.meaning}")
         return DONE if answer.carried_out else REFUSED
 

@@ -9,7 +9,8 @@ FAULT = 70
 TABLE = (
     (
         DONE,
-        "it was carried out: the conditions of a wait hold, the revision of --wait is stable, an analysis has succeeded",
+        "it was carried out: the conditions of a wait hold, the revision of --wait is stable, an analysis has succeeded. "
+        "Also if the reply is `unsaved`, which standard error explains: the journal of the switch is not known to keep it",
     ),
     (
         REFUSED,

@@ -18,6 +18,7 @@ from bg_switch_tools.controller.state.state_file import HeldBack
 from bg_switch_tools.switch.conditions import CONDITION_SYNTAX, Conditions, wrong_condition
 from bg_switch_tools.switch.connection import UnreachableError
 from bg_switch_tools.switch.line_help import LineHelp
+from bg_switch_tools.switch.meanings import LACKS_ORDER
 from bg_switch_tools.switch.phases import Phase
 from bg_switch_tools.switch.report_text import in_one_line
 from bg_switch_tools.switch.reports import Report, ReportError, as_json
@@ -26,11 +27,17 @@ from bg_switch_tools.switch.watch import dated
 from bg_switch_tools.switch.watch import watch as watch_switch
 
 
-def _read_report(run: CommandRun) -> Report | None:
-    """The report. If the switch gives none, JSON says why, too."""
+NOT_KNOWN = (
+    "whether the switch has an order that its journal lacks is not known: it gave no answer in time"
+)
+
+
+def _read_state(run: CommandRun) -> tuple[Report | None, bool | None]:
+    """The report, and whether the journal of the switch lacks an order. If the switch gives none,
+    JSON says why, too."""
     switch = run.switch()
     try:
-        return switch.report()
+        return switch.state()
     except (UnreachableError, ReportError) as reason:
         if run.is_json:
             run.show_json({"phase": None, "reason": str(reason)})
@@ -38,11 +45,17 @@ def _read_report(run: CommandRun) -> Report | None:
 
 
 def _show_state(
-    run: CommandRun, report: Report | None, life: ControllerLife, held: Sequence[HeldBack]
+    run: CommandRun,
+    state: tuple[Report | None, bool | None],
+    life: ControllerLife,
+    held: Sequence[HeldBack],
 ) -> None:
-    """Prints a report, and tells what is the matter with the controller."""
+    """Prints a report, and tells what is the matter with the journal and the controller."""
+    report, lacks_order = state
     if run.is_json:
         members: dict[str, object] = {"phase": None} if report is None else as_json(report)
+        if report is not None:
+            members["unsaved"] = lacks_order
         if run.target.path:
             members |= {
                 "controller": life.life.value,
@@ -51,7 +64,8 @@ def _show_state(
         run.show_json(members)
     else:
         print(in_one_line(report))
-    for text in [*([life.text] if life.text else []), *(each.text() for each in held)]:
+    journal = NOT_KNOWN if lacks_order is None else LACKS_ORDER if lacks_order else ""
+    for text in filter(None, (journal, life.text, *(each.text() for each in held))):
         run.tell(text)
 
 
@@ -63,11 +77,12 @@ def status(run: CommandRun) -> int:
     if path:
         tell_pause(run, path)
         tell_analyses(run, path)
-    report = _read_report(run)
+    state = _read_state(run)
+    report = state[0]
     plan = run.target.plan_if_right()
     held = held_back(path, plan) if path and plan else []
     life = life_of(path) if path else ControllerLife(Life.UP)
-    _show_state(run, report, life, held)
+    _show_state(run, state, life, held)
     if report is not None and report.service("active").available == 0:
         run.tell(
             f"no endpoint of {report.service('active').title()}, which is active, is available"
@@ -158,7 +173,8 @@ STATUS = Command(
     "bgctl status --control 8082",
     status,
     (JSON,),
-    more="With a plan, it also tells whether a controller runs the plan, and which revisions of the plan the controller holds back.",
+    more="With a plan, it also tells whether a controller runs the plan, and which revisions of the plan the controller holds back. "
+    "Of a switch with a journal, it tells whether an order was carried out that the journal does not keep.",
     line=LineHelp(
         "status",
         "shows the state in one line; status 0 if it is steady or an attempt runs, 1 if it was aborted, "

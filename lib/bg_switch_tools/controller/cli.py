@@ -130,6 +130,7 @@ class Runner:
             self.silence.end()
             return pause
         except (UnreachableError, ReportError) as reason:
+            self.controller.take_silence(reason)
             if not self.stopping.is_set():
                 self.silence.begin(str(reason))
         except OpeningError as reason:

@@ -13,6 +13,7 @@ from bg_switch_tools.dashboard.traffic import KEPT, SLOT, Traffic
 from bg_switch_tools.switch.access_log import CLIENT_SERVICES, Batch, LogEntry
 from bg_switch_tools.switch.control import Control
 from bg_switch_tools.switch.lines import Line
+from bg_switch_tools.switch.meanings import LACKS_ORDER
 from bg_switch_tools.switch.replies import Reply
 from bg_switch_tools.switch.report_changes import ChangeKind, changes_with_kinds, is_another_book
 from bg_switch_tools.switch.report_text import NO_BOOK, WAITS_FOR, in_one_line
@@ -22,6 +23,7 @@ MOST_HAPPENED, MOST_FAILED = 200, 50
 # What the list of what has happened calls a change; any other is a `change`.
 KIND_OF_CHANGE = {ChangeKind.ACTIVE_SWITCHED: "switch", ChangeKind.ABORTED: "abort"}
 MOST_OF_A_BATCH = 20  # failed requests that one look adds
+KEEPS_EACH_ORDER = "the journal of the switch keeps each order again"
 
 
 class Happening(TypedDict):
@@ -54,6 +56,7 @@ class Board:
         self.session = secrets.token_hex(8)
         self.report: Report | None = None
         self.earlier: Report | None = None  # of the same book, before the last one
+        self.lacks_order = False  # whether the journal of the switch lacks an order
         self.has_asked = False  # whether the switch has answered before
         self.fault = "the switch has not been asked yet"
         self.since = time.time()  # when it began to answer, or not to
@@ -84,8 +87,9 @@ class Board:
         del self.happened[:-MOST_HAPPENED]
         self.next_id += 1
 
-    def take_report(self, report: Report | None) -> None:
-        """Takes in what the switch has answered: None if no book is open."""
+    def take_report(self, report: Report | None, lacks_order: bool | None = None) -> None:
+        """Takes in what the switch has answered: None if no book is open. `lacks_order` says whether
+        an order was carried out that its journal does not keep; None: it has not told that."""
         if self.fault:
             self.say("answer", f"the switch answers: {in_one_line(report)}")
             self.fault, self.since = "", time.time()
@@ -106,6 +110,14 @@ class Board:
             kind = KIND_OF_CHANGE.get(change.kind, "change")
             self.say(kind, change.text, self._mark(kind, report))
         self._say_alarms(None if is_another else before, report)
+        if lacks_order is not None:
+            self._take_journal(lacks_order)
+
+    def _take_journal(self, lacks_order: bool) -> None:
+        if lacks_order != self.lacks_order:
+            kind, text = ("alarm", LACKS_ORDER) if lacks_order else ("answer", KEEPS_EACH_ORDER)
+            self.say(kind, text)
+        self.lacks_order = lacks_order
 
     def _say_alarms(self, before: Report | None, now: Report | None) -> None:
         """Says which alarms have come between two reports, and which have gone. A book that is new
@@ -237,6 +249,7 @@ class Board:
             "read_only": self.is_read_only,
             "switch": {"answers": not self.fault, "fault": self.fault, "since": self.since},
             "alarms": alarms(report) if not self.fault else [],
+            "journal": LACKS_ORDER if self.lacks_order and not self.fault else "",
             "fault": self.own_fault,
             "controller": self._told_controller(),
             "results": self.results.as_json() if self.results_of else None,

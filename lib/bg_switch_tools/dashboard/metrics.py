@@ -177,6 +177,11 @@ def _of_board(board: Board) -> Iterator[Metric]:
     yield gauge("bg_switch_up", "Whether the switch answers at its control port.", not board.fault)
     if board.report and not board.fault:
         yield from _of_report(board.report)
+        yield gauge(
+            "bg_switch_journal_lacks_order",
+            "Whether an order was carried out that the journal of the switch does not keep.",
+            board.lacks_order,
+        )
     if board.controller:
         yield from _of_controller(board.controller)
     yield counter(

@@ -3,6 +3,7 @@ page's buttons."""
 import asyncio
 import contextlib
 import secrets
+import time
 
 from aiohttp import web
 
@@ -20,11 +21,12 @@ from bg_switch_tools.dashboard.page_commands import (
 from bg_switch_tools.dashboard.streams import Listeners
 from bg_switch_tools.dashboard.web_pages import FLEET, SWITCH, html_answer, page, refusal
 from bg_switch_tools.switch.access_log import Batch, Follower
-from bg_switch_tools.switch.connection import UnreachableError, ask_report
+from bg_switch_tools.switch.connection import UnreachableError, ask_report, ask_state
 from bg_switch_tools.switch.replies import as_json
 from bg_switch_tools.switch.reports import Report, ReportError
 
 PAUSE = 0.5  # seconds between two reports
+JOURNAL_PAUSE = 5.0  # seconds between two questions for a journal that fails
 SOON = 0.01  # seconds, while more of the log is there than was read
 ANSWER = 1.5  # seconds for the switch to answer
 BACKLOG = 1 << 25  # bytes of the log that are read when the dashboard begins
@@ -44,6 +46,7 @@ class SwitchPages:
         )
         self.listeners = Listeners()
         self.soon = asyncio.Event()
+        self.journal_from = 0.0  # the time from which on the switch is asked for its journal
 
     def add_to(self, application: web.Application) -> None:
         router = application.router
@@ -73,21 +76,37 @@ class SwitchPages:
                 )
             self.soon.clear()
 
-    def look(self) -> tuple[Batch | None, Report | None | str]:
-        """What has come into the log, and the report or why there is none. The log is read first:
-        each revision that it names is in the report."""
+    def look(self) -> tuple[Batch | None, tuple[Report | None, bool | None] | str]:
+        """What has come into the log, and the report with whether the journal of the switch lacks an
+        order, or why there is none. The log is read first: each revision that it names is in the
+        report."""
         batch = self.follower.read() if self.follower else None
         try:
-            return batch, ask_report(self.board.control, ANSWER)
+            return batch, self._ask_state()
         except (UnreachableError, ReportError) as reason:
             return batch, str(reason)
 
-    def take(self, batch: Batch | None, answer: Report | None | str, is_counted: bool) -> None:
+    def _ask_state(self) -> tuple[Report | None, bool | None]:
+        """The report, and whether the journal lacks an order. To ask that has the switch try its disk
+        again, so it is not asked in each look then."""
+        if time.monotonic() < self.journal_from:
+            return ask_report(self.board.control, ANSWER), None
+        report, lacks_order = ask_state(self.board.control, ANSWER)
+        if lacks_order is not False:
+            self.journal_from = time.monotonic() + JOURNAL_PAUSE
+        return report, lacks_order
+
+    def take(
+        self,
+        batch: Batch | None,
+        answer: tuple[Report | None, bool | None] | str,
+        is_counted: bool,
+    ) -> None:
         """Takes in what was seen, and tells it to all who listen."""
         if isinstance(answer, str):
             self.board.take_silence(answer)
         else:
-            self.board.take_report(answer)
+            self.board.take_report(*answer)
         if batch and self.follower:
             self.board.take_batch(batch, self.follower.fault, is_counted)
         self.board.take_fault("")

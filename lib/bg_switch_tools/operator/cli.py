@@ -35,10 +35,10 @@ ABOUT = """Sends lines to the control port of a running switch, and prints the r
 END = f"""
 Conditions of wait: {CONDITION_SYNTAX}.
 
-Exit status: 0 if every line was carried out; 1 if one was refused or faulty, at which it stops; 2 if the switch gave no answer in
-time, or the words are wrong; of `status`, 3 if no endpoint of the active revision is available, so that clients are answered 503,
-with --plan 5 if no controller runs this plan or it hangs, and 4 if a revision of the plan is held back: its deploy was refused, its
-name has other ports, or its start fails.
+Exit status: 0 if every line was carried out, also if the reply is `unsaved`, which standard error explains; 1 if one was refused or
+faulty, at which it stops; 2 if the switch gave no answer in time, or the words are wrong; of `status`, 3 if no endpoint of the active
+revision is available, so that clients are answered 503, with --plan 5 if no controller runs this plan or it hangs, and 4 if a
+revision of the plan is held back: its deploy was refused, its name has other ports, or its start fails.
 docs/LINES.md has each line and its replies.
 """
 

@@ -4,7 +4,14 @@ from collections.abc import Sequence
 from typing import NamedTuple
 
 from bg_switch_tools.switch.before import boot_clock, milliseconds_of
-from bg_switch_tools.switch.connection import Connection, UnreachableError, ask, ask_report, sent
+from bg_switch_tools.switch.connection import (
+    Connection,
+    UnreachableError,
+    ask,
+    ask_report,
+    ask_state,
+    sent,
+)
 from bg_switch_tools.switch.control import Control
 from bg_switch_tools.switch.lines import (
     Abort,
@@ -99,6 +106,11 @@ class Switch:
     def report(self, wait: float | None = None) -> Report | None:
         """The state; None if no book is open. `ReportError` if what answers is not a switch."""
         return ask_report(self.control, self.wait if wait is None else wait)
+
+    def state(self) -> tuple[Report | None, bool | None]:
+        """The report as `report` gives it, and whether the journal of the switch lacks an order that
+        was carried out; None if the switch does not tell it in time."""
+        return ask_state(self.control, self.wait)
 
     def deploy(self, name: str, ports: Sequence[int], is_idempotent: bool = False) -> Answer:
         """Deploys a revision, and tells which one it made or took again. With `is_idempotent`, one

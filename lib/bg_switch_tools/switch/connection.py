@@ -10,8 +10,9 @@ from collections.abc import Sequence
 from types import TracebackType
 
 from bg_switch_tools.switch.control import HOST, Control, connected, place_of
-from bg_switch_tools.switch.lines import AskReport, Line, Quit, is_quit, is_report
+from bg_switch_tools.switch.lines import AskReport, Before, Line, Quit, Tick, is_quit, is_report
 from bg_switch_tools.switch.replies import (
+    JOURNAL_FAILED,
     NOT_ALLOWED,
     Reply,
     ReplyError,
@@ -27,10 +28,17 @@ LONGEST_LINE = 65536  # bytes without a line end, above which the peer is not a 
 # what a connection of a user is sent whose lines are not taken, before it is closed
 USER_REFUSED = str(NOT_ALLOWED)
 LONGEST_REPORT = 80  # lines; a report has 7, and one for each of at most 64 revisions
+# It is never carried out, since no boot clock is below 0. A switch whose journal lacks an order tries
+# to append that first, and refuses each line that gives an event if it can't.
+NEVER_IN_TIME = Before(0, Tick(0))
 
 
 class UnreachableError(Exception):
     """The switch did not answer in time. The text says what happened."""
+
+
+class DownError(UnreachableError):
+    """Nothing takes connections: the switch is down."""
 
 
 class Connection:
@@ -87,14 +95,14 @@ class Connection:
                 ) from None
             except OSError as error:
                 if time.monotonic() + PAUSE >= self.deadline:
-                    raise UnreachableError(self._not_reached(error)) from None
+                    raise self._not_reached(error) from None
                 time.sleep(PAUSE)
 
-    def _not_reached(self, error: OSError) -> str:
+    def _not_reached(self, error: OSError) -> UnreachableError:
         if isinstance(error, BlockingIOError):  # which a socket tells whose backlog is full
-            return f"{self.place} takes no connection: others wait there already"
+            return UnreachableError(f"{self.place} takes no connection: others wait there already")
         place = f"{self.place} of {HOST}" if isinstance(self.control, int) else self.place
-        return f"{place} can't be reached: {error.strerror}"
+        return DownError(f"{place} can't be reached: {error.strerror}")
 
     def send(self, *lines: bytes) -> None:
         """Sends lines in one piece. `UnreachableError` if the switch takes them no more."""
@@ -199,6 +207,11 @@ class Connection:
         """The report; None if no book is open. `ReportError` if what comes is not a report."""
         return read_report(self.answer(AskReport().encoded()))
 
+    def lacks_order(self) -> bool:
+        """Whether an order was carried out that the journal of the switch does not keep, and can't
+        keep now. This changes nothing. A switch without a journal lacks none."""
+        return reply_in(self.answer(NEVER_IN_TIME.encoded())[0]) == JOURNAL_FAILED
+
     def quit(self) -> None:
         """Sends `quit`, which has no reply, and waits up to the deadline for the switch to end the
         connection. `UnreachableError` if it takes no lines of this user."""
@@ -230,6 +243,16 @@ def ask_report(control: Control, wait: float) -> Report | None:
     """The report, on a connection of its own; None if no book is open. `ReportError` if what
     answers is not a switch."""
     return read_report(ask(control, AskReport().encoded(), wait))
+
+
+def ask_state(control: Control, wait: float) -> tuple[Report | None, bool | None]:
+    """The report as `ask_report` gives it, and whether the journal of the switch lacks an order: None
+    if the switch does not tell it within `wait` seconds, as while its disk does not answer."""
+    with Connection(control, wait) as connection:
+        report = connection.ask_report()
+        with contextlib.suppress(UnreachableError):
+            return report, report is not None and connection.lacks_order()
+        return report, None
 
 
 def sent(connection: Connection, line: bytes, wait: float) -> list[str]:

@@ -1,4 +1,4 @@
-"""What each refusal and each fault of the switch means, by its name."""
+"""What each refusal and each fault of the switch means, by its name, and what `unsaved` means."""
 
 # The sentences of the switch itself: those of its error types. tests/test_sentences.py compares
 # them.
@@ -48,10 +48,19 @@ FAULTS = {
     "WrongCount": "the line has too few or too many words",
 }
 
+# What a line comes to that was carried out, and that the journal is not known to keep.
+UNSAVED = "it was carried out, but the journal is not known to keep it: a crash may undo it"
+# What a switch is told to be whose journal lacks an order.
+LACKS_ORDER = (
+    "the journal of the switch can't be written: the latest order was carried out, and a crash may undo it; "
+    "others are refused until it is kept"
+)
+
 # What an operator can do next, or may rely on.
 HINTS = {
     "Aborted": "retry begins it again",
     "HistoryFull": "upgrade to a second switch (docs/OPERATING.md)",
+    "JournalFailed": "the switch tries again with the next order; look at the disk of its journal",
     "NotOpen": "open NAME PORT.. opens one",
     "OutOfMemory": "nothing has changed",
     "PortsDiffer": "deploy these ports by a new name",

@@ -10,13 +10,17 @@ class Clock:
 
     def __init__(self) -> None:
         self.start = time.monotonic()  # the time at which the moment was 0
+        self.is_stopped = False  # whether the switch was found to be down since the latest moment
 
     def begin_at(self, moment: int) -> None:
         """The book has this moment now."""
-        self.start = time.monotonic() - moment
+        self.start, self.is_stopped = time.monotonic() - moment, False
 
     def follow(self, moment: int) -> None:
-        """The book has at least this moment now: somebody may have ticked further."""
+        """The book has at least this moment now: somebody may have ticked further. If its switch was
+        down meanwhile, the book goes on where it was: no delay passes while a switch is down."""
+        if self.is_stopped:
+            self.begin_at(moment)
         self.start = min(self.start, time.monotonic() - moment)
 
     def moment(self) -> int:

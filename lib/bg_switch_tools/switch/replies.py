@@ -8,7 +8,7 @@ import re
 from collections.abc import Mapping
 from typing import ClassVar
 
-from bg_switch_tools.switch.meanings import FAULTS, HINTS, REFUSALS
+from bg_switch_tools.switch.meanings import FAULTS, HINTS, REFUSALS, UNSAVED
 
 NUMBER = re.compile(r"0|[1-9][0-9]{0,19}")  # as the switch writes one
 NAME = re.compile(r"[A-Za-z]+")
@@ -31,7 +31,8 @@ class Reply(abc.ABC):
 
     @property
     def meaning(self) -> str | None:
-        """What a refusal or a fault means, and a hint if there is one; None for any other reply."""
+        """What a refusal, a fault or `unsaved` means, and a hint if there is one; None for any other
+        reply."""
         return None
 
     def with_meaning(self) -> str:
@@ -51,6 +52,17 @@ class Done(_WithNumber):
     """The line was carried out, and the switch then took this number of steps by itself."""
 
     word = "ok"
+
+
+class Unsaved(_WithNumber):
+    """The line was carried out with this number of steps after it, as with `Done`, but the journal of
+    the switch is not known to keep it: a crash may undo it."""
+
+    word = "unsaved"
+
+    @property
+    def meaning(self) -> str:
+        return UNSAVED
 
 
 class Compacted(_WithNumber):
@@ -98,13 +110,14 @@ class Fault(_WithName):
 
 # The replies that a tool decides by.
 BAD_PORTS = Refused("BadPorts")
+JOURNAL_FAILED = Refused("JournalFailed")
 NOT_ALLOWED = Refused("NotAllowed")  # no line of this user is taken
 SAME_TEMPLATE = Refused("SameTemplate")
 TOO_LATE = Refused("TooLate")
 UNKNOWN_WORD = Fault("UnknownWord")
 
 NUMBERED: Mapping[str, type[_WithNumber]] = {
-    kind.word: kind for kind in (Done, Compacted, ReportBegin)
+    kind.word: kind for kind in (Done, Unsaved, Compacted, ReportBegin)
 }
 NAMED: Mapping[str, type[_WithName]] = {kind.word: kind for kind in (Refused, Fault)}
 
@@ -128,7 +141,7 @@ def reply_in(text: str) -> Reply | None:
 
 
 def with_meaning(text: str) -> str:
-    """A line of a reply as it came, and after it what it means if it is a refusal or a fault."""
+    """A line of a reply as it came, and after it what it means if that is told."""
     reply = reply_in(text)
     return reply.with_meaning() if reply else text
 

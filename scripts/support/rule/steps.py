@@ -16,12 +16,16 @@ def first_outcome(history: History) -> Outcome | None:
     return next((outcome for outcome in steps + cleanups if may_come(history, outcome)), None)
 
 
-def step(history: History, event: Entry) -> History:
-    """The history with an allowed event, and with the outcomes that come then."""
-    history = history.with_entry(event)
+def settled(history: History) -> History:
+    """The history with the outcomes that come then."""
     while outcome := first_outcome(history):
         history = history.with_entry(outcome)
     return history
+
+
+def step(history: History, event: Entry) -> History:
+    """The history with an allowed event, and with the outcomes that come then."""
+    return settled(history.with_entry(event))
 
 
 def fault(history: History) -> str | None:

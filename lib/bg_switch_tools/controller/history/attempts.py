@@ -132,23 +132,12 @@ class Attempts:
             self._leave(event.time)
             self.is_lost = True
             return
-        if event.event in BEGINNINGS:
-            self.is_lost = False
-            self._add(
-                Attempt(event.name, event.number, event.time, event.event, event.by, event.ports)
-            )
-        elif event.event == UNDEPLOYED:
-            self._add(
-                Attempt(
-                    event.name,
-                    event.number,
-                    event.time,
-                    event.event,
-                    event.by,
-                    how=event.how,
-                    ended=event.time,
-                )
-            )
+        if event.event in (*BEGINNINGS, UNDEPLOYED):
+            has_begun = event.event != UNDEPLOYED
+            self.is_lost = self.is_lost and not has_begun
+            how, ended = ("", "") if has_begun else (event.how, event.time)
+            begin = (event.name, event.number, event.time, event.event, event.by, event.ports)
+            self._add(Attempt(*begin, how, ended))
         elif event.event == ENDED:
             attempt = self._latest(event)
             attempt.how, attempt.ended, attempt.analyses = event.how, event.time, event.analyses

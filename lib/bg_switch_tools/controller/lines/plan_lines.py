@@ -4,7 +4,7 @@ from bg_switch_tools.controller.history.kept_ports import why_refused
 from bg_switch_tools.controller.lines.line_source import SourceParts
 from bg_switch_tools.controller.plan.plan import Plan, PlannedRevision
 from bg_switch_tools.switch.lines import Deploy, Line, Verdict
-from bg_switch_tools.switch.replies import SAME_TEMPLATE, Reply
+from bg_switch_tools.switch.replies import JOURNAL_FAILED, SAME_TEMPLATE, Reply, Unsaved
 from bg_switch_tools.switch.reports import Report
 
 
@@ -101,6 +101,8 @@ class PlanLines:
         return Deploy(last.name, last.ports)
 
     def take_reply(self, plan: Plan, report: Report, line: Line, reply: Reply) -> bool:
+        if isinstance(reply, Unsaved) or reply == JOURNAL_FAILED and self._is_unnoted(plan, report):
+            return False  # a crash may undo the deploy, so the same line asks until the journal keeps it
         if reply.was_carried_out:
             self.memory.set_begun(plan.last)
         elif reply == SAME_TEMPLATE:

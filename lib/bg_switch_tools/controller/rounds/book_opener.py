@@ -12,7 +12,7 @@ from bg_switch_tools.controller.plan.plan import Plan, PlannedRevision
 from bg_switch_tools.controller.rounds.availability import Availability
 from bg_switch_tools.switch.connection import Connection
 from bg_switch_tools.switch.lines import Available, Down, Line, Open
-from bg_switch_tools.switch.replies import BAD_PORTS, Reply
+from bg_switch_tools.switch.replies import BAD_PORTS, JOURNAL_FAILED, Reply
 from bg_switch_tools.switch.reports import Report
 
 FIRST_PROBE = 1  # seconds for which an opening waits for the first probes
@@ -69,13 +69,15 @@ class BookOpener:
             return True
         hint = f". {COMPARED}" if reply == BAD_PORTS else ""
         self._refuse(
-            f"the switch can't be opened with {revision.name}: {line} => {reply.with_meaning()}{hint}"
+            f"the switch can't be opened with {revision.name}: {line} => {reply.with_meaning()}{hint}",
+            reply != JOURNAL_FAILED,
         )
         return False
 
-    def _refuse(self, why: str) -> None:
-        """Tells each minute why clients wait. `OpeningError` if no book was open yet."""
-        if not self.has_had_book:
+    def _refuse(self, why: str, is_lasting: bool = True) -> None:
+        """Tells each minute why clients wait. `OpeningError` if no book was open yet, and a restart
+        does not help."""
+        if is_lasting and not self.has_had_book:
             raise OpeningError(why)
         self.next = time.monotonic() + AGAIN
         self._tell("switch", f"no book is open, and clients wait: {why}")

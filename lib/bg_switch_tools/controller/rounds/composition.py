@@ -17,7 +17,7 @@ from bg_switch_tools.controller.log import Log, OncePerRevision
 from bg_switch_tools.controller.plan.plan import Plan
 from bg_switch_tools.controller.rounds.availability import Availability
 from bg_switch_tools.controller.rounds.book_opener import BookOpener
-from bg_switch_tools.controller.rounds.controller import Controller, ControllerParts
+from bg_switch_tools.controller.rounds.controller import Controller
 from bg_switch_tools.controller.rounds.notifier import Notifier
 from bg_switch_tools.controller.rounds.progress import ProgressClock
 from bg_switch_tools.controller.state.pause import Pause
@@ -62,23 +62,21 @@ def make_controller(
     held = HeldRevisions(log, memory)
     source = makers.source(SourceParts(log, memory, history, pause, launcher, held))
     return Controller(
-        plan,
-        ControllerParts(
-            log=log,
-            probes=probes,
-            once=once,
-            notifier=notifier,
-            memory=memory,
-            pause=pause,
-            history=history,
-            book=book,
-            clock=Clock(),
-            availability=availability,
-            analyses=analyses,
-            launcher=launcher,
-            held=held,
-            source=source,
-            opening=BookOpener(log, memory, book, availability, source),
-            progress=ProgressClock(),
-        ),
+        plan=plan,
+        log=log,
+        probes=probes,
+        once=once,
+        notifier=notifier,
+        memory=memory,
+        pause=pause,
+        history=history,
+        book=book,
+        clock=Clock(),
+        availability=availability,
+        analyses=analyses,
+        launcher=launcher,
+        held=held,
+        source=source,
+        opening=BookOpener(log, memory, book, availability, source),
+        progress=ProgressClock(),
     )

@@ -1,7 +1,7 @@
 """The rounds of a controller: it ticks, reports availability, runs analyses, starts and stops
 endpoints, and sends the lines of its source."""
+import dataclasses
 import time
-from typing import NamedTuple
 
 from bg_switch_tools.controller.analyses.analysis_runner import AnalysisRunner
 from bg_switch_tools.controller.endpoints.launcher import Launcher
@@ -18,7 +18,7 @@ from bg_switch_tools.controller.rounds.book_opener import BookOpener
 from bg_switch_tools.controller.rounds.notifier import Notifier
 from bg_switch_tools.controller.rounds.progress import ProgressClock
 from bg_switch_tools.controller.state.pause import Pause
-from bg_switch_tools.switch.connection import Connection
+from bg_switch_tools.switch.connection import Connection, DownError
 from bg_switch_tools.switch.control import kind_of
 from bg_switch_tools.switch.lines import Abort, Tick
 from bg_switch_tools.switch.moments import Clock
@@ -29,9 +29,12 @@ SOON = 0.05  # seconds until the next round, while something is awaited that com
 MOST_LINES = 6  # of the source, in one round
 
 
-class ControllerParts(NamedTuple):
-    """What a controller works with (`composition` puts it together)."""
+@dataclasses.dataclass(eq=False)
+class Controller:
+    """What is done in a round, over a connection of its own, with the parts that `composition` puts
+    together."""
 
+    plan: Plan
     log: Log
     probes: Probes
     once: OncePerRevision
@@ -48,31 +51,10 @@ class ControllerParts(NamedTuple):
     source: LineSource
     opening: BookOpener
     progress: ProgressClock
+    ask_source_from: float = 0.0  # the time from which on the source is asked for a line
 
-
-class Controller:
-    """What is done in a round, over a connection of its own."""
-
-    def __init__(self, plan: Plan, parts: ControllerParts) -> None:
-        self.plan = plan
-        self.log = parts.log
-        self.probes = parts.probes
-        self.once = parts.once
-        self.notifier = parts.notifier
-        self.memory = parts.memory
-        self.pause = parts.pause
-        self.history = parts.history
-        self.book = parts.book
-        self.clock = parts.clock
-        self.availability = parts.availability
-        self.analyses = parts.analyses
-        self.launcher = parts.launcher
-        self.held = parts.held
-        self.source = parts.source
-        self.opening = parts.opening
-        self.progress = parts.progress
-        self.ask_source_from = 0.0  # the time from which on the source is asked for a line
-        self.held.look(plan)
+    def __post_init__(self) -> None:
+        self.held.look(self.plan)
         self._watch_endpoints()
 
     def _watch_endpoints(self) -> None:
@@ -131,6 +113,10 @@ class Controller:
         self._watch_endpoints()
         return ROUND
 
+    def take_silence(self, reason: Exception) -> None:
+        """Takes in why the switch gives no answer: moments pass on, but not while it is down."""
+        self.clock.is_stopped = self.clock.is_stopped or isinstance(reason, DownError)
+
     def end(self) -> None:
         """The last thing that is done: the commands that run are stopped, and the moment is
         kept."""
@@ -158,6 +144,7 @@ class Controller:
         return self.book.open_report(connection)
 
     def _forget_book(self) -> None:
+        self.clock.is_stopped = False
         self.analyses.end("its book is gone")
         self.history.lose_book()
         self.book.was_lost = False

@@ -6,6 +6,8 @@ import fcntl
 import json
 import os
 import time
+from collections.abc import Callable
+from typing import TypeVar
 
 from bg_switch_tools.controller.plan.plan import Plan, PlannedRevision
 from bg_switch_tools.controller.process_groups import ProcessId
@@ -23,19 +25,12 @@ TOUCH = 1.0  # seconds between two touches of the lock's file
 LONGEST_LOOK, LOCK_PAUSE = (0.5, 0.02)
 LONGEST_REASON = 1000  # characters
 MISSING = "is not there"  # what is the matter with a file that does not exist
+Value = TypeVar("Value")
 NEEDED = ("moment", "stable", "deployed", "attempt")
 # the keys that a file of an earlier controller has not
 LATER = (
-    "since",
-    "analysis",
-    "analyses",
-    "started",
-    "commands",
-    "former",
-    "ports",
-    "held",
-    "unknown",
-    "failing",
+    *("since", "analysis", "analyses", "started", "commands", "former", "ports", "held"),
+    *("unknown", "failing"),
 )
 
 
@@ -185,56 +180,37 @@ def _read_list(judge: Judge, value: object, place: str) -> list[object]:
     return []
 
 
+def _read_each(
+    judge: Judge, members: JsonObject, key: str, read: Callable[[Judge, object, str], Value]
+) -> tuple[Value, ...]:
+    """The values of the list that a key has; none if the key is not there."""
+    values = _read_list(judge, members.get(key, []), key)
+    return tuple(read(judge, each, f"{key}[{number}]") for number, each in enumerate(values))
+
+
 def _read_values(judge: Judge, members: JsonObject) -> State:
     stable, deployed, attempt = (
         None if members[key] is None else _read_revision(judge, members[key], key)
         for key in NEEDED[1:]
     )
-    started = _read_list(judge, members.get("started", []), "started")
-    commands = _read_list(judge, members.get("commands", []), "commands")
-    ports = _read_list(judge, members.get("ports", []), "ports")
-    held, failing = (
-        [
-            _read_held(judge, one, f"{key}[{number}]")
-            for number, one in enumerate(_read_list(judge, members.get(key, []), key))
-        ]
-        for key in ("held", "failing")
-    )
     # an earlier controller has opened and deployed these, and kept no other ports
-    earlier = (
-        ()
-        if "ports" in members
-        else tuple(dict.fromkeys(filter(None, (deployed, attempt, stable))))
-    )
+    earlier = () if "ports" in members else filter(None, (deployed, attempt, stable))
     one = members.get("analysis")
-    analyses = [
-        *([] if one is None else [_read_process(judge, one, "analysis")]),
-        *(
-            _read_process(judge, each, f"analyses[{number}]")
-            for number, each in enumerate(
-                _read_list(judge, members.get("analyses", []), "analyses")
-            )
-        ),
-    ]
+    analyses = () if one is None else (_read_process(judge, one, "analysis"),)
     return State(
-        judge.whole_number(members["moment"], "moment", 0, GREATEST_MOMENT),
-        stable,
-        deployed,
-        attempt,
-        judge.whole_number(members.get("since", 0), "since", 0, GREATEST_TIME),
-        tuple(analyses),
-        tuple(
-            _read_revision(judge, one, f"started[{number}]") for number, one in enumerate(started)
-        ),
-        tuple(
-            _read_process(judge, one, f"commands[{number}]") for number, one in enumerate(commands)
-        ),
-        judge.controls(members["former"], "former") if members.get("former") else (),
-        earlier
-        + tuple(_read_revision(judge, one, f"ports[{number}]") for number, one in enumerate(ports)),
-        tuple(held),
-        judge.name(members["unknown"], "unknown") if members.get("unknown") else "",
-        tuple(failing),
+        moment=judge.whole_number(members["moment"], "moment", 0, GREATEST_MOMENT),
+        stable=stable,
+        deployed=deployed,
+        attempt=attempt,
+        since=judge.whole_number(members.get("since", 0), "since", 0, GREATEST_TIME),
+        analyses=analyses + _read_each(judge, members, "analyses", _read_process),
+        started=_read_each(judge, members, "started", _read_revision),
+        commands=_read_each(judge, members, "commands", _read_process),
+        former=judge.controls(members["former"], "former") if members.get("former") else (),
+        ports=(*dict.fromkeys(earlier), *_read_each(judge, members, "ports", _read_revision)),
+        held=_read_each(judge, members, "held", _read_held),
+        unknown=judge.name(members["unknown"], "unknown") if members.get("unknown") else "",
+        failing=_read_each(judge, members, "failing", _read_held),
     )
 
 

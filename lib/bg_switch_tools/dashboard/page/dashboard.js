@@ -85,7 +85,8 @@ function alarm() {
   if (!state) return "";
   const fault = state.fault ? [`The dashboard could not look at the switch: ${state.fault}. What is shown may be from before.`] : [];
   const faults = state.controller ? state.controller.faults : [];
-  return [...state.alarms.map((each) => each.text), ...faults, ...fault].join(" ");
+  const journal = state.journal ? [`${state.journal[0].toUpperCase()}${state.journal.slice(1)}.`] : [];
+  return [...state.alarms.map((each) => each.text), ...journal, ...faults, ...fault].join(" ");
 }
 
 // What is to be said of a dashboard or a switch that gives no answer; empty where both do.
@@ -298,6 +299,7 @@ async function send(command) {
     const answer = await fetch("api/order", {method: "POST", headers, body: JSON.stringify(command)});
     const told = await answer.json();
     if (!answer.ok) tell(`${line}: ${told.fault}`, "bad");
+    else if (told.carried_out && told.meaning) tell(`${line}: ${told.reply}: ${told.meaning}`, "bad");
     else if (told.carried_out) tell(`${line}: carried out`, "good");
     else tell(`${line}: ${told.reply}: ${told.meaning}`, "bad");
   } catch (error) {

@@ -56,6 +56,8 @@ class AgentRounds:
             is_answered = True
             self.silence.end()
         except (UnreachableError, ReportError) as reason:
+            if self.controller:
+                self.controller.take_silence(reason)
             if not self.is_stopping:
                 self.silence.begin(str(reason))
         except OpeningError as reason:
