@@ -6,7 +6,7 @@ import os
 import pathlib
 import signal
 import subprocess
-from collections.abc import Callable, Iterator, Sequence
+from collections.abc import Callable, Iterator, Mapping, Sequence
 from typing import NamedTuple
 
 from support import PROGRAM, TOP, processes
@@ -52,12 +52,22 @@ def in_turn(proxies: Sequence[Proxy], number: int) -> list[Proxy]:
 
 
 @contextlib.contextmanager
-def started(words: Sequence[str], folder: pathlib.Path) -> Iterator[Running]:
+def started(
+    words: Sequence[str], folder: pathlib.Path, variables: Mapping[str, str] | None = None
+) -> Iterator[Running]:
     """A program that runs in a folder until the end of the block, which ends what it has started
-    too. What it tells stands in the file `told` there."""
+    too, with these variables of the environment beside those of the bench. What it tells stands in
+    the file `told` there."""
     pipe = subprocess.PIPE
     with open(folder / "told", "w", encoding="utf-8") as told, subprocess.Popen(
-        words, stdin=pipe, stdout=pipe, stderr=told, text=True, cwd=folder, start_new_session=True
+        words,
+        stdin=pipe,
+        stdout=pipe,
+        stderr=told,
+        text=True,
+        cwd=folder,
+        start_new_session=True,
+        env={**os.environ, **(variables or {})},
     ) as process:
         processes.limit(process, LONGEST)
         try:
@@ -173,13 +183,16 @@ def open_book(control: int, port: int) -> None:
 
 @contextlib.contextmanager
 def running_switch(
-    program: Sequence[str], place: Place, flags: Sequence[str]
+    program: Sequence[str],
+    place: Place,
+    flags: Sequence[str],
+    variables: Mapping[str, str] | None = None,
 ) -> Iterator[RunningSwitch]:
-    """The program with these flags of `serve`; the words of a tool that runs it may stand before
-    it."""
+    """The program with these flags of `serve` and these variables of the environment; the words of
+    a tool that runs it may stand before it."""
     control = reserved(PORTS)
     words = [*program, *words_of_serve(place.port, control, None, 0, None, flags)]
-    with started(words, place.folder) as process:
+    with started(words, place.folder, variables) as process:
         assert process.stdin is not None and process.stdout is not None
         with contextlib.suppress(BrokenPipeError), process.stdin:
             process.stdin.write(ROLLOUT)
@@ -190,10 +203,17 @@ def running_switch(
 
 
 @contextlib.contextmanager
-def switch(place: Place, mode: Mode, concurrency: int, flags: Sequence[str]) -> Iterator[Proxy]:
-    """The switch with `concurrency` requests at a time, and the flags of a mode."""
+def switch(
+    place: Place,
+    mode: Mode,
+    concurrency: int,
+    flags: Sequence[str],
+    variables: Mapping[str, str] | None = None,
+) -> Iterator[Proxy]:
+    """The switch with `concurrency` requests at a time, the flags of a mode, and these variables of
+    the environment."""
     words = ("--concurrency", str(concurrency), *flags)
-    with running_switch([PROGRAM], place, words) as running:
+    with running_switch([PROGRAM], place, words, variables) as running:
         what = f"the switch does not answer, or not in the mode {mode.value}"
         need(lambda: answers(place.port, mode), what, place.folder)
         name = f"{SWITCH} {' '.join(words[:2])}"
