@@ -1,6 +1,6 @@
-"""The event loop of bg_event_loop on loopback: `bg_tests_event_loop` has a book of four seats and one
-endpoint, and may have another one that is dialled in its place. Connections of both sides are kept
-for further requests, or carry one request each.
+"""The event loop of bg_event_loop on loopback: `bg_tests_event_loop` has a book of four seats, and of
+one endpoint or two. Connections of both sides are kept for further requests, or carry one request
+each. A request is dialled at the endpoint of its slot, or also at the other one.
 """
 import contextlib
 import os
@@ -22,6 +22,7 @@ from support.endpoints import (
     Endpoint,
     Held,
     Request,
+    by_target,
     full_backlog,
     read_request,
     reset_at_once,
@@ -45,8 +46,16 @@ SEATS = 4  # of the program's book
 CLOSE, KEEP = "close", "keep"
 MODES = CLOSE, KEEP
 EMPTY, PAGES = "empty", "pages"  # the bodies of refusals
-NO_OTHER = 0  # the port of another endpoint that there is not
-SCALE_DOWN = "d"  # says that the revision of the endpoints is scaled down
+SLOT, REDISPATCH = "slot", "redispatch"  # where a request is dialled
+LOOP_ITSELF = 0  # in the place of an endpoint's port: that of the loop
+NOBODY = 9  # a port at which no endpoint is
+# Orders: another revision takes the place of the first one, which is scaled down; the first endpoint
+# is down; none is.
+TAKE_PLACE, FIRST_IS_DOWN, NONE_IS_DOWN = "s", "d", "u"
+# For how many seconds a port is asked last whose dial has failed, and how often that is tried: a busy
+# machine may need longer for a few requests.
+MARKED, MARK_ROUNDS = 1.0, 10
+SHARE = SEATS // 2  # of the requests, which one of two endpoints has while the other one is free
 ENTERED = re.compile(r"entered (\d+)\n")
 ACCEPTS_HTML = b"Accept: text/html\r\n"
 PAGE = b"<!DOCTYPE html>\n<title>502 Bad Gateway</title>\n<h1>502 Bad Gateway</h1>\n"
@@ -158,17 +167,22 @@ class EventLoop:
     """A running `bg_tests_event_loop`, and its endpoint."""
 
     def __init__(
-        self, mode: str, refusals: str = EMPTY, first: int | None = None, has_other: bool = True
+        self,
+        mode: str,
+        refusals: str = EMPTY,
+        other: int | None = None,
+        dials: str = REDISPATCH,
+        later: int = NOBODY,
     ) -> None:
-        """The book has the endpoint at the port `first`, and the endpoint here is the other one
-        if `has_other`. If `first` is None, the book has the endpoint here, and there is no other.
+        """The book has the endpoint here, and one at the port `other` if it is not None. The first
+        request is that of the other endpoint, and then they take turns. `later` is the port of the
+        revision that may take the place of the first one.
         """
         self.endpoint = KeptEndpoint()
         self.port = free_port()
-        endpoint = self.endpoint.port if first is None else first
-        other = NO_OTHER if first is None or not has_other else self.endpoint.port
+        ports = [self.endpoint.port] + ([] if other is None else [other or self.port])
         self.process = subprocess.Popen(
-            [PROGRAM, str(self.port), str(endpoint), str(other), mode, refusals],
+            [PROGRAM, str(self.port), mode, refusals, dials, str(later), *map(str, ports)],
             stdin=subprocess.PIPE,
             stdout=subprocess.PIPE,
             text=True,
@@ -191,9 +205,9 @@ class EventLoop:
         check(name, (found is not None, self.process.wait(processes.LONGEST)), (True, 0))
         return int(found[1]) if found else 0
 
-    def scale_down(self) -> None:
+    def order(self, order: str) -> None:
         assert self.process.stdin is not None
-        self.process.stdin.write(SCALE_DOWN)
+        self.process.stdin.write(order)
         self.process.stdin.flush()
 
     def pause(self) -> None:
@@ -214,13 +228,21 @@ class EventLoop:
         """What a client is answered that says that this is its last request."""
         return timed(self.port, [last(text)]).answer
 
+    def answers(self, count: int = 6) -> list[bytes]:
+        """What so many clients are answered, one after the other."""
+        return [self.once(request()) for _ in range(count)]
+
 
 @contextlib.contextmanager
 def running(
-    mode: str, refusals: str = EMPTY, first: int | None = None, has_other: bool = True
+    mode: str,
+    refusals: str = EMPTY,
+    other: int | None = None,
+    dials: str = REDISPATCH,
+    later: int = NOBODY,
 ) -> Iterator[EventLoop]:
     """An event loop, whose shutdown begins at the end."""
-    event_loop = EventLoop(mode, refusals, first, has_other)
+    event_loop = EventLoop(mode, refusals, other, dials, later)
     try:
         yield event_loop
     finally:
@@ -648,27 +670,118 @@ def dialled_elsewhere() -> None:
     """A request whose endpoint cannot be dialled goes to another one, whatever its method. If there
     is none, or it cannot be dialled either, the answer is 502."""
     for mode in MODES:
-        with running(mode, first=free_port()) as event_loop:
-            check(f"{mode}: a GET elsewhere", event_loop.once(request()), answer(echo(b"/")))
-            check(
-                f"{mode}: a POST elsewhere",
-                event_loop.once(request(b"/post", b"POST", b"abc")),
-                answer(echo(b"/post", b"abc")),
-            )
-            check(f"{mode}: each came once", event_loop.endpoint.targets(), [b"/", b"/post"])
-        with running(mode, first=free_port(), has_other=False) as event_loop:
+        for method, body in ((b"GET", b""), (b"POST", b"abc")):
+            with running(mode, other=free_port()) as event_loop:
+                check(
+                    f"{mode}: a {method!r} elsewhere",
+                    event_loop.once(request(b"/", method, body or None)),
+                    answer(echo(b"/", body)),
+                )
+                check(f"{mode}: it came once", event_loop.endpoint.targets(), [b"/"])
+        with running(mode) as event_loop:
+            event_loop.endpoint.stop()
             check(f"{mode}: no other endpoint", event_loop.once(request()), BAD_GATEWAY)
-    with running(CLOSE, first=free_port()) as event_loop:
-        event_loop.endpoint.stop()
-        check("no endpoint can be dialled", event_loop.once(request()), BAD_GATEWAY)
 
 
 def late_dials() -> None:
     """A dial that hangs is given up after five seconds, and the request goes to another endpoint."""
-    with full_backlog() as port, running(CLOSE, first=port) as event_loop:
+    with full_backlog() as port, running(CLOSE, other=port) as event_loop:
         answered = timed(event_loop.port, [last(request(b"/late"))])
         check("a request whose dial hangs", answered.answer, answer(echo(b"/late")))
         check("it came after the timeout of the dial", 4.5 < answered.seconds < 20, True)
+
+
+# The answers of the endpoint here, and of another one.
+HERE, THERE = answer(echo(b"/")), answer(b"two")
+
+
+def slots() -> None:
+    """While both endpoints are well, each request goes to that of its slot. The requests of one that
+    is stopped go to the other one if they may."""
+    for dials, stopped in ((SLOT, BAD_GATEWAY), (REDISPATCH, HERE)):
+        other = Endpoint(by_target(b"two"))
+        with running(CLOSE, other=other.port, dials=dials) as event_loop:
+            check(f"{dials}: both are well", event_loop.answers(), [THERE, HERE] * 3)
+            other.stop()
+            check(f"{dials}: one is stopped", event_loop.answers(), [stopped, HERE] * 3)
+
+
+def both_stopped() -> None:
+    """With both endpoints stopped each answer is 502. One that comes back is asked at once."""
+    other = Endpoint(by_target(b"two"), free_port())
+    with running(CLOSE, other=other.port) as event_loop:
+        event_loop.endpoint.stop()
+        other.stop()
+        check("both are stopped", event_loop.answers(), [BAD_GATEWAY] * 6)
+        other.start()
+        check("one that comes back, although both are marked", event_loop.answers(), [THERE] * 6)
+
+
+def resets_at_one_endpoint() -> None:
+    """A request of which an endpoint has got a byte goes to no other one."""
+    other = Endpoint(reset_at_once)
+    with running(CLOSE, other=other.port) as event_loop:
+        got = [event_loop.once(request(RESETS)) for _ in range(4)]
+        check("requests that are reset", got, [BAD_GATEWAY] * 4)
+        served = len(event_loop.endpoint.targets()) + other.served
+        check("each went to one endpoint", served, 4)
+
+
+def marks() -> None:
+    """A port whose dial failed is asked after the others for a second, and then again."""
+    other = Endpoint(by_target(b"two"), free_port())
+    with running(CLOSE, other=other.port) as event_loop:
+        for _ in range(MARK_ROUNDS):
+            other.stop()
+            check("a dial that fails is repeated elsewhere", event_loop.answers(2), [HERE] * 2)
+            begun = time.monotonic()
+            other.start()
+            got = event_loop.answers(4)
+            is_in_time = time.monotonic() < begun + MARKED / 2
+            if is_in_time:
+                check("a marked endpoint is not asked", got, [HERE] * 4)
+            time.sleep(1.2 * MARKED)
+            got = event_loop.answers(2)
+            check("an endpoint whose mark has ended is asked", got, [THERE, HERE])
+            if is_in_time:
+                break
+
+
+def down() -> None:
+    """An endpoint that is down by an order gets no request while another one takes them."""
+    other = Endpoint(by_target(b"two"))
+    with running(CLOSE, other=other.port) as event_loop:
+        event_loop.order(FIRST_IS_DOWN)
+        check("one is down", comes(lambda: event_loop.answers(4) == [THERE] * 4), True)
+        event_loop.order(NONE_IS_DOWN)
+        check("none is down", comes(lambda: event_loop.answers(4) == [THERE, HERE] * 2), True)
+
+
+def share() -> None:
+    """An endpoint that holds its requests has its share of them, and the other one gets the rest."""
+    other = Endpoint(by_target(b"two"))
+    with running(CLOSE, other=other.port) as event_loop, contextlib.ExitStack() as stack:
+        held = event_loop.endpoint.held
+        clients = []
+        for count in range(1, 9):
+            clients.append(stack.enter_context(connect(event_loop.port)))
+            clients[-1].sendall(request(HOLDS))
+            comes(lambda count=count: held.pending + other.served == count)  # type: ignore[misc]
+        check("the share of one of two", (held.pending, other.served), (SHARE, 8 - SHARE))
+        held.is_free.set()
+        got = [received(client) for client in clients]
+        check("each is answered", got.count(THERE) + got.count(answer(b"held")), 8)
+
+
+def own_port() -> None:
+    """A request whose endpoint is the loop itself is not sent there: it is answered 502, or goes to
+    another endpoint."""
+    for dials, got in ((SLOT, BAD_GATEWAY), (REDISPATCH, HERE)):
+        event_loop = EventLoop(CLOSE, other=LOOP_ITSELF, dials=dials)
+        check(f"{dials}: the loop's own port", event_loop.answers(4), [got, HERE] * 2)
+        event_loop.begin_shutdown()
+        entered = event_loop.check_end(f"{dials}: the end after requests to the loop's own port")
+        check(f"{dials}: no request came back", entered, 4)
 
 
 def no_descriptors() -> None:
@@ -690,30 +803,36 @@ def no_descriptors() -> None:
 
 def scaled_down() -> None:
     """Idle connections to endpoints whose revision is scaled down are closed. Their clients stay."""
-    with running(KEEP) as event_loop, KeptClient(event_loop.port) as client:
+    later = Endpoint(by_target(b"two"))
+    with running(KEEP, dials=SLOT, later=later.port) as event_loop, KeptClient(
+        event_loop.port
+    ) as client:
         check("before a scale-down", client.answer_to(request(b"/one")), response(echo(b"/one")))
         descriptors = event_loop.count_descriptors()
-        event_loop.scale_down()
+        event_loop.order(TAKE_PLACE)
         check(
             "a scale-down closes the idle connection",
             comes(lambda: event_loop.count_descriptors() < descriptors),
             True,
         )
-        check("the client stays", client.answer_to(request(b"/two")), response(echo(b"/two")))
-        check("by a new connection", event_loop.endpoint.connections, 2)
+        check("the client stays", client.answer_to(request(b"/two")), response(b"two"))
+        check("the endpoint before gets no more", event_loop.endpoint.connections, 1)
 
 
 def wrong_words() -> None:
     """Words that are wrong end the program with status 1."""
-    few: list[str] = []
-    many = ["0", "9", "0", KEEP, EMPTY, ""]
+    good = ["0", KEEP, EMPTY, SLOT, "9", "9"]
+    none: list[str] = []
     for words in (
-        few,
-        many,
-        ["0", "9", "0", "sometimes", EMPTY],
-        ["0", "9", "0", KEEP, "some"],
-        ["0", "65536", "0", KEEP, EMPTY],
-        ["0", "9", "-1", KEEP, EMPTY],
+        none,
+        good[:-1],
+        [*good, "9", "9"],
+        ["-1", *good[1:]],
+        ["0", "sometimes", *good[2:]],
+        ["0", KEEP, "some", *good[3:]],
+        ["0", KEEP, EMPTY, "elsewhere", *good[4:]],
+        ["0", KEEP, EMPTY, SLOT, "-1", "9"],
+        [*good, "65536"],
     ):
         run = processes.run_to_end([PROGRAM, *words])
         check(f"the words {words}", (run.printed, run.status), ("", 1))
@@ -740,6 +859,13 @@ if __name__ == "__main__":
             pages,
             dialled_elsewhere,
             late_dials,
+            slots,
+            both_stopped,
+            resets_at_one_endpoint,
+            marks,
+            down,
+            share,
+            own_port,
             no_descriptors,
             scaled_down,
             graceful_shutdown,

@@ -1,5 +1,5 @@
 -- The answers to requests.
-use Rattle.std.proofs.Common.{◌≡◌, ℕ, true, refl, sym, ap, subst, inr, Option, Some, None, Ok, Err}
+use Rattle.std.proofs.Common.{◌≡◌, ℕ, true, refl, sym, subst, ap, Option, Some, None, Ok, Err}
 use Rattle.bg_http.specs.declared.request.Request.{Request}
 use Rattle.bg_http.specs.declared.response.Response.{Response}
 use Rattle.bg_client_side.specs.Clients.{Client}
@@ -7,6 +7,9 @@ use Rattle.bg_endpoint_side.specs.Dialing.{Forwarded}
 use Rattle.bg_endpoint_side.specs.Outcomes.{fault_status}
 use Rattle.bg_endpoint_side.specs.declared.forwarded_request.Step.{Step}
 use Rattle.bg_endpoint_side.specs.declared.outcome.ForwardFault.{ForwardFault}
+use Rattle.bg_endpoint_side.specs.declared.outcome.ForwardFault.TheVariants as fault
+use Rattle.bg_http.specs.declared.response_fault.ResponseFault.TheVariants as response_fault
+use Rattle.bg_both_sides.specs.declared.endpoint_step.Given.TheVariants as given
 use Rattle.bg_both_sides.specs.Answers.{Answer, Refuses, Replies, Reply}
 use Rattle.bg_both_sides.specs.EndpointEvents.{AtForwarded, Follows, RefusesEntered}
 use Rattle.bg_both_sides.specs.Sides.{Sides}
@@ -16,17 +19,20 @@ use Rattle.bg_both_sides.specs.declared.endpoint_step.EndpointStep.{EndpointStep
 
 -- a refusal, since there was no memory for the text of a response
 pub unwritten_reply : (request : Request) (response : Response) (now : ℕ) (old new : Client) (answer : Option Answer)
-    → Refuses (Ok request) 503 now old answer new → (reply : Option Reply) × Replies request (Ok response) now old reply new
+    → Refuses (Ok request) 503 now old answer new
+    → (reply : Option Reply)
+    × Replies request (Ok response) (given.Refusal (fault.Response response_fault.OutOfMemory)) now old reply new
 unwritten_reply request response now old new None is = absurd is
 unwritten_reply request response now old new (Some answer) is =
-    (Some (record { request = request; answer = answer }), (refl, inr is.0, is.1))
+    (Some (record { request = request; answer = answer }), (refl, (refl, is.0), is.1))
 
 -- a refusal with the status of a fault
 pub faulty_reply : (request : Request) (named : ForwardFault) (now : ℕ) (old new : Client) (answer : Option Answer)
-    → Refuses (Ok request) (fault_status named) now old answer new → (reply : Option Reply) × Replies request (Err named) now old reply new
+    → Refuses (Ok request) (fault_status named) now old answer new
+    → (reply : Option Reply) × Replies request (Err named) (given.Refusal named) now old reply new
 faulty_reply request named now old new None is = absurd is
 faulty_reply request named now old new (Some answer) is =
-    (Some (record { request = request; answer = answer }), (refl, is.0, is.1))
+    (Some (record { request = request; answer = answer }), (refl, (refl, is.0), is.1))
 
 -- a refusal of the request that entered
 pub entered_reply : (request : Request) (now : ℕ) (old new : Client) (answer : Option Answer)

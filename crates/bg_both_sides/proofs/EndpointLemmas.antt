@@ -15,7 +15,7 @@ use Rattle.bg_endpoint_side.specs.declared.outcome.ForwardFault.TheVariants as f
 use Rattle.bg_endpoint_side.specs.declared.outcome.Health.TheVariants as health
 use Rattle.bg_endpoint_side.specs.declared.outcome.Outcome.{Outcome}
 use Rattle.bg_both_sides.specs.Answers.{IsAnswerTo, Reply}
-use Rattle.bg_both_sides.specs.EndpointEvents.{AtForwarded, Follows, IsOnce, Looks, LooksDialing, dial_failed}
+use Rattle.bg_both_sides.specs.EndpointEvents.{AtForwarded, Follows, IsOnce, Looks, LooksDialing, dial_failed, given_in}
 use Rattle.bg_both_sides.specs.Laws.{AnswersByItsResponse, GoesBackWhole, IsDecidedBy, LosesItsConnection, RepeatsByRule, RepeatsOnlyByRule, WasWhole}
 use Rattle.bg_both_sides.specs.Runs.{EndpointEvent, Happens, breaks, comes, dial_fails, ends, given_up, passes}
 use Rattle.bg_both_sides.specs.Sides.{IsForwarded, IsSound, Sides}
@@ -318,13 +318,13 @@ pub answers_by_its_response : (old new : Sides) (bytes : List ℕ) (now : ℕ) (
 answers_by_its_response old new bytes now told reply sound is = go old.endpoint refl sound is where
   go : (e : EndpointSide) → old.endpoint ≡ e → IsSound old.client e
       → AtForwarded (λ f next. Receives f bytes now next) e now old.client told (Some reply) new
-      → IsDecidedBy old bytes reply
+      → IsDecidedBy old bytes (given_in told) reply
   go side.NoRequest at_is sound is = absurd (cc)
   go (side.Entered request) at_is sound is = absurd (cc)
   go (side.Dialing request dialing) at_is sound is = absurd (cc)
   go (side.Forwarding request f) at_is sound is = by is.0 is.1 is.2 where
     by : (next : Step) → Receives f bytes now next → Follows request next now old.client told (Some reply) new
-        → IsDecidedBy old bytes reply
+        → IsDecidedBy old bytes (given_in told) reply
     by (step.GoesOn next) received is = absurd (cc)
     by (step.Again next) received is = absurd received
     by (step.Over outcome) received is = record {
@@ -333,5 +333,5 @@ answers_by_its_response old new bytes now told reply sound is = go old.endpoint 
       is_there = at_is ∙ ap (λ r. side.Forwarding r f) (sym is.2.0);
       is_sent = subst (λ r. IsForwarded r f) (sym is.2.0) sound.1;
       decided = received;
-      answer_is = subst (λ r. IsAnswerTo old.client r outcome.answer reply.answer) (sym is.2.0) is.2.1;
+      answer_is = subst (λ r. IsAnswerTo old.client r outcome.answer (given_in told) reply.answer) (sym is.2.0) is.2.1;
     }

@@ -22,8 +22,9 @@ use Rattle.bg_endpoint_side.specs.declared.terms.Terms.{Terms}
 use Rattle.bg_both_sides.proofs.ClientLemmas.{replied_outside}
 use Rattle.bg_both_sides.specs.Answers.{Replies, Reply}
 use Rattle.bg_both_sides.specs.ClientEvents.{entered_as}
-use Rattle.bg_both_sides.specs.EndpointEvents.{AtDialing, AtForwarded, Dials, DialsElsewhere, Follows, GivesUp, Looks, LooksDialing, RefusesEntered, begins, dial_failed, on_forwarded}
+use Rattle.bg_both_sides.specs.EndpointEvents.{AtDialing, AtForwarded, Dials, DialsElsewhere, Follows, GivesUp, Looks, LooksDialing, RefusesEntered, begins, dial_failed, given_in, on_forwarded}
 use Rattle.bg_both_sides.specs.Sides.{IsDialed, IsForwarded, IsSound, Sides}
+use Rattle.bg_both_sides.specs.declared.endpoint_step.Given.{Given}
 use Rattle.bg_both_sides.specs.declared.endpoint_step.EndpointStep.{EndpointStep}
 use Rattle.bg_both_sides.specs.declared.endpoint_side.EndpointSide.{EndpointSide}
 use Rattle.bg_both_sides.specs.declared.endpoint_side.EndpointSide.TheVariants as side
@@ -102,10 +103,10 @@ looks_is request f now sent =
       go true outcome = tt
       go false outcome = sent
 
-replied : (request : Request) (outcome : Outcome) (now : ℕ) (client : Client) (reply : Option Reply) (new : Client)
-    → Replies request outcome.answer now client reply new → is_inside new.stage ≡ false
-replied request outcome now client None new is = absurd is
-replied request outcome now client (Some reply) new is =
+replied : (request : Request) (outcome : Outcome) (told : Given) (now : ℕ) (client : Client) (reply : Option Reply) (new : Client)
+    → Replies request outcome.answer told now client reply new → is_inside new.stage ≡ false
+replied request outcome told now client None new is = absurd is
+replied request outcome told now client (Some reply) new is =
     ap (λ (n : Client). is_inside n.stage) is.2 ∙ replied_outside reply.answer now client
 
 -- what follows from a step is sound
@@ -117,7 +118,7 @@ follows_sound request (step.GoesOn f) now client told reply new inside of is =
 follows_sound request (step.Again d) now client told reply new inside of is =
     subst (λ (n : Sides). IsSound n.client n.endpoint) (sym is.2) (inside, of)
 follows_sound request (step.Over outcome) now client told reply new inside of is =
-    subst (IsSound new.client) (sym is.1) (replied request outcome now client reply new.client is.2)
+    subst (IsSound new.client) (sym is.1) (replied request outcome (given_in told) now client reply new.client is.2)
 
 -- a request that enters is inside
 pub entered_sound : (request : Option Request) (sides : Sides) → IsSound sides.client sides.endpoint

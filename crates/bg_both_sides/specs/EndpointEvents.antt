@@ -14,11 +14,14 @@ use Rattle.bg_endpoint_side.specs.declared.forwarded_request.Step.TheVariants as
 use Rattle.bg_endpoint_side.specs.declared.outcome.DialFault.{DialFault}
 use Rattle.bg_endpoint_side.specs.declared.outcome.DialFault.TheVariants as dial
 use Rattle.bg_endpoint_side.specs.declared.outcome.GivingUp.{GivingUp}
+use Rattle.bg_endpoint_side.specs.declared.outcome.ForwardFault.TheVariants as fault
 use Rattle.bg_endpoint_side.specs.declared.outcome.Health.TheVariants as health
 use Rattle.bg_endpoint_side.specs.declared.outcome.Outcome.{Outcome}
 use Rattle.bg_both_sides.specs.Answers.{IsRefusal, Replies, Reply, page_of, with_answer}
 use Rattle.bg_both_sides.specs.Sides.{Sides}
 use Rattle.bg_both_sides.specs.declared.endpoint_step.Ending.{Ending}
+use Rattle.bg_both_sides.specs.declared.endpoint_step.Given.{Given}
+use Rattle.bg_both_sides.specs.declared.endpoint_step.Given.TheVariants as given
 use Rattle.bg_both_sides.specs.declared.endpoint_step.EndpointStep.{EndpointStep}
 use Rattle.bg_both_sides.specs.declared.endpoint_step.EndpointStep.TheVariants as steps
 use Rattle.bg_both_sides.specs.declared.endpoint_side.EndpointSide.{EndpointSide}
@@ -91,9 +94,14 @@ on_forwarded change other = other
 
 -- WHAT BECOMES OF IT
 
--- the request is over, and this becomes of its connection and is told of its endpoint
-abbrev pub ending_of : Outcome → Ending
-ending_of outcome = record { goes_back = outcome.goes_back; health = outcome.health }
+-- what is told of the answer; only if there is one
+abbrev pub given_in : EndpointStep → Given
+given_in (steps.Answered ending) = ending.given
+given_in other = given.Refusal fault.GivenUp
+
+-- the request is over, this is told of its answer, and this becomes of its connection and is told of its endpoint
+abbrev pub ending_of : Outcome → Given → Ending
+ending_of outcome told = record { given = told; goes_back = outcome.goes_back; health = outcome.health }
 
 -- the request goes on, is sent again on another connection, or is answered
 abbrev pub Follows : Request → Step → ℕ → Client → EndpointStep → Option Reply → Sides → Type 0
@@ -102,8 +110,8 @@ Follows request (step.GoesOn forwarded) now client told reply new =
 Follows request (step.Again dialing) now client told reply new =
     (told ≡ steps.DialsAgain) × (reply ≡ None) × (new ≡ record { client = client; endpoint = side.Dialing request dialing })
 Follows request (step.Over outcome) now client told reply new =
-    (told ≡ steps.Answered (ending_of outcome)) × (new.endpoint ≡ side.NoRequest)
-    × Replies request outcome.answer now client reply new.client
+    (told ≡ steps.Answered (ending_of outcome (given_in told))) × (new.endpoint ≡ side.NoRequest)
+    × Replies request outcome.answer (given_in told) now client reply new.client
 
 -- an event on the connection of a request that is forwarded leads to such a step; without one nothing changes
 abbrev pub AtForwarded : (Forwarded → Step → Type 0) → EndpointSide → ℕ → Client → EndpointStep → Option Reply → Sides → Type 0

@@ -11,9 +11,11 @@ use Rattle.bg_endpoint_side.specs.Dialing.{Dialing, Forwarded}
 use Rattle.bg_endpoint_side.specs.Forwarding.{IsDecided, again, may_repeat}
 use Rattle.bg_endpoint_side.specs.declared.outcome.Outcome.{Outcome}
 use Rattle.bg_both_sides.specs.Answers.{IsAnswerTo, Reply}
+use Rattle.bg_both_sides.specs.EndpointEvents.{given_in}
 use Rattle.bg_both_sides.specs.Runs.{EndpointEvent, SidesCall, SidesCalls, SidesRun, again_in, came_in, client_calls_in, comes, dials, endpoint_gives, enters_none, sent_in, texts_in, written_of}
 use Rattle.bg_both_sides.specs.Sides.{IsForwarded, IsSound, Sides}
 use Rattle.bg_both_sides.specs.declared.endpoint_step.Ending.{Ending}
+use Rattle.bg_both_sides.specs.declared.endpoint_step.Given.{Given}
 use Rattle.bg_both_sides.specs.declared.endpoint_step.EndpointStep.{EndpointStep}
 use Rattle.bg_both_sides.specs.declared.endpoint_step.EndpointStep.TheVariants as steps
 use Rattle.bg_both_sides.specs.declared.endpoint_side.EndpointSide.TheVariants as side
@@ -38,19 +40,19 @@ WritesItsAnswers old calls new =
     ≡ written_in (client_calls_in calls) ++ to_write new.client.stage ++ cut)
     × (has_left new.client.stage ≡ false → cut ≡ [])
 
--- the bytes that came on the connection of a request decide its answer
-pub record IsDecidedBy (old : Sides) (bytes : List ℕ) (reply : Reply) : Type 0 where
+-- the bytes that came on the connection of a request decide its answer, and what is told of it
+pub record IsDecidedBy (old : Sides) (bytes : List ℕ) (told : Given) (reply : Reply) : Type 0 where
   pub forwarded : Forwarded
   pub outcome : Outcome
   pub is_there : old.endpoint ≡ side.Forwarding reply.request forwarded
   pub is_sent : IsForwarded reply.request forwarded
   pub decided : IsDecided forwarded (forwarded.came ++ bytes) outcome
-  pub answer_is : IsAnswerTo old.client reply.request outcome.answer reply.answer
+  pub answer_is : IsAnswerTo old.client reply.request outcome.answer told reply.answer
 
 abbrev pub AnswersByItsResponse : Sides → List ℕ → ℕ → EndpointStep → Reply → Sides → Type 0
 AnswersByItsResponse old bytes now step reply new =
     IsSound old.client old.endpoint → SidesCalls old (endpoint_gives (comes bytes) now step (Some reply)) new
-    → IsDecidedBy old bytes reply
+    → IsDecidedBy old bytes (given_in step) reply
 
 -- what was written to the connection of a request, and what is left, is the text of that request as it is forwarded; and
 -- what came on it is all that came since it became the request's

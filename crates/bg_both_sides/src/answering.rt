@@ -4,47 +4,55 @@ ghost use Rattle.bg_http.specs.Statuses.{is_refusal};
 ghost use Rattle.bg_http.specs.declared.request_fault.RequestFault.{RequestFault};
 ghost use Rattle.bg_both_sides.specs.Answers.{Answer, Refuses, RefusesWith, Replies, Reply, lacks, with_answer};
 
+use crate::endpoint_step::Given;
 use crate::texts::{refusal_text, response_text};
 use bg_client_side::ClientConnection;
 use bg_endpoint_side::ForwardFault;
-use bg_http::{Persistence, RefusalPage, Request, Response};
+use bg_http::{Persistence, RefusalPage, Request, Response, ResponseFault};
 use std::alloc::Global;
 
 /// Gives the client the answer to its request for which its endpoint gave this: the response, or a refusal with the status
 /// of the fault. Without memory for the response, the client is refused with 503; without memory for a refusal, its
-/// connection leaves.
+/// connection leaves. Tells which of them it was.
 pub(crate) fn answer(
     client: &mut ClientConnection,
     alloc: Global,
     request: &Request,
     given: Result<Response, ForwardFault>,
     now: u64,
-)
-    ensures { (reply : Option Reply) × Replies request.now given now client.old reply client.new }
+) -> Given
+    ensures { (reply : Option Reply) × Replies request.now given result now client.old reply client.new }
 {
     match given {
         Ok(response) => respond(client, alloc, request, &response, now),
-        Err(fault) => refuse(client, alloc, request, fault.status(), now),
+        Err(fault) => {
+            refuse(client, alloc, request, fault.status(), now);
+            Given::Refusal(fault)
+        }
     }
 }
 
-/// Gives the client a response, or refuses it with 503.
+/// Gives the client a response, or refuses it with 503. Tells which of them it was.
 fn respond(
     client: &mut ClientConnection,
     alloc: Global,
     request: &Request,
     response: &Response,
     now: u64,
-)
+) -> Given
     ensures { (reply : Option Reply)
-        × Replies request.now (Ok response.now) now client.old reply client.new }
+        × Replies request.now (Ok response.now) result now client.old reply client.new }
 {
     let persistence = client.persistence();
     match response_text(alloc, request, response, persistence) {
         Ok(text) => {
             client.answer(text, persistence, now);
+            Given::Response(response.code)
         }
-        Err(_) => refuse(client, alloc, request, 503, now),
+        Err(_) => {
+            refuse(client, alloc, request, 503, now);
+            Given::Refusal(ForwardFault::Response(ResponseFault::OutOfMemory))
+        }
     }
 }
 

@@ -6,7 +6,7 @@ ghost use Rattle.bg_both_sides.specs.EndpointEvents.{AtDialing, AtForwarded, Giv
 
 use crate::both_sides::BothSides;
 use crate::endpoint_side::EndpointSide;
-use crate::endpoint_step::{EndpointStep, finish};
+use crate::endpoint_step::EndpointStep;
 use bg_endpoint_side::{DialFault, GivingUp};
 use std::mem;
 
@@ -88,17 +88,12 @@ impl BothSides {
     pub fn dial_failed(&mut self, why: DialFault, now: u64) -> EndpointStep
         ensures { (reply : Option Reply) × AtDialing (λ d. dial_failed why) self.old.endpoint now self.old.client result reply self.new }
     {
-        let (endpoint, told) = match mem::replace(
-            &mut self.endpoint,
-            EndpointSide::NoRequest,
-        ).into_dialing()
-        {
-            Ok((request, dialing)) => {
-                let outcome = dialing.fail(why);
-                finish(&mut self.client, self.alloc, &request, outcome, now)
-            }
-            Err(other) => (other, EndpointStep::NotThere),
-        };
+        let (endpoint, told) = mem::replace(&mut self.endpoint, EndpointSide::NoRequest).fail_dial(
+            &mut self.client,
+            self.alloc,
+            why,
+            now,
+        );
         self.endpoint = endpoint;
         told
     }

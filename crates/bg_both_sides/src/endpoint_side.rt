@@ -2,7 +2,7 @@
 ghost use Rattle.std.specs.Prelude.{◌≡◌, IfErr, IfOk, None, OnErr, Option};
 ghost use Rattle.bg_endpoint_side.specs.Forwarding.{Ends, Receives, failed, wrote};
 ghost use Rattle.bg_both_sides.specs.Answers.{Reply};
-ghost use Rattle.bg_both_sides.specs.EndpointEvents.{AtForwarded, Dials, GivesUp, IsOnce, Looks, on_forwarded};
+ghost use Rattle.bg_both_sides.specs.EndpointEvents.{AtDialing, AtForwarded, Dials, GivesUp, IsOnce, Looks, dial_failed, on_forwarded};
 ghost use Rattle.bg_both_sides.specs.Sides.{as_dialing, as_entered, has_connection, request_of, to_endpoint};
 ghost use Rattle.bg_both_sides.specs.declared.endpoint_side.EndpointSide.TheVariants as side;
 ghost use Rattle.std.specs.Option.{option_copied};
@@ -192,6 +192,34 @@ impl EndpointSide {
             }
             EndpointSide::Dialing(request, dialing) => (
                 EndpointSide::Dialing(request, dialing),
+                EndpointStep::NotThere,
+            ),
+            EndpointSide::Entered(request) => (
+                EndpointSide::Entered(request),
+                EndpointStep::NotThere,
+            ),
+            EndpointSide::NoRequest => (EndpointSide::NoRequest, EndpointStep::NotThere),
+        }
+    }
+
+    /// The same after the dial gave no connection.
+    pub(crate) fn fail_dial(
+        self,
+        client: &mut ClientConnection,
+        alloc: Global,
+        why: DialFault,
+        now: u64,
+    ) -> (EndpointSide, EndpointStep)
+        ensures { (reply : Option Reply) × AtDialing (λ d. dial_failed why) self now client.old result.1 reply
+            (record { client = client.new; endpoint = result.0 }) }
+    {
+        match self {
+            EndpointSide::Dialing(request, dialing) => {
+                let outcome = dialing.fail(why);
+                finish(client, alloc, &request, outcome, now)
+            }
+            EndpointSide::Forwarding(request, forwarded) => (
+                EndpointSide::Forwarding(request, forwarded),
                 EndpointStep::NotThere,
             ),
             EndpointSide::Entered(request) => (

@@ -7,13 +7,24 @@ ghost use Rattle.bg_both_sides.specs.EndpointEvents.{Follows};
 use crate::answering::answer;
 use crate::endpoint_side::EndpointSide;
 use bg_client_side::ClientConnection;
-use bg_endpoint_side::{Health, Outcome, Step};
+use bg_endpoint_side::{ForwardFault, Health, Outcome, Step};
 use bg_http::Request;
 use std::alloc::Global;
 
-/// What becomes of the connection to an endpoint after the answer, and what is told of the endpoint.
+/// What a client was given as the answer to its request.
+#[derive(Clone, Copy, PartialEq, Eq, Debug, Drop)]
+pub enum Given {
+    /// The response of its endpoint, with this status code.
+    Response(u16),
+    /// A refusal for this fault, or nothing, if there was no memory for a refusal.
+    Refusal(ForwardFault),
+}
+
+/// What the client was given, what becomes of the connection to an endpoint after the answer, and what is told of the
+/// endpoint.
 #[derive(Clone, Copy, PartialEq, Eq, Debug, Drop)]
 pub struct Ending {
+    pub given: Given,
     /// Whether the connection, if there was one, is kept for another request. If not, it is closed.
     pub goes_back: bool,
     pub health: Health,
@@ -67,10 +78,14 @@ pub(crate) fn finish(
     ensures { (reply : Option Reply) × Follows request.now (step.Over outcome) now client.old result.1 reply
         (record { client = client.new; endpoint = result.0 }) }
 {
-    let (given, goes_back, health) = outcome.into_parts();
-    answer(client, alloc, request, given, now);
+    let (response, goes_back, health) = outcome.into_parts();
+    let given = answer(client, alloc, request, response, now);
     (
         EndpointSide::NoRequest,
-        EndpointStep::Answered(Ending { goes_back, health }),
+        EndpointStep::Answered(Ending {
+            given,
+            goes_back,
+            health,
+        }),
     )
 }

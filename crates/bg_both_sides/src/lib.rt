@@ -18,5 +18,5 @@ mod route;
 mod texts;
 
 pub use both_sides::BothSides;
-pub use endpoint_step::{Ending, EndpointStep};
+pub use endpoint_step::{Ending, EndpointStep, Given};
 pub use route::Route;

@@ -30,3 +30,9 @@ abbrev pub IsRoute : {D : Type 0} → Option D → ℕ → Route → Type 0
 IsRoute directory ticket route =
     (IsSome directory → IsInTurn (IsChosen ticket) route)
     × (IsNone directory → route ≡ record { port = ticket; tries = 1 })
+
+-- by a directory, the port is chosen after those that were tried; without one, it is the ticket's, and none was tried
+abbrev pub IsNextPort : {D : Type 0} → Option D → ℕ → List ℕ → ℕ → Type 0
+IsNextPort directory ticket tried port =
+    (IsSome directory → IsChosen ticket tried port)
+    × (IsNone directory → (port ≡ ticket) × (tried ≡ []))

@@ -3,7 +3,8 @@ ghost use Rattle.std.specs.Prelude.{◌≡◌, ◌≢◌, [], true, IfSome, IfNo
 ghost use Rattle.bg_endpoints.specs.Choices.{is_new};
 ghost use Rattle.bg_endpoints.specs.Routing.{IsChosen};
 
-use crate::directory::{Directory, Health};
+use crate::directory::Directory;
+use bg_endpoint_side::Health;
 use std::sync::Wait;
 use std::time::Clock;
 

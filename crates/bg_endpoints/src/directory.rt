@@ -8,24 +8,14 @@ use crate::port_lists::PortLists;
 use crate::port_state::PortState;
 use crate::share::Share;
 use crate::table::Table;
+use bg_endpoint_side::Health;
 use std::alloc::Global;
 use std::sync::{Mutex, Wait};
 use std::time::{Clock, Instant};
 
-/// How a port took a request.
-#[derive(Clone, Copy, Drop, PartialEq, Eq)]
-pub(crate) enum Health {
-    /// It has sent nothing yet.
-    Unknown,
-    /// It has sent bytes of a response.
-    Answers,
-    /// It could not be connected to, or it was silent until a timeout.
-    Fails,
-}
-
 /// The endpoints of the revisions: which ports belong together, which are down, and which have failed of late
-/// (nginx's `max_fails` and `fail_timeout`, HAProxy's `observe`). The workers ask it for each dial, and the
-/// operators' side sets it. Each call takes a lock for a short time; while it has the lock, it takes no other lock
+/// (nginx's `max_fails` and `fail_timeout`, HAProxy's `observe`). Those who forward requests ask it for each
+/// dial, and the operators' side sets it. Each call takes a lock for a short time; while it has the lock, it takes no other lock
 /// and waits for no peer.
 #[derive(Drop)]
 pub struct Directory {
@@ -61,7 +51,7 @@ impl Directory {
 
     /// Chooses the port that is dialled next for a ticket's port, after those that were tried, and counts a
     /// request there. `None` if no port is left; one is left if none was tried.
-    pub(crate) fn begin<R: Wait + Clock>(&self, rt: &R, ticket: u16, tried: &[u16]) -> Option<u16>
+    pub fn begin<R: Wait + Clock>(&self, rt: &R, ticket: u16, tried: &[u16]) -> Option<u16>
         ensures chosen { IfSome result (λ port. IsChosen ticket tried.now port) }
         ensures once { IfSome result (λ port. is_new port tried.now ≡ true) }
         ensures left { IfNone result (tried.now ≢ []) }
@@ -76,7 +66,7 @@ impl Directory {
     }
 
     /// Counts a request less at a port, and keeps how the port took it.
-    pub(crate) fn end<R: Wait + Clock>(&self, rt: &R, port: u16, health: Health) {
+    pub fn end<R: Wait + Clock>(&self, rt: &R, port: u16, health: Health) {
         let now = self.millis(rt);
         let mut table = self.table.lock(rt);
         let state = after(table.state_of(port).without_request(), health, now);

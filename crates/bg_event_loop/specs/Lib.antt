@@ -1,3 +1,4 @@
+pub mod LivePorts
 pub mod Moments
 pub mod Readinesses
 pub mod Seats

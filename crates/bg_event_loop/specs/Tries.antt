@@ -1,7 +1,8 @@
 -- The ports that are dialled for one request.
-use Rattle.std.specs.Prelude.{◌≡◌, ℕ, Bool, true, false, List, [], ◌∷◌, ◌++◌}
+use Rattle.std.specs.Prelude.{◌≡◌, ℕ, ◌+◌, Bool, true, false, List, [], ◌∷◌, ◌++◌, length, Option}
+use Rattle.bg_dial.specs.declared.dialled.Route.{Route}
 use Rattle.bg_endpoints.specs.Choices.{is_new}
-use Rattle.bg_endpoints.specs.Routing.{AreInTurnAfter}
+use Rattle.bg_endpoints.specs.Routing.{AreInTurnAfter, IsNextPort, IsRoute}
 use Rattle.bg_event_loop.specs.declared.tries.Tries.{Tries}
 
 -- the ports that were chosen, the last one last
@@ -30,3 +31,13 @@ abbrev pub AreInTurn : (List ℕ → ℕ → Type 0) → Tries → List Tries �
 AreInTurn follows first others last =
     first.failed.items ≡ [] → follows [] first.port → TriesRun follows first others last
     → AreInTurnAfter follows [] (tried last)
+
+-- the port that was dialled last, and how many were dialled
+abbrev pub route_of : Tries → Route
+route_of tries = record { port = tries.port; tries = length tries.failed.items + 1 }
+
+-- ports that are chosen by a directory, if there is one, are a route by it
+abbrev pub TakesRoute : {D : Type 0} → Option D → ℕ → Tries → List Tries → Tries → Type 0
+TakesRoute directory ticket first others last =
+    first.failed.items ≡ [] → IsNextPort directory ticket [] first.port
+    → TriesRun (IsNextPort directory ticket) first others last → IsRoute directory ticket (route_of last)

@@ -1,5 +1,5 @@
 //! The ports at which requests are dialled.
-ghost use Rattle.std.specs.Prelude.{◌≡◌, ◌≢◌, ℕ, [], List, true, IfNone, IfSome};
+ghost use Rattle.std.specs.Prelude.{◌≡◌, ◌≢◌, ℕ, [], Bool, List, true, IfNone, IfSome};
 ghost use Rattle.bg_endpoints.specs.Choices.{is_new};
 
 use bg_endpoint_side::Health;
@@ -12,6 +12,12 @@ pub trait EndpointPorts {
     /// is dialled next.
     ghost follows: { Self → ℕ → List ℕ → ℕ → Type 0 };
 
+    /// Whether a port is one of the switch itself.
+    ghost own: { Self → ℕ → Bool };
+
+    /// The relation between a port and whether a revision that is not scaled down has it.
+    ghost lives: { Self → ℕ → Bool → Type 0 };
+
     /// Chooses the port that is dialled next for a ticket's port, after those that were tried, and counts a request there.
     /// `None` if no port is left; one is left if none was tried.
     fn choose(&self, ticket: u16, tried: &[u16]) -> Option<u16>
@@ -22,26 +28,11 @@ pub trait EndpointPorts {
     /// Counts a request less at a port, and keeps how the port took it.
     fn leave(&self, port: u16, health: Health);
 
+    /// Whether a port is one of the switch itself. It is not dialled: the request would come back to the switch.
+    fn is_own(&self, port: u16) -> bool
+        ensures { result ≡ own self.now port };
+
     /// Whether a revision that is not scaled down has a port. An idle connection to any other port is closed.
-    fn is_live(&self, port: u16) -> bool;
-}
-
-/// The ports of the tickets alone: each request is dialled at the port of its ticket, once.
-#[derive(Clone, Copy, Drop)]
-pub struct TicketPorts {}
-
-impl EndpointPorts for TicketPorts {
-    ghost use Rattle.std.specs.Prelude.{◌≡◌, []};
-
-    ghost follows = { λ ports ticket tried port. (port ≡ ticket) × (tried ≡ []) };
-
-    fn choose(&self, ticket: u16, tried: &[u16]) -> Option<u16> {
-        if tried.is_empty() { Some(ticket) } else { None }
-    }
-
-    fn leave(&self, _port: u16, _health: Health) {}
-
-    fn is_live(&self, _port: u16) -> bool {
-        true
-    }
+    fn is_live(&self, port: u16) -> bool
+        ensures { lives self.now port result };
 }

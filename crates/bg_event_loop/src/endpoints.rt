@@ -1,5 +1,5 @@
 //! The connections to endpoints of a loop.
-ghost use Rattle.std.specs.Prelude.{◌≡◌, ◌&&◌, not};
+ghost use Rattle.std.specs.Prelude.{◌≡◌, ◌&&◌, not, false, IfOk, IfSome};
 
 use crate::client::Client;
 use crate::endpoint::Endpoint;
@@ -74,8 +74,13 @@ impl<'a, P: EndpointPorts> Endpoints<'a, P> {
         None
     }
 
-    /// Dials a port for the request of a client.
-    pub(crate) fn dial(&mut self, port: u16, client: usize) -> Result<usize, DialFault> {
+    /// Dials a port for the request of a client. The dial of a port of the switch itself fails, without a socket.
+    pub(crate) fn dial(&mut self, port: u16, client: usize) -> Result<usize, DialFault>
+        ensures { IfOk result (λ _. P.own self.old.ports.now port ≡ false) }
+    {
+        if self.ports.is_own(port) {
+            return Err(DialFault::Failed);
+        }
         let DialledStream {
             stream,
             is_complete,
@@ -210,7 +215,9 @@ fn may_stay(goes_back: bool, ready: Readiness) -> bool
 }
 
 /// The port of the first of these connections whose revision is scaled down.
-fn scaled_down<P: EndpointPorts>(kept: &[KeptConnection], ports: &P) -> Option<u16> {
+fn scaled_down<P: EndpointPorts>(kept: &[KeptConnection], ports: &P) -> Option<u16>
+    ensures { IfSome result (λ port. P.lives ports.now port false) }
+{
     let mut live = None;
     for idle in kept.iter() {
         if live != Some(idle.port) {

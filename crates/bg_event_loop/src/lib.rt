@@ -9,6 +9,7 @@
 #![tactic(auto)]
 
 mod accepting;
+mod book_ports;
 mod client;
 mod client_steps;
 mod endpoint;
@@ -30,7 +31,8 @@ mod sockets;
 mod sweeping;
 mod tries;
 
-pub use endpoint_ports::{EndpointPorts, TicketPorts};
+pub use book_ports::BookPorts;
+pub use endpoint_ports::EndpointPorts;
 pub use running::{LoopContext, run_event_loop};
 pub use settings::{EndpointSettings, LoopSettings};
 pub use shutdown::Shutdown;

@@ -1,14 +1,16 @@
 //! Runs an event loop, for checks over sockets.
 //!
-//! `tests/live/live_event_loop.py` runs it. Its words are PORT ENDPOINT_PORT OTHER_PORT close|keep empty|pages: the port of its
-//! clients, that of the only endpoint of its book, that of another endpoint, which is dialled if the first one cannot be (0: no
-//! other one), whether connections of both sides are kept, and what refusals have as their bodies. Its book has four seats. It
-//! writes `listening` once its port is open. A byte `d` of standard input says that the endpoints' revision is scaled down, so
-//! that idle connections to them are closed. Any other byte and the end of the input begin a shutdown. It ends when the clients
-//! have left, and then writes how many requests entered.
+//! `tests/live/live_event_loop.py` runs it. Its words are PORT close|keep empty|pages slot|redispatch NEXT ENDPOINT [ENDPOINT]: the
+//! port of its clients; whether connections of both sides are kept; what refusals have as their bodies; whether a request is
+//! dialled at the port of its ticket alone; the port of a second revision; and the ports of the first revision, whose endpoints are
+//! all available. Its book has four seats. It writes `listening` once its port is open.
+//!
+//! The bytes of standard input are orders. `s` lets the second revision take the place of the first one, which is scaled down. `d`
+//! says that the first endpoint is down, and `u` that none is. Any other byte and the end of the input begin a shutdown. The program
+//! ends when the clients have left, and then writes how many requests entered.
 #![tactic(auto)]
 
-mod ports;
+mod orders;
 mod serving;
 mod stop;
 mod words;
@@ -25,7 +27,7 @@ fn main(rt: HostRuntime) -> Result<(), Stop> {
     let words = words_of(&rt)?;
     let listener = listen(&rt, words.port)?;
     println!(rt; "listening")?;
-    let entered = serve(&rt, &listener, words)?;
+    let entered = serve(&rt, &listener, &words)?;
     println!(rt; "entered {entered}")?;
     Ok(())
 }
@@ -33,7 +35,7 @@ fn main(rt: HostRuntime) -> Result<(), Stop> {
 /// What the words of the command line say.
 fn words_of(rt: &HostRuntime) -> Result<Words, Stop> {
     let texts: Result<Vec<String>, AllocError> = env::args(rt)?.collect(rt.alloc());
-    Words::of(&texts?)
+    Words::of(rt.alloc(), &texts?)
 }
 
 /// A listener whose accepts do not wait.

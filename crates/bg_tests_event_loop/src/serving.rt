@@ -4,19 +4,19 @@ ghost use Rattle.bg_forward.specs.Seats.{AllOut};
 ghost use Rattle.bg_ledger.specs.Blanks.{AreAllFor};
 ghost use Rattle.bg_rollout.specs.Gathering.{indices};
 
-use crate::ports::TwoPorts;
+use crate::orders::carry_out_orders;
 use crate::stop::Stop;
 use crate::words::Words;
 use bg_book::{Book, Control, Desk, Limits, RolloutOpening};
-use bg_event_loop::{LoopContext, LoopSettings, Shutdown, run_event_loop};
+use bg_endpoints::{Directory, OwnPorts, PortList, PortLists, Share};
+use bg_event_loop::{BookPorts, LoopContext, LoopSettings, Shutdown, run_event_loop};
 use bg_forward::DeskGate;
 use bg_http::Persistence;
 use bg_ledger::{Blanks, Names, Seat};
 use bg_revisions::Service;
 use bg_strategy::Strategy;
 use bg_strategy_text::read;
-use std::alloc::Global;
-use std::io::Read;
+use std::alloc::{AllocError, Global};
 use std::marker::Brand;
 use std::net::TcpListener;
 use std::sync::Wait;
@@ -26,42 +26,67 @@ use std::time::Clock;
 /// The number of seats.
 const SEATS: u32 = 4;
 
-const STRATEGY: &[u8] =
+/// The strategy for revisions of one endpoint, and of two.
+const ONE: &[u8] =
     b"{\"spec\":{\"replicas\":1,\"strategy\":{\"blueGreen\":{\"activeService\":\"web\"}}}}";
+
+const TWO: &[u8] =
+    b"{\"spec\":{\"replicas\":2,\"strategy\":{\"blueGreen\":{\"activeService\":\"web\"}}}}";
 
 /// What a run needs.
 #[derive(Drop)]
-struct Run<'a, R> {
-    rt: &'a R,
-    alloc: Global,
-    listener: &'a TcpListener,
-    shutdown: &'a Shutdown,
-    ports: &'a TwoPorts,
-    strategy: &'a Strategy,
-    words: Words,
+pub struct Run<'a, R> {
+    pub rt: &'a R,
+    pub alloc: Global,
+    pub listener: &'a TcpListener,
+    pub shutdown: &'a Shutdown,
+    /// The directory of the endpoints, if a request may be dialled at another port than its ticket's.
+    pub directory: Option<&'a Directory>,
+    pub strategy: &'a Strategy,
+    pub words: &'a Words,
 }
 
 /// Serves clients of the listener as the words say. Returns after a shutdown, which the end of the input begins, and gives
 /// how many requests entered.
-pub fn serve<R>(rt: &R, listener: &TcpListener, words: Words) -> Result<u64, Stop>
+pub fn serve<R>(rt: &R, listener: &TcpListener, words: &Words) -> Result<u64, Stop>
 where
     R: AllocGlobal + Input + Threads + Wait + Clock + Sync,
 {
     let alloc = rt.alloc();
     let shutdown = Shutdown::new()?;
-    let ports = TwoPorts::new(words.other);
-    let strategy = read(alloc, STRATEGY)?;
+    let directory = directory_for(rt, alloc, words)?;
+    let strategy = read(alloc, if words.endpoints.len() == 1 { ONE } else { TWO })?;
     let run = Run {
         rt,
         alloc,
         listener,
         shutdown: &shutdown,
-        ports: &ports,
+        directory: directory.as_ref(),
         strategy: &strategy,
         words,
     };
     let blanks = Blanks::new();
     open_and_serve::<Brand, R>(&run, blanks)
+}
+
+/// A directory with the list of the first revision, if a request may be dialled at another port than its ticket's.
+fn directory_for<R: Wait + Clock>(
+    rt: &R,
+    alloc: Global,
+    words: &Words,
+) -> Result<Option<Directory>, AllocError> {
+    if !words.redispatches {
+        return Ok(None);
+    }
+    let share = Share {
+        given: None,
+        concurrency: SEATS,
+    };
+    let directory = Directory::new(rt, alloc, share);
+    let mut lists = PortLists::new(alloc);
+    lists.add(PortList::new(alloc, &words.endpoints, words.endpoints.len())?)?;
+    directory.set(rt, lists);
+    Ok(Some(directory))
 }
 
 /// Opens the book, serves clients to the end, and closes the book. Gives how many requests entered.
@@ -77,13 +102,13 @@ where
     let opening = RolloutOpening {
         strategy: run.strategy,
         name: "v1",
-        ports: &[run.words.endpoint],
+        ports: &run.words.endpoints,
         seats: SEATS,
         limits: Limits::usual(),
     };
     let (book, mut seats) = Book::<N>::open_with_many_seats(run.alloc, &opening, blanks)?;
     let desk = Desk::new(book);
-    make_available(run.rt, &desk);
+    make_available(run, &desk);
     let has_served = serve_beside_input(run, &desk, seats.as_mut_slice());
     let entered = entered_at(seats.as_slice());
     let _history = desk.into_book().close(seats);
@@ -103,16 +128,16 @@ fn entered_at<N: Names>(seats: &[Seat<N>]) -> u64 {
     calls / 2
 }
 
-/// Says that the endpoint is available. If that is refused, each request is.
-fn make_available<N: Names, R: Wait>(rt: &R, desk: &Desk<N>) {
+/// Says that the endpoints are available. If that is refused, each request is.
+fn make_available<'a, N: Names, R: Wait>(run: &Run<'a, R>, desk: &Desk<N>) {
     let available = Control::Available {
         revision: 1,
-        size: 1,
+        size: u32::try_from(run.words.endpoints.len()).unwrap_or(u32::MAX),
     };
-    let _ = desk.control(rt, &available);
+    let _ = desk.control(run.rt, &available);
 }
 
-/// Serves clients by the desk on seats that are out, and waits in parallel for the end of the input. Each seat keeps its place.
+/// Serves clients by the desk on seats that are out, and carries out in parallel the orders of the input. Each seat keeps its place.
 /// Gives whether the loop has run.
 fn serve_beside_input<'a, N: Names + Send + Sync, R>(
     run: &Run<'a, R>,
@@ -131,7 +156,7 @@ where
             requires { AllOut seats.now }
             ensures { indices seats.exit.now ≡ indices seats.entry.now }
         { has_served = serve_seats(run, desk, seats) },
-        &mut || await_end_of_input(run),
+        &mut || carry_out_orders(run, desk),
     );
     has_served
 }
@@ -146,10 +171,20 @@ fn serve_seats<'a, N: Names, R: Wait + Clock>(
     ensures { indices seats.new ≡ indices seats.old }
 {
     let gate = DeskGate::new(run.rt, desk);
+    let ports = BookPorts {
+        rt: run.rt,
+        desk,
+        directory: run.directory,
+        own: OwnPorts {
+            active: run.words.port,
+            preview: None,
+            control: None,
+        },
+    };
     let context = LoopContext {
         alloc: run.alloc,
         gate: &gate,
-        ports: run.ports,
+        ports: &ports,
         listener: run.listener,
         shutdown: run.shutdown,
         settings: settings_of(run.words),
@@ -157,22 +192,10 @@ fn serve_seats<'a, N: Names, R: Wait + Clock>(
     run_event_loop(run.rt, &context, seats).is_ok()
 }
 
-fn settings_of(words: Words) -> LoopSettings {
+fn settings_of(words: &Words) -> LoopSettings {
     let usual = LoopSettings::usual(Service::Active).with_refusal_body(words.refusal_body);
     match words.persistence {
         Persistence::Close => usual,
         Persistence::Keep => usual.with_kept_connections(),
     }
-}
-
-/// Reads the input: `d` scales the revision down, and any other byte or the end begins the shutdown.
-fn await_end_of_input<'a, R: Input>(run: &Run<'a, R>) {
-    for _ in 0..u64::MAX {
-        let mut byte = [0; 1];
-        match run.rt.reader().read(&mut byte) {
-            Ok(1) if byte == *b"d" => run.ports.scale_down(),
-            _ => break,
-        }
-    }
-    run.shutdown.begin();
 }

@@ -2,36 +2,62 @@
 
 use crate::stop::Stop;
 use bg_http::{Persistence, RefusalBody};
+use std::alloc::Global;
 
 /// What the words of the command line say.
-#[derive(Clone, Copy, Drop)]
+#[derive(Drop)]
 pub struct Words {
     /// The port at which the loop accepts clients.
     pub port: u16,
-    /// The port of the only endpoint of the book.
-    pub endpoint: u16,
-    /// The port of another endpoint; 0 if there is none.
-    pub other: u16,
     /// Whether the connections of both sides are kept for further requests.
     pub persistence: Persistence,
     /// What refusals have as their bodies.
     pub refusal_body: RefusalBody,
+    /// Whether a request may be dialled at another port than its ticket's.
+    pub redispatches: bool,
+    /// The port of the endpoint of a second revision.
+    pub next: u16,
+    /// The ports of the endpoints of the first revision: one or two.
+    pub endpoints: Vec<u16>,
 }
 
 impl Words {
     /// What these words say, the first of which names the program.
-    pub fn of(texts: &[String]) -> Result<Words, Stop> {
-        let [_, port, endpoint, other, persistence, refusal_body] = texts else {
+    pub fn of(alloc: Global, texts: &[String]) -> Result<Words, Stop> {
+        let [
+            _,
+            port,
+            persistence,
+            refusal_body,
+            dials,
+            next,
+            endpoints @ ..,
+        ] = texts
+        else {
             return Err(Stop::WrongWords);
         };
         Ok(Words {
             port: port_of(port)?,
-            endpoint: port_of(endpoint)?,
-            other: port_of(other)?,
             persistence: persistence_of(persistence)?,
             refusal_body: refusal_body_of(refusal_body)?,
+            redispatches: redispatches_of(dials)?,
+            next: port_of(next)?,
+            endpoints: endpoints_of(alloc, endpoints)?,
         })
     }
+}
+
+fn endpoints_of(alloc: Global, words: &[String]) -> Result<Vec<u16>, Stop> {
+    if !matches!(words.len(), 1 | 2) {
+        return Err(Stop::WrongWords);
+    }
+    let mut ports = Vec::new(alloc);
+    for word in words.iter() {
+        if ports.push(port_of(word)?).is_err() {
+            return Err(Stop::OutOfMemory);
+        }
+    }
+    Ok(ports)
 }
 
 fn port_of(word: &str) -> Result<u16, Stop> {
@@ -53,6 +79,14 @@ fn refusal_body_of(word: &str) -> Result<RefusalBody, Stop> {
     match word {
         "empty" => Ok(RefusalBody::Empty),
         "pages" => Ok(RefusalBody::Page),
+        _ => Err(Stop::WrongWords),
+    }
+}
+
+fn redispatches_of(word: &str) -> Result<bool, Stop> {
+    match word {
+        "slot" => Ok(false),
+        "redispatch" => Ok(true),
         _ => Err(Stop::WrongWords),
     }
 }

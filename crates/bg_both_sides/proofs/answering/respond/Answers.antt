@@ -1,4 +1,4 @@
-use Rattle.std.proofs.Common.{◌∙◌, ap, inl, refl, Some, vec_capacity}
+use Rattle.std.proofs.Common.{◌∙◌, ap, refl, Some, vec_capacity}
 use Rattle.bg_http.specs.Texts.{response_text}
 use Rattle.bg_both_sides.proofs.AnswerLemmas.{unwritten_reply}
 use Rattle.bg_both_sides.specs.Answers.{says}
@@ -12,7 +12,7 @@ returns-in-Ok c =
         request = c.args.request.now;
         answer = says c.in-Ok.text.items (vec_capacity c.in-Ok.text) c.persistence-persistence.result;
       }),
-      (refl, inl (text, stays), c.answer.ensures.new),
+      (refl, (refl, (text, stays)), c.answer.ensures.new),
     )
 
 pub returns-in-Err : goal.returns-in-Err
