@@ -8,3 +8,4 @@ pub mod Texts
 pub mod BadLines
 pub mod Utf8
 pub mod LegalEntries
+pub mod SupersededTicks

@@ -2,3 +2,4 @@ pub mod Texts
 pub mod Words
 pub mod Readings
 pub mod Faults
+pub mod Ticks

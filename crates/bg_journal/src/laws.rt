@@ -1,15 +1,16 @@
 //! Laws of the text of a journal. Each stands on a function that does nothing.
-ghost use Rattle.std.specs.Prelude.{◌≡◌, ℕ, true, List};
+ghost use Rattle.std.specs.Prelude.{◌≡◌, ℕ, not, true, List};
 ghost use Rattle.std.specs.List.{list_all};
 ghost use Rattle.std.specs.Str.{IsUtf8};
 ghost use Rattle.bg_history.specs.declared.entry.Entry.{Entry};
 ghost use Rattle.bg_strategy.specs.declared.strategy.Strategy.{Strategy};
 ghost use Rattle.bg_history.specs.Kept.{Opening};
 ghost use Rattle.bg_history.specs.Steps.{IsLegal};
-ghost use Rattle.bg_history_laws.specs.Journaled.{journaled};
+ghost use Rattle.bg_history_laws.specs.Journaled.{is_of_request, journaled};
 ghost use Rattle.bg_journal.specs.Texts.{entries_text, has_line, is_journaled, line_of};
+ghost use Rattle.bg_journal.specs.Ticks.{KeepsWithoutTicks};
 
-use bg_history_laws::journals;
+use bg_history_laws::{compacts, journals, keeps_table};
 
 /// No two entries have one line.
 pub fn lines_differ()
@@ -36,4 +37,15 @@ pub fn journals_have_lines()
         → IsLegal s o closed past → list_all has_line (journaled past) ≡ true }
 {
     journals();
+}
+
+/// A legal past without entries of requests is legal without its superseded ticks too, which are those that another tick
+/// directly follows. Each question about it has the same answer.
+pub fn ticks_may_be_dropped()
+    ensures { (s : Strategy) (o : Opening) (closed : List ℕ) (past : List Entry)
+        → IsLegal s o closed past → list_all (λ e. not (is_of_request e)) past ≡ true
+        → KeepsWithoutTicks s o closed past }
+{
+    compacts();
+    keeps_table();
 }

@@ -9,9 +9,11 @@ mod entry_line;
 pub mod laws;
 mod reading;
 mod text_fault;
+mod ticks;
 mod words;
 mod writing;
 
 pub use reading::{read_entries, read_entry};
 pub use text_fault::TextFault;
+pub use ticks::append_entries;
 pub use writing::{has_line, write_entries, write_entry};

@@ -31,6 +31,8 @@ use Rattle.sqlite.specs.Listing.{understood}
 use Rattle.sqlite.specs.Effect.{Database}
 use Rattle.sqlite.specs.State.{State, mode_of, Writes, Executes, CommitsBy, MayCommit, text_of, IsNotRun, ExecutesIn, shows_rows}
 use Rattle.sqlite.proofs.Callers.{IsPlain, command_of, statement_of, runs_as, one_step}
+use Rattle.sqlite_catalog.specs.Listing.{IsSound}
+use Rattle.sqlite_schema.specs.declared.schema.Schema.{Schema}
 use Rattle.bg_journal_store.specs.Schema.{entries, journal_schema, version}
 use Rattle.bg_journal_store.specs.Journal.{row_text, texts_in, settings_in, IsJournal, Appends, Keeps}
 use Rattle.bg_journal_store.proofs.Outcomes.{went, same_value}
@@ -138,7 +140,7 @@ module _ (s : State) (text : List ℕ) (journal : IsJournal s) where
       let last : new.committed ≡ new.now = rw journal.autocommit at w.shown.committed_is in
       (it, record { is_open = w.shown.is_open; autocommit = w.shown.mode ∙ journal.autocommit; schema = it.schema; committed = last; numbered = it.numbered; version = it.version })
 
-  pub commits : (db : Trees) → CommitsBy insert_text params s db → texts_in db ≡ texts_in s.now.trees ++ text ∷ []
+  pub commits : (db : Trees) → CommitsBy insert_text params s db → (texts_in db ≡ texts_in s.now.trees ++ text ∷ []) × IsSound journal_schema db
   unfolding CommitsBy
   commits db h =
       let known = sym h.1.is ∙ ap (λ c. understood c insert_text) journal.schema in
@@ -147,7 +149,10 @@ module _ (s : State) (text : List ℕ) (journal : IsJournal s) where
       let it : MayCommit s None insert sql params db = subst₂ (λ k t. MayCommit s None k t params db) (ap command_of known ∙ insert_is) (ap (statement_of insert_text) known) may in
       elim it [
         | inl ends ↦ absurd (elim ends.0 [ inl e ↦ cc | inr e ↦ (let f = e.2 in cc) ])
-        | inr w ↦ ap texts_in w.5 ∙ (inserts w.1 w.2 w.3).texts
+        | inr w ↦ (
+          ap texts_in w.5 ∙ (inserts w.1 w.2 w.3).texts,
+          subst (IsSound journal_schema) (sym w.5) (subst (λ (c : Schema). IsSound c w.2.trees) (inserts w.1 w.2 w.3).schema w.4),
+        )
       ]
 
   -- a refusal changes nothing, unless it shuts the database

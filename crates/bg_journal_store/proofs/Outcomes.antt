@@ -1,5 +1,5 @@
 -- The parts of a statement that ended well, and what a result says.
-use Rattle.std.proofs.Common.{◌≡◌, ◌⊎◌, inl, inr, ◌<◌, ◌≤◌, List, [], ◌∷◌, length, get_or, Ok, Err, Result, IfOk, sym, ap, arith}
+use Rattle.std.proofs.Common.{◌≡◌, ◌⊎◌, inl, inr, ◌<◌, ◌≤◌, List, [], ◌∷◌, length, get_or, Ok, Err, Result, IfOk, OnOk, sym, ap, arith}
 
 -- a part that gave a value did not stop on the way
 pub went : {B E R : Type 0} {b : B} {Stops : E → Type 0} → ((stop : E) × Stops stop × (Ok b ≡ Err stop)) ⊎ R → R
@@ -20,3 +20,7 @@ same_head e = cc
 pub both_ok : {A E : Type 0} {P Q R : A → Type 0} (r : Result A E) → ((a : A) → P a → Q a → R a) → IfOk r P → IfOk r Q → IfOk r R
 both_ok (Err e) f p q = tt
 both_ok (Ok a) f p q = f a p q
+
+pub ok_so : {A E Q : Type 0} {P : A → Type 0} (r : Result A E) → ((a : A) → P a → Q) → IfOk r P → OnOk r Q
+ok_so (Err e) f p = tt
+ok_so (Ok a) f p = f a p

@@ -20,6 +20,11 @@ pub shown_open : (old new : State) (sql : List ℕ) (c : Compiled) (params : Row
 shown_open old new sql c params rows None h = h.3.0.was_open
 shown_open old new sql c params rows (Some what) h = h.1.shown.was_open
 
+-- a query that gave rows was asked of an open connection
+pub gave_open : (sql : List ℕ) (old new : State) (rows : List Row) → Shown sql [] old new rows → IsTrue old.is_open
+unfolding Shown
+gave_open sql old new rows h = shown_open old new sql h.0 _ rows h.0.returning h.2
+
 failed_open : (old new : State) (sql : List ℕ) (c : Compiled) (params : Row) (e : Error) (returning : Option Returning) → FailsToShow old new sql c params e returning → IsTrue new.is_open → IsTrue old.is_open
 failed_open old new sql c params e None h stays = h.3.0.was_open
 failed_open old new sql c params e (Some what) (inl why) stays = why.1.0.was_open

@@ -62,6 +62,10 @@ LeavesOnly s texts = (db : Trees) → s.may_leave db → texts_in db ≡ texts
 abbrev pub LeavesEither : State → List (List ℕ) → List (List ℕ) → Type 0
 LeavesEither s before after = (db : Trees) → s.may_leave db → (texts_in db ≡ before) ⊎ (texts_in db ≡ after)
 
+-- whatever a crash leaves at this moment is a database with the tables of a journal
+abbrev pub LeavesJournals : State → Type 0
+LeavesJournals s = (db : Trees) → s.may_leave db → IsSound journal_schema db
+
 -- The text comes after those that were there. A crash leaves all of them.
 pub record Appends (old new : State) (text : List ℕ) : Type 0 where
   pub was_open : IsTrue old.is_open
@@ -120,3 +124,12 @@ SurvivesCrash journal =
     IsJournal (file_state journal) → IsTrue (view journal.store).is_numbered
     → (left : Image) → (store_state journal.store).may_leave left → (texts : List (List ℕ)) → OpensFrom left texts
     → texts ≡ texts_in (file_state journal).now.trees
+
+-- Whatever a crash leaves after a failure, which may have closed the journal, the texts that the next open takes from it are
+-- those before the failed call or those with its text.
+abbrev pub SurvivesFailure : {D : Type 0} {g : Ghosts D} → Held (FileStore D g) → Type 0
+SurvivesFailure journal =
+    (before after : List (List ℕ)) → LeavesJournals (file_state journal) → LeavesEither (file_state journal) before after
+    → IsTrue (view journal.store).is_numbered
+    → (left : Image) → (store_state journal.store).may_leave left → (texts : List (List ℕ)) → OpensFrom left texts
+    → (texts ≡ before) ⊎ (texts ≡ after)

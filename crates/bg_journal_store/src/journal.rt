@@ -13,7 +13,7 @@ ghost use Rattle.bg_journal_store.specs.declared.fault.JournalFault.TheVariants.
 ghost use Rattle.bg_journal_store.specs.Faults.{fault_of as fault_in};
 ghost use Rattle.bg_journal_store.specs.Failures.{FailsToAppend, FailsToRead};
 ghost use Rattle.bg_journal_store.specs.Schema.{journal_schema, version};
-ghost use Rattle.bg_journal_store.specs.Journal.{Appends, ComesFrom, HasTables, HoldsJournal, IsBlank, IsJournal, IsLeft, Keeps, LeavesEither, LeavesOnly, OpensFrom, Refuses, settings_in, texts_in};
+ghost use Rattle.bg_journal_store.specs.Journal.{Appends, ComesFrom, HasTables, HoldsJournal, IsBlank, IsJournal, IsLeft, Keeps, LeavesEither, LeavesJournals, LeavesOnly, OpensFrom, Refuses, settings_in, texts_in};
 
 use crate::fault::{JournalFault, fault_of};
 use crate::reading::{SELECT_ENTRIES, SELECT_SETTINGS, read_texts};
@@ -216,8 +216,12 @@ fn insert<S: Alter>(conn: &mut Connection<S>, text: &str) -> Result<usize, Error
         → IfErr result (λ error. FailsToAppend (state S.Store conn.old) (state S.Store conn.new) text.now (fault_in error)) }
     ensures closes { HasCleanDisk (state S.Store conn.new) → IsTrue (state S.Store conn.old).is_open
         → IsTrue (state S.Store conn.new).is_open ⊎ MoreFaults (state S.Store conn.old).faults (state S.Store conn.new).faults }
+    ensures sound { HasCleanDisk (state S.Store conn.new) → IsTrue (state S.Store conn.old).is_open
+        → LeavesJournals (state S.Store conn.new) }
+    ensures clean { doubt (state S.Store conn.old).is_clean ≤ doubt (state S.Store conn.new).is_clean }
     ensures limit { (state S.Store conn.new).step_limit ≡ (state S.Store conn.old).step_limit }
 {
+    let _schema = conn.schema();
     conn.execute(INSERT_ENTRY, params![text])
 }
 
@@ -251,6 +255,9 @@ impl<S: Alter> Journal<S> {
             → IfErr result (FailsToAppend (state S.Store self.old) (state S.Store self.new) text.now) }
         ensures closes { HasCleanDisk (state S.Store self.new) → IsTrue (state S.Store self.old).is_open
             → IsTrue (state S.Store self.new).is_open ⊎ MoreFaults (state S.Store self.old).faults (state S.Store self.new).faults }
+        ensures sound { HasCleanDisk (state S.Store self.new) → IsTrue (state S.Store self.old).is_open
+            → LeavesJournals (state S.Store self.new) }
+        ensures clean { doubt (state S.Store self.old).is_clean ≤ doubt (state S.Store self.new).is_clean }
     {
         match insert(&mut self.conn, text) {
             Ok(_) => Ok(()),
@@ -274,7 +281,12 @@ impl<S: Alter> Journal<S> {
             → IfErr result (FailsToRead (state S.Store self.old) (state S.Store self.new)) }
         ensures closes { HasCleanDisk (state S.Store self.new) → IsTrue (state S.Store self.old).is_open
             → IsTrue (state S.Store self.new).is_open ⊎ MoreFaults (state S.Store self.old).faults (state S.Store self.new).faults }
+        ensures open { HasCleanDisk (state S.Store self.new) → OnOk result (IsTrue (state S.Store self.new).is_open) }
+        ensures sound { HasCleanDisk (state S.Store self.new) → IsTrue (state S.Store self.old).is_open
+            → LeavesJournals (state S.Store self.new) }
+        ensures clean { doubt (state S.Store self.old).is_clean ≤ doubt (state S.Store self.new).is_clean }
     {
+        let _schema = self.conn.schema();
         read_texts(alloc, &mut self.conn, SELECT_ENTRIES)
     }
 }

@@ -7,6 +7,7 @@ use Rattle.std.proofs.lemmas.List.Folds.{list_all-append}
 use Rattle.bg_history.specs.declared.entry.Entry.{Entry}
 use Rattle.bg_history.specs.declared.entry.Entry.TheVariants.{Outcome as outcome}
 use Rattle.bg_history.specs.declared.entry.Outcome.{Outcome}
+use Rattle.bg_history.specs.Compacted.{thin}
 use Rattle.bg_history.specs.Steps.{with_outcomes}
 use Rattle.bg_journal.specs.Texts.{entries_text, entry_text, is_journaled}
 use Rattle.bg_rollout.specs.Following.{Resumes}
@@ -22,8 +23,12 @@ text_of_orders (first ∷ orders) =
 both_true : (a b : Bool) → a ≡ true → b ≡ true → (a && b) ≡ true
 both_true a b p q = ap (λ t. t && b) p ∙ q
 
+-- the list begins with these entries
+abbrev Begins : List Entry → List Entry → Type 0
+Begins first entries = (later : List Entry) × (entries ≡ first ++ later)
+
 -- the outcomes that are recorded after a journal come behind its entries
-begins : (outcomes : List Outcome) (past : List Entry) → BeginsWith (reverse past) (reverse (with_outcomes outcomes past))
+begins : (outcomes : List Outcome) (past : List Entry) → Begins (reverse past) (reverse (with_outcomes outcomes past))
 begins [] past = ([], sym (append-nil (reverse past)))
 begins (x ∷ earlier) past =
     let before = begins earlier past in (
@@ -31,16 +36,22 @@ begins (x ∷ earlier) past =
       reverse_onto (with_outcomes earlier past) (outcome x) [] ∙ ap (λ l. l ++ outcome x ∷ []) before.1 ∙ append_assoc (reverse past) before.0 (outcome x ∷ []),
     )
 
--- what begins with entries that begin with these begins with these
-longer : (first entries all : List Entry) → BeginsWith first entries → BeginsWith entries all → BeginsWith first all
-longer first entries all p q = (p.0 ++ q.0, q.1 ∙ ap (λ l. l ++ q.0) p.1 ∙ append_assoc first p.0 q.0)
+-- no tick is superseded by an outcome
+thin_outcomes : (outcomes : List Outcome) (past : List Entry) → thin (with_outcomes outcomes past) ≡ with_outcomes outcomes (thin past)
+thin_outcomes [] past = refl
+thin_outcomes (x ∷ earlier) past = ap (λ l. outcome x ∷ l) (thin_outcomes earlier past)
 
 -- no two lists of entries have one text
 abbrev pub Differ : Type 0
 Differ = (first second : List Entry) → list_all is_journaled first ≡ true → list_all is_journaled second ≡ true → entries_text first ≡ entries_text second → first ≡ second
 
+-- the entries that texts have, with their superseded ticks
+record IsRead (texts : List (List ℕ)) (entries : List Entry) : Type 0 where
+  text_is : entries_text entries ≡ flat_map (λ text. text) texts
+  journaled : list_all is_journaled entries ≡ true
+
 -- the entries that are read from the texts of orders are those of the orders
-read_back : Differ → (orders : List (List Entry)) (texts : List (List ℕ)) (entries : List Entry) → AreTextsOf orders texts → AreReadFrom texts entries
+read_back : Differ → (orders : List (List Entry)) (texts : List (List ℕ)) (entries : List Entry) → AreTextsOf orders texts → IsRead texts entries
     → entries ≡ entries_of orders
 read_back differ orders texts entries are read =
     differ entries (entries_of orders) read.journaled are.journaled (read.text_is ∙ ap (flat_map (λ text. text)) are.texts_are ∙ text_of_orders orders)
@@ -54,19 +65,26 @@ both_texts orders unsure kept doubt p q = record {
 }
 
 found_entries : Differ → (orders unsure : List (List Entry)) (kept doubt found : List (List ℕ)) (entries : List Entry) → AreTextsOf orders kept → AreTextsOf unsure doubt
-    → (found ≡ kept) ⊎ (found ≡ kept ++ doubt) → AreReadFrom found entries → BeginsWith (entries_of orders) entries
+    → (found ≡ kept) ⊎ (found ≡ kept ++ doubt) → IsRead found entries → Begins (entries_of orders) entries
 found_entries differ orders unsure kept doubt found entries are maybe (inl is) read =
-    ([], read_back differ orders kept entries are (subst (λ (t : List (List ℕ)). AreReadFrom t entries) is read) ∙ sym (append-nil (entries_of orders)))
+    ([], read_back differ orders kept entries are (subst (λ (t : List (List ℕ)). IsRead t entries) is read) ∙ sym (append-nil (entries_of orders)))
 found_entries differ orders unsure kept doubt found entries are maybe (inr is) read = (
   entries_of unsure,
-  read_back differ (orders ++ unsure) (kept ++ doubt) entries (both_texts orders unsure kept doubt are maybe) (subst (λ (t : List (List ℕ)). AreReadFrom t entries) is read)
+  read_back differ (orders ++ unsure) (kept ++ doubt) entries (both_texts orders unsure kept doubt are maybe) (subst (λ (t : List (List ℕ)). IsRead t entries) is read)
       ∙ flat_map-append (λ es. es) orders unsure,
 )
 
 pub survive : Differ → (orders unsure : List (List Entry)) (kept doubt found : List (List ℕ)) (entries : List Entry) → AreTextsOf orders kept → AreTextsOf unsure doubt
     → (found ≡ kept) ⊎ (found ≡ kept ++ doubt) → AreReadFrom found entries → (old new : Routing) → Resumes old entries new
-    → BeginsWith (entries_of orders) (reverse new.past)
+    → BeginsWith (entries_of orders) new.past
 survive differ orders unsure kept doubt found entries are maybe is read old new resumed =
-    let after : BeginsWith (reverse (reverse entries)) (reverse (with_outcomes resumed.outcomes (reverse entries))) = begins resumed.outcomes (reverse entries) in
-    let all : BeginsWith entries (reverse new.past) = (after.0, ap (λ (r : Routing). reverse r.past) resumed.now_is ∙ after.1 ∙ ap (λ l. l ++ after.0) (reverse-reverse entries)) in
-    longer (entries_of orders) entries (reverse new.past) (found_entries differ orders unsure kept doubt found entries are maybe is read) all
+    let outcomes = resumed.outcomes in
+    let first = found_entries differ orders unsure kept doubt found read.all are maybe is (record { text_is = read.text_is; journaled = read.journaled }) in
+    let after = begins outcomes (reverse read.all) in
+    let whole : with_outcomes outcomes (reverse read.all) ≡ reverse (entries_of orders ++ (first.0 ++ after.0)) =
+    sym (reverse-reverse (with_outcomes outcomes (reverse read.all)))
+    ∙ ap reverse (after.1 ∙ ap (λ l. l ++ after.0) (reverse-reverse read.all ∙ first.1) ∙ append_assoc (entries_of orders) first.0 after.0) in (
+      first.0 ++ after.0,
+      ap (λ (r : Routing). r.past) resumed.now_is ∙ ap (with_outcomes outcomes) read.entries_are
+          ∙ sym (thin_outcomes outcomes (reverse read.all)) ∙ ap thin whole,
+    )

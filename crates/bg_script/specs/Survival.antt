@@ -2,6 +2,7 @@
 use Rattle.std.specs.Prelude.{◌≡◌, ℕ, true, List, ◌++◌, map, reverse}
 use Rattle.std.specs.List.{flat_map, list_all}
 use Rattle.bg_history.specs.declared.entry.Entry.{Entry}
+use Rattle.bg_history.specs.Compacted.{thin}
 use Rattle.bg_journal.specs.Texts.{entries_text, is_journaled}
 use Rattle.bg_rollout.specs.Following.{Resumes}
 use Rattle.bg_rollout.specs.Routing.{Routing}
@@ -15,19 +16,23 @@ pub record AreTextsOf (orders : List (List Entry)) (texts : List (List ℕ)) : T
   pub texts_are : texts ≡ map entries_text orders
   pub journaled : list_all is_journaled (entries_of orders) ≡ true
 
--- the entries that these texts have, one text after the other
+-- the entries that these texts have, one text after the other, without superseded ticks: those that another tick directly
+-- follows
 pub record AreReadFrom (texts : List (List ℕ)) (entries : List Entry) : Type 0 where
-  pub text_is : entries_text entries ≡ flat_map (λ text. text) texts
-  pub journaled : list_all is_journaled entries ≡ true
+  pub all : List Entry
+  pub text_is : entries_text all ≡ flat_map (λ text. text) texts
+  pub journaled : list_all is_journaled all ≡ true
+  pub entries_are : reverse entries ≡ thin (reverse all)
 
--- the list begins with these entries
+-- the past begins with these entries, the oldest first, but for superseded ticks
 abbrev pub BeginsWith : List Entry → List Entry → Type 0
-BeginsWith first entries = (later : List Entry) × (entries ≡ first ++ later)
+BeginsWith first past = (later : List Entry) × (past ≡ thin (reverse (first ++ later)))
 
 -- If the texts that are kept, and the one in doubt, are those of orders, then a book that is resumed from what a start finds
--- after a crash has each order that is kept: its history begins with their entries, one order after the other.
+-- after a crash has each order that is kept: its history begins with their entries, one order after the other, but for
+-- superseded ticks.
 abbrev pub OrdersSurvive : (List (List ℕ) → Type 0) → List (List ℕ) → List (List ℕ) → Type 0
 OrdersSurvive may_find kept doubt =
     (orders unsure : List (List Entry)) → AreTextsOf orders kept → AreTextsOf unsure doubt
     → (found : List (List ℕ)) → may_find found → (entries : List Entry) → AreReadFrom found entries
-    → (old new : Routing) → Resumes old entries new → BeginsWith (entries_of orders) (reverse new.past)
+    → (old new : Routing) → Resumes old entries new → BeginsWith (entries_of orders) new.past

@@ -1,10 +1,12 @@
 //! The journal to which a desk appends its orders.
-ghost use Rattle.std.specs.Prelude.{◌≡◌, [], IfSome, string_bytes};
+ghost use Rattle.std.specs.Prelude.{◌≡◌, [], false, reverse, IfSome, string_bytes};
+ghost use Rattle.bg_book.specs.OrderEntries.{leading_outcomes};
 ghost use Rattle.bg_script.specs.Journaling.{IsTextOf, Readies, SavesOrder, SavesText, journal_state};
 
 use crate::answer::Answer;
 use crate::order_journal::OrderJournal;
 use bg_book::{Recorded, Reply};
+use bg_history::Entry;
 use bg_journal::write_entries;
 use std::alloc::Global;
 
@@ -19,6 +21,22 @@ pub struct DeskJournal<J: OrderJournal> {
 }
 
 impl<J: OrderJournal> DeskJournal<J> {
+    /// The journal of a desk whose book was resumed from these entries, the oldest first, which are those of the journal. With
+    /// no entries it is that of a book that was just opened.
+    pub fn resumed(journal: J, entries: &[Entry]) -> DeskJournal<J>
+        ensures { result ≡ record {
+          journal = journal;
+          known = leading_outcomes (reverse entries.now);
+          is_lost = false;
+        } }
+    {
+        DeskJournal {
+            journal,
+            known: last_outcomes(entries),
+            is_lost: false,
+        }
+    }
+
     /// Whether each earlier order is kept, so that the next one may be carried out. Tries to save one that is in doubt.
     pub(crate) fn is_ready(&mut self) -> bool
         ensures { Readies (journal_state J.kept J.doubt self.old) result (journal_state J.kept J.doubt self.new) }
@@ -54,6 +72,20 @@ impl<J: OrderJournal> DeskJournal<J> {
             }
         }
     }
+}
+
+/// How many outcomes stand behind the last other entry.
+fn last_outcomes(entries: &[Entry]) -> u64
+    ensures { result ≡ leading_outcomes (reverse entries.now) }
+{
+    let mut outcomes = 0u64;
+    for entry in entries {
+        match entry {
+            Entry::Outcome(_) => outcomes += 1,
+            _ => outcomes = 0,
+        }
+    }
+    outcomes
 }
 
 /// The text of the entries of an order. `None` if an allocation fails, or if an entry has no line.

@@ -5,7 +5,7 @@ use crate::order_journal::OrderJournal;
 use bg_journal::laws::texts_differ;
 
 /// Each order that a journal keeps survives a crash: whatever a start finds then, a book that is resumed from it has the
-/// entries of these orders at the begin of its history.
+/// entries of these orders at the begin of its history, but for ticks that another tick directly follows.
 pub fn orders_survive<J: OrderJournal>(journal: &J)
     ensures { OrdersSurvive (J.may_find journal.now) (J.kept journal.now) (J.doubt journal.now) }
 {

@@ -1,0 +1,3 @@
+pub mod Remembered
+pub mod ReadOrders
+pub mod SameRows

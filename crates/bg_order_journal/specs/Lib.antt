@@ -1,0 +1,3 @@
+pub mod FirstRow
+pub mod Starts
+pub mod Ties

@@ -1,0 +1,19 @@
+//! The journal of a desk, in the database of bg_journal_store.
+//!
+//! The first row of the database has the strategy and the first revision. Each further row has the entries of an order.
+#![tactic(auto)]
+
+mod file_opener;
+mod first_row;
+mod opens_journal;
+mod orders;
+mod rows;
+mod start_fault;
+mod starting;
+mod stored_orders;
+
+pub use file_opener::FileOpener;
+pub use opens_journal::OpensJournal;
+pub use start_fault::StartFault;
+pub use starting::{Resumption, begin_journal, open_journal};
+pub use stored_orders::StoredOrders;

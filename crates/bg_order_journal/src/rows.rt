@@ -1,0 +1,93 @@
+//! The rows of the database of a journal, and what a process remembers of them.
+ghost use Rattle.std.specs.Prelude.{◌≡◌, ◌∷◌, ◌++◌, [], List, ℕ, true, false, map, IfOk, OnOk, string_bytes};
+ghost use Rattle.sqlite.specs.Held.{state};
+ghost use Rattle.sqlite.specs.State.{HasCleanDisk};
+ghost use Rattle.bg_order_journal.specs.Ties.{IsTied, IsTiedAs, Ties};
+
+use crate::opens_journal::OpensJournal;
+use bg_journal_store::{Journal, JournalFault};
+use sqlite::Alter;
+use std::alloc::Global;
+
+/// Opens a journal, and reads its rows.
+pub(crate) fn open_rows<S: Alter + Drop, O: OpensJournal<S>>(
+    alloc: Global,
+    opener: &O,
+) -> Result<(Journal<S>, Vec<String>), JournalFault>
+    ensures { IfOk result (λ r. HasCleanDisk (state S.Store r.0)
+        → Ties (state S.Store r.0) (map string_bytes r.1.items) []) }
+{
+    let mut journal = opener.open()?;
+    let rows = journal.read_all(alloc)?;
+    Ok((journal, rows))
+}
+
+/// Appends the first row to a journal without rows.
+pub(crate) fn append_first<S: Alter>(
+    journal: &mut Journal<S>,
+    text: &str,
+) -> Result<(), JournalFault>
+    requires { HasCleanDisk (state S.Store journal.old) → Ties (state S.Store journal.old) [] [] }
+    ensures { HasCleanDisk (state S.Store journal.new)
+        → OnOk result (Ties (state S.Store journal.new) (text.now ∷ []) []) }
+{
+    journal.append(text)
+}
+
+/// Appends a row, if the journal is open. Returns whether the journal is known to keep it.
+pub(crate) fn append_row<S: Alter>(journal: &mut Option<Journal<S>>, text: &str) -> bool
+    ensures { (rows : List (List ℕ)) → IsTied S.Store journal.old rows []
+        → IsTiedAs S.Store journal.new rows text.now result }
+{
+    match journal {
+        Some(journal) => journal.append(text).is_ok(),
+        None => false,
+    }
+}
+
+/// Opens a journal again after a row was not known to be kept, and appends this row if the journal lacks it. Returns the
+/// journal, if it could be opened and has the rows that are remembered, and whether it is known to keep the row.
+pub(crate) fn append_again<S: Alter + Drop, O: OpensJournal<S>>(
+    alloc: Global,
+    opener: &O,
+    rows: &[String],
+    text: &str,
+) -> (Option<Journal<S>>, bool)
+    ensures { IsTiedAs S.Store result.0 (map string_bytes rows.now) text.now result.1 }
+{
+    let Ok((journal, found)) = open_rows(alloc, opener) else {
+        return (None, false);
+    };
+    if are_same(&found, rows) {
+        let mut journal = Some(journal);
+        let is_kept = append_row(&mut journal, text);
+        (journal, is_kept)
+    } else if has_one_more(&found, rows, text) {
+        (Some(journal), true)
+    } else {
+        (None, false)
+    }
+}
+
+/// Whether what was found are these rows and then one with this text.
+fn has_one_more(found: &[String], rows: &[String], text: &str) -> bool
+    ensures { result ≡ true → map string_bytes found.now ≡ map string_bytes rows.now ++ text.now ∷ [] }
+{
+    match found.split_last() {
+        Some((last, before)) => are_same(before, rows) && is_text(last, text),
+        None => false,
+    }
+}
+
+pub(crate) fn is_text(row: &String, text: &str) -> bool
+    ensures { result ≡ true → string_bytes row.now ≡ text.now }
+{
+    row.as_str() == text
+}
+
+/// Whether the rows have the same texts.
+fn are_same(found: &[String], rows: &[String]) -> bool
+    ensures { result ≡ true → map string_bytes found.now ≡ map string_bytes rows.now }
+{
+    found == rows
+}

@@ -1,0 +1,134 @@
+//! The start of a switch with a journal.
+ghost use Rattle.std.specs.Prelude.{◌≡◌, ◌∷◌, [], false, map, reverse, IfOk, IfSome, OnOk, string_bytes};
+ghost use Rattle.bg_book.specs.OrderEntries.{leading_outcomes};
+ghost use Rattle.bg_order_journal.specs.FirstRow.{first_row as first_row_of};
+ghost use Rattle.bg_order_journal.specs.Starts.{AreOf};
+ghost use Rattle.bg_order_journal.specs.Ties.{Ties};
+ghost use Rattle.sqlite.specs.Held.{state};
+ghost use Rattle.sqlite.specs.State.{HasCleanDisk};
+ghost use Rattle.bg_strategy_text.specs.Texts.{strategy_text};
+
+use crate::first_row::{first_revision, first_row, settings_of};
+use crate::opens_journal::OpensJournal;
+use crate::orders::read_orders;
+use crate::rows::{append_first, is_text, open_rows};
+use crate::start_fault::StartFault;
+use crate::stored_orders::StoredOrders;
+use bg_history::Entry;
+use bg_journal_store::Journal;
+use bg_script::{DeskJournal, FirstRevision};
+use bg_strategy::Strategy;
+use sqlite::Alter;
+use std::alloc::Global;
+
+/// A journal from which a book is resumed.
+pub struct Resumption<S: Alter, O: OpensJournal<S>> {
+    pub orders: StoredOrders<S, O>,
+    /// The first revision of the journal, with which its book was opened.
+    pub first: FirstRevision,
+    /// The entries of its orders, the oldest first, without superseded ticks: those that another tick directly follows.
+    pub entries: Vec<Entry>,
+    /// The number of orders.
+    pub count: usize,
+}
+
+impl<S: Alter + Drop, O: OpensJournal<S>> Drop for Resumption<S, O> {
+    /// Drops the fields by one call, so that the proofs of what owns a value are short (CONTRIBUTING.md, "What a check costs").
+    fn drop(self) {
+        let Resumption {
+            orders: _,
+            first: _,
+            entries: _,
+            count: _,
+        } = self;
+    }
+}
+
+impl<S: Alter + Drop, O: OpensJournal<S>> Resumption<S, O> {
+    /// The journal of a desk whose book was resumed.
+    pub fn into_journal(self) -> DeskJournal<StoredOrders<S, O>>
+        ensures { result ≡ record {
+          journal = self.orders;
+          known = leading_outcomes (reverse self.entries.items);
+          is_lost = false;
+        } }
+    {
+        let Resumption {
+            orders,
+            first: _,
+            entries,
+            count: _,
+        } = self;
+        DeskJournal::resumed(orders, &entries)
+    }
+}
+
+/// Opens a journal, and reads what a book is resumed from. `None` if the journal has no rows: then [`begin_journal`] begins it
+/// when a book is opened. A journal of another strategy is refused, and one whose rows are not those of a journal.
+pub fn open_journal<S: Alter + Drop, O: OpensJournal<S>>(
+    alloc: Global,
+    opener: O,
+    strategy: &Strategy,
+) -> Result<Option<Resumption<S, O>>, StartFault>
+    ensures { IfOk result (λ found. IfSome found (λ r.
+        AreOf (strategy_text strategy.now) r.orders.1.0 r.orders.1.1 r.first r.entries.items)) }
+{
+    let settings = settings_of(alloc, strategy)?;
+    let (journal, rows) = open_rows(alloc, &opener)?;
+    let Some((row, orders)) = rows.as_slice().split_first() else {
+        return Ok(None);
+    };
+    let first = first_revision(alloc, settings.as_str(), row.as_str())?;
+    let entries = read_orders(alloc, orders)?;
+    let count = orders.len();
+    Ok(Some(Resumption {
+        orders: StoredOrders::opened(alloc, opener, journal, rows),
+        first,
+        entries,
+        count,
+    }))
+}
+
+/// Begins a journal with the strategy and the first revision. The error is `NotNew` if the journal has rows, other than this
+/// first one, which an earlier try may have left.
+pub fn begin_journal<S: Alter + Drop, O: OpensJournal<S>>(
+    alloc: Global,
+    opener: O,
+    strategy: &Strategy,
+    first: &FirstRevision,
+) -> Result<StoredOrders<S, O>, StartFault>
+    ensures rows { IfOk result (λ orders. orders.1.0
+        ≡ first_row_of (strategy_text strategy.now) first.now.name first.now.ports ∷ []) }
+    ensures settled { IfOk result (λ orders. orders.1.1 ≡ []) }
+{
+    let settings = settings_of(alloc, strategy)?;
+    let Some(row) = first_row(alloc, settings.as_str(), first) else {
+        return Err(StartFault::OutOfMemory);
+    };
+    let (mut journal, rows) = open_rows(alloc, &opener)?;
+    begin_rows(&mut journal, &rows, row.as_str())?;
+    let mut only = Vec::new(alloc);
+    only.push(row)?;
+    Ok(StoredOrders::opened(alloc, opener, journal, only))
+}
+
+/// Appends the first row to a journal with these rows, unless it is the only one already.
+fn begin_rows<S: Alter>(
+    journal: &mut Journal<S>,
+    rows: &[String],
+    row: &str,
+) -> Result<(), StartFault>
+    requires { HasCleanDisk (state S.Store journal.old)
+        → Ties (state S.Store journal.old) (map string_bytes rows.now) [] }
+    ensures { HasCleanDisk (state S.Store journal.new)
+        → OnOk result (Ties (state S.Store journal.new) (row.now ∷ []) []) }
+{
+    match rows {
+        [] => {
+            append_first(journal, row)?;
+            Ok(())
+        }
+        [only] if is_text(only, row) => Ok(()),
+        _ => Err(StartFault::NotNew),
+    }
+}
