@@ -1,5 +1,5 @@
 -- A connection after bytes came.
-use Rattle.std.proofs.Common.{◌≡◌, ◌∙◌, ℕ, Bool, false, List, ◌++◌, ap, subst}
+use Rattle.std.proofs.Common.{◌≡◌, ◌∙◌, ℕ, Bool, false, List, ◌++◌, None, ap, subst}
 use Rattle.bg_http.specs.declared.request.Request.{Request}
 use Rattle.bg_http_read.specs.RequestStates.{IsReadThen, LacksRequest}
 use Rattle.bg_http_read.specs.RequestStreams.{StreamState}
@@ -11,7 +11,8 @@ use Rattle.bg_client_side.specs.declared.stage.Stage.TheVariants as stage
 
 -- a connection of these parts
 abbrev pub client_of : StreamState → Stage → ClientFacts → Client
-client_of stream at facts = record { since = stream.since; asked = stream.asked; stage = at; facts = facts }
+client_of stream at facts =
+    record { since = stream.since; asked = stream.asked; refused = stream.refused; stage = at; facts = facts }
 
 pub more_came : (stream grown : StreamState) (at : Stage) (facts : ClientFacts) (self new : Client) (bytes : List ℕ)
     → client_of stream at facts ≡ self → grown ≡ record stream { since = stream.since ++ bytes }
@@ -23,14 +24,15 @@ more_came stream grown at facts self new bytes is grows made lacks =
 
 pub whole_came : (stream left : StreamState) (at : Stage) (facts : ClientFacts) (self : Client) (request : Request)
     (bytes : List ℕ) (stays : Bool) → client_of stream at facts ≡ self → stays ≡ asks_to_keep request
-    → left.asked ≡ false → IsReadThen stream.asked request (stream.since ++ bytes) left.since
+    → left.asked ≡ false → left.refused ≡ None → IsReadThen stream.asked request (stream.since ++ bytes) left.since
     → (client_of left (stage.Waiting request) (record facts { is_to_stay = stays }) ≡ received request left.since self)
     × IsReadThen self.asked request (self.since ++ bytes) left.since
-whole_came stream left at facts self request bytes stays is asks none reads =
+whole_came stream left at facts self request bytes stays is asks none unrefused reads =
     let waits = stage.Waiting request in
     let made : client_of left waits (record facts { is_to_stay = stays })
     ≡ received request left.since (client_of stream at facts) =
     ap (λ asked. client_of (record left { asked = asked }) waits (record facts { is_to_stay = stays })) none
-    ∙ ap (λ stay. client_of (record left { asked = false }) waits (record facts { is_to_stay = stay })) asks in
+    ∙ ap (λ refused. client_of (record left { asked = false; refused = refused }) waits (record facts { is_to_stay = stays })) unrefused
+    ∙ ap (λ stay. client_of (record left { asked = false; refused = None }) waits (record facts { is_to_stay = stay })) asks in
     subst (λ (c : Client). (client_of left waits (record facts { is_to_stay = stays }) ≡ received request left.since c)
     × IsReadThen c.asked request (c.since ++ bytes) left.since) is (made, reads)

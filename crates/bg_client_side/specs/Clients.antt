@@ -3,7 +3,9 @@ use Rattle.std.specs.Prelude.{◌≡◌, ℕ, ◌==◌, Bool, true, false, ◌&&
 use Rattle.bg_http.specs.Persistences.{keeps}
 use Rattle.bg_http.specs.declared.persistence.Persistence.{Persistence}
 use Rattle.bg_http.specs.declared.request.Request.{Request}
+use Rattle.bg_http_read.specs.RefusedHeads.{TellsHead}
 use Rattle.bg_http_read.specs.RequestStates.{IsReadThen, IsRefusedAsked, LacksRequest, OwesContinue, is_of_stream}
+use Rattle.bg_http_read.specs.declared.refused_head.RefusedHead.{RefusedHead}
 use Rattle.bg_port.specs.Outgoing.{Outgoing, with_written}
 use Rattle.bg_client_side.specs.Facts.{asks_to_keep, keeps_after, later, next_facts}
 use Rattle.bg_client_side.specs.Stages.{as_answering, awaits_answer, has_timeout, is_idle, owes_continue, reads, takes_bytes, was_whole}
@@ -16,11 +18,12 @@ use Rattle.bg_client_side.specs.declared.stage.Lingering.{Lingering}
 use Rattle.bg_client_side.specs.declared.stage.Stage.{Stage}
 use Rattle.bg_client_side.specs.declared.stage.Stage.TheVariants as stage
 
--- all bytes that came since the end of the last request, whether `100 Continue` was owed since then, the stage, and what
--- else is known of the connection
+-- all bytes that came since the end of the last request, whether `100 Continue` was owed since then, the head of what came
+-- and is no request, the stage, and what else is known of the connection
 pub record Client : Type 0 where
   pub since : List ℕ
   pub asked : Bool
+  pub refused : Option RefusedHead
   pub stage : Stage
   pub facts : ClientFacts
 
@@ -41,6 +44,7 @@ abbrev pub accepted : ClientSettings → ℕ → Client
 accepted settings now = record {
   since = [];
   asked = false;
+  refused = None;
   stage = stage.Reading;
   facts = record {
     settings = settings;
@@ -80,6 +84,7 @@ abbrev pub received : Request → List ℕ → Client → Client
 received request behind c = record c {
   since = behind;
   asked = false;
+  refused = None;
   stage = stage.Waiting request;
   facts = record c.facts { is_to_stay = asks_to_keep request };
 }
@@ -95,7 +100,7 @@ ReadsOn c bytes fed.Whole new =
     × IsReadThen c.asked request (c.since ++ bytes) new.since
 ReadsOn c bytes (fed.Refused named) new =
     (new.stage ≡ stage.Refused named) × (new.facts ≡ c.facts) × IsRefusedAsked c.asked named (c.since ++ bytes)
-    × IsFalse (is_of_stream named)
+    × IsFalse (is_of_stream named) × TellsHead (c.since ++ bytes) named new.refused
 
 -- bytes came, and the stage reads a request, or does not
 abbrev pub FeedsIf : Bool → Client → List ℕ → ℕ → Fed → Client → Type 0

@@ -1,12 +1,14 @@
 //! A connection of a client that is kept over several requests.
 ghost use Rattle.std.specs.Prelude.{◌≡◌, ◌&&◌, not};
+ghost use Rattle.std.specs.Option.{option_copied, option_map};
 ghost use Rattle.bg_http.specs.Persistences.{keeps};
+ghost use Rattle.bg_http_read.specs.RefusedHeads.{is_sound_head};
 ghost use Rattle.bg_client_side.specs.Clients.{accepted, stays_after};
 ghost use Rattle.bg_client_side.specs.Stages.{has_left, is_idle, is_inside, owes_continue, takes_bytes, to_write, was_whole};
 
 use crate::facts::{ClientFacts, ClientSettings, later};
 use crate::stage::Stage;
-use bg_http::{Persistence, RefusalBody};
+use bg_http::{Persistence, RefusalBody, RequestHead};
 use bg_http_read::RequestStream;
 use std::alloc::Global;
 use std::marker::Model;
@@ -40,6 +42,7 @@ impl Model for ClientConnection {
     ghost view = { λ c. record {
       since = c.stream.since;
       asked = c.stream.asked;
+      refused = c.stream.refused;
       stage = c.stage;
       facts = c.facts;
     } };
@@ -135,6 +138,20 @@ impl ClientConnection {
             Stage::Lingering(lingering) => lingering.was_whole,
             _ => false,
         }
+    }
+
+    /// The head of what came and is no request, if it was parsed before the fault.
+    pub fn refused_head(&self) -> Option<&RequestHead>
+        ensures { option_copied result ≡ option_map (λ refused. refused.head) self.now.refused }
+    {
+        self.stream.refused_head()
+    }
+
+    /// Whether that head passes all rules of `judge_request`. So the fault is not in the head. False if there is none.
+    pub fn is_refused_head_sound(&self) -> bool
+        ensures { result ≡ is_sound_head self.now.refused }
+    {
+        self.stream.is_refused_head_sound()
     }
 
     /// What a refusal of a request has as its body.

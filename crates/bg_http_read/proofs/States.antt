@@ -32,9 +32,11 @@ request_as_it_was state =
     same_request (state.seen ++ []) state.seen state.asked state.asked state.is_open state.is_open
     state.refused state.refused (append-nil state.seen) refl refl refl
 
-abbrev pub stream_state : List ℕ → Bool → Bool → StreamState
-stream_state since asked is_open = record { since = since; asked = asked; is_open = is_open }
+abbrev pub stream_state : List ℕ → Bool → Bool → Option RefusedHead → StreamState
+stream_state since asked is_open refused =
+    record { since = since; asked = asked; is_open = is_open; refused = refused }
 
-pub same_stream : (since all : List ℕ) (asked owed is_open was : Bool) → since ≡ all → asked ≡ owed
-    → is_open ≡ was → stream_state since asked is_open ≡ stream_state all owed was
-same_stream since all asked owed is_open was h k e = cc
+pub same_stream : (since all : List ℕ) (asked owed is_open was : Bool) (head refused : Option RefusedHead)
+    → since ≡ all → asked ≡ owed → is_open ≡ was → head ≡ refused
+    → stream_state since asked is_open head ≡ stream_state all owed was refused
+same_stream since all asked owed is_open was head refused h k e r = cc

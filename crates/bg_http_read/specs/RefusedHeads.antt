@@ -1,5 +1,5 @@
 -- The head of a request that was refused.
-use Rattle.std.specs.Prelude.{◌≡◌, ℕ, List, Option, Some, None, is_ok}
+use Rattle.std.specs.Prelude.{◌≡◌, ℕ, Bool, false, List, Option, Some, None, is_ok}
 use Rattle.bg_http.specs.RequestRules.{request_framing}
 use Rattle.bg_http.specs.declared.request_fault.RequestFault.{RequestFault}
 use Rattle.bg_http_read.specs.HeadFaults.{RequestHeadFails}
@@ -17,3 +17,8 @@ pub record BeginsRefused (input : List ℕ) (refused : RefusedHead) : Type 0 whe
 abbrev pub TellsHead : List ℕ → RequestFault → Option RefusedHead → Type 0
 TellsHead input named (Some refused) = BeginsRefused input refused
 TellsHead input named None = RequestHeadFails input named
+
+-- a head is known, and passes all rules
+abbrev pub is_sound_head : Option RefusedHead → Bool
+is_sound_head (Some refused) = refused.is_sound
+is_sound_head None = false

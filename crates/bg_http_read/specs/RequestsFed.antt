@@ -88,7 +88,7 @@ known_head (part.Head end) = None
 known_head (part.Body request) = Some (record { head = request.head; is_sound = true })
 known_head (part.Done told) = told
 
--- the head of a refused request is told once the parser is closed
+-- the head of a refused request is known once nothing more is fed
 abbrev pub head_after : Bool → RequestStage → Option RefusedHead
 head_after true at = None
 head_after false at = known_head at

@@ -1,9 +1,10 @@
 //! The progress of reading a request, with the bytes that wait.
 ghost use Rattle.std.specs.Prelude.{◌≡◌, ◌++◌, [], Bool, false, List, ℕ, IfErr, IfOk, IsFalse, None};
 ghost use Rattle.std.specs.Io.KnownBytes.{Keeps};
+ghost use Rattle.std.specs.Option.{option_copied, option_map};
 ghost use Rattle.bg_http.specs.Codings.{is_empty};
 ghost use Rattle.bg_http.specs.declared.request_fault.RequestFault.TheVariants as request_fault;
-ghost use Rattle.bg_http_read.specs.RefusedHeads.{TellsHead};
+ghost use Rattle.bg_http_read.specs.RefusedHeads.{TellsHead, is_sound_head};
 ghost use Rattle.bg_http_read.specs.RequestStates.{IfWhole, is_of_stream};
 ghost use Rattle.bg_http_read.specs.RequestsFed.{EndsTo, FedTo, IsFed, IsFedStage, IsOpenStage};
 ghost use Rattle.bg_http_read.specs.RequestsFed.{IsSeen, IsShort, known_head, was_asked};
@@ -15,7 +16,7 @@ use crate::refused_head::RefusedHead;
 use crate::request_progress::{RequestAdvance, RequestProgress};
 use crate::request_step::RequestStep;
 use crate::seen::Seen;
-use bg_http::{Duplex, Request, RequestFault};
+use bg_http::{Duplex, Request, RequestFault, RequestHead};
 use std::alloc::Global;
 
 /// The progress of reading a request, with the bytes that wait. Its contracts speak of all bytes
@@ -181,6 +182,20 @@ impl RequestFeed {
             RequestStep::Whole(request) => Ok(request),
             RequestStep::More | RequestStep::Continue => Err(RequestFault::Closed),
         }
+    }
+
+    /// The head, if it is known.
+    pub(crate) fn refused_head(&self) -> Option<&RequestHead>
+        ensures { option_copied result ≡ option_map (λ refused. refused.head) (known_head self.now.progress.stage) }
+    {
+        self.progress.refused_head()
+    }
+
+    /// Whether the head is known, and passes all rules.
+    pub(crate) fn is_refused_head_sound(&self) -> bool
+        ensures { result ≡ is_sound_head (known_head self.now.progress.stage) }
+    {
+        self.progress.is_refused_head_sound()
     }
 
     /// The head, if it is known.

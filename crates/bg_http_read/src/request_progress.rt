@@ -2,9 +2,10 @@
 ghost use Rattle.std.specs.Prelude.{◌≡◌, ◌≤◌, [], false, true, List, ℕ, IfErr, IfOk, IsFalse, drop, length};
 ghost use Rattle.std.specs.Prelude.{None, Some};
 ghost use Rattle.std.specs.Io.KnownBytes.{Keeps};
+ghost use Rattle.std.specs.Option.{option_copied, option_map};
 ghost use Rattle.bg_http_read.specs.Bodies.{KeepsLimit};
 ghost use Rattle.bg_http_read.specs.BodyFramings.{FedBody};
-ghost use Rattle.bg_http_read.specs.RefusedHeads.{TellsHead};
+ghost use Rattle.bg_http_read.specs.RefusedHeads.{TellsHead, is_sound_head};
 ghost use Rattle.bg_http_read.specs.RequestStates.{IfWhole, is_of_stream};
 ghost use Rattle.bg_http_read.specs.RequestsFed.{Advances, AwaitsHead, IsAt, IsFedStage, requests};
 ghost use Rattle.bg_http_read.specs.RequestsFed.{IsOpenStage, LacksHead, is_head, known_head, stage_seen, was_asked};
@@ -24,7 +25,7 @@ use crate::refused_head::RefusedHead;
 use crate::request_body::{RequestBody, body_of_request};
 use crate::request_step::RequestStep;
 use crate::seen::Seen;
-use bg_http::{Duplex, RequestFault, judge_request};
+use bg_http::{Duplex, RequestFault, RequestHead, judge_request};
 use std::alloc::Global;
 use std::mem;
 
@@ -146,6 +147,28 @@ impl RequestProgress {
             RequestStage::Head(_) => self.advance_head(bytes),
             RequestStage::Body(part) => self.advance_body(part, bytes, 0),
             RequestStage::Done(_) => Err(RequestFault::Bad),
+        }
+    }
+
+    /// The head, if it is known.
+    pub(crate) fn refused_head(&self) -> Option<&RequestHead>
+        ensures { option_copied result ≡ option_map (λ refused. refused.head) (known_head self.now.stage) }
+    {
+        match &self.stage {
+            RequestStage::Head(_) | RequestStage::Done(None) => None,
+            RequestStage::Body(part) => Some(&part.head),
+            RequestStage::Done(Some(refused)) => Some(&refused.head),
+        }
+    }
+
+    /// Whether the head is known, and passes all rules.
+    pub(crate) fn is_refused_head_sound(&self) -> bool
+        ensures { result ≡ is_sound_head (known_head self.now.stage) }
+    {
+        match &self.stage {
+            RequestStage::Head(_) | RequestStage::Done(None) => false,
+            RequestStage::Body(_) => true,
+            RequestStage::Done(Some(refused)) => refused.is_sound,
         }
     }
 

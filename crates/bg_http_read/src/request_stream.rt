@@ -1,7 +1,9 @@
 //! The requests of a connection, one after the other.
 ghost use Rattle.std.specs.Prelude.{◌≡◌, ◌++◌, [], Bool, false, true, is_ok, IfErr, IfOk, IsFalse, IsTrue};
 ghost use Rattle.std.specs.Prelude.{IfNone, IfSome, None, Ok};
+ghost use Rattle.std.specs.Option.{option_copied, option_map};
 ghost use Rattle.bg_http.specs.declared.request_fault.RequestFault.TheVariants as request_fault;
+ghost use Rattle.bg_http_read.specs.RefusedHeads.{TellsHead, is_sound_head};
 ghost use Rattle.bg_http_read.specs.RequestStates.{FailsAsked, IfWhole, IsReadThen, IsRefusedAsked};
 ghost use Rattle.bg_http_read.specs.RequestStates.{LacksRequest, OnContinue, OnMore, OwesContinue};
 ghost use Rattle.bg_http_read.specs.RequestStates.{ReadsAsked, is_of_stream};
@@ -9,7 +11,7 @@ ghost use Rattle.bg_http_read.specs.RequestStates.{ReadsAsked, is_of_stream};
 use crate::request_feed::RequestFeed;
 use crate::request_step::RequestStep;
 use crate::seen::Seen;
-use bg_http::{Request, RequestFault};
+use bg_http::{Request, RequestFault, RequestHead};
 use std::alloc::Global;
 use std::marker::Model;
 
@@ -36,7 +38,7 @@ impl Drop for RequestStream {
 
 impl Model for RequestStream {
     ghost use Rattle.std.specs.Prelude.{IsTrue};
-    ghost use Rattle.bg_http_read.specs.RequestsFed.{IsFed, was_asked};
+    ghost use Rattle.bg_http_read.specs.RequestsFed.{IsFed, head_after, was_asked};
     ghost use Rattle.bg_http_read.specs.RequestStreams.{StreamState};
 
     ghost Value = { StreamState };
@@ -45,6 +47,7 @@ impl Model for RequestStream {
       since = stream.seen.bytes;
       asked = was_asked stream.feed.progress.stage;
       is_open = stream.is_open;
+      refused = head_after stream.is_open stream.feed.progress.stage;
     } };
 
     ghost invariant = { λ stream. IsTrue stream.is_open → IsFed stream.feed stream.seen.bytes };
@@ -53,7 +56,7 @@ impl Model for RequestStream {
 impl RequestStream {
     /// A stream before the first byte of its connection.
     pub fn new(alloc: Global) -> RequestStream
-        ensures { result ≡ record { since = []; asked = false; is_open = true } }
+        ensures { result ≡ record { since = []; asked = false; is_open = true; refused = None } }
     {
         RequestStream {
             feed: RequestFeed::new(alloc),
@@ -77,6 +80,7 @@ impl RequestStream {
         ensures whole { IfOk result (λ step. IfWhole step (λ request.
             IsReadThen self.old.asked request (self.old.since ++ bytes.now) self.new.since)) }
         ensures next { IfOk result (λ step. IfWhole step (λ request. self.new.asked ≡ false)) }
+        ensures no_head { IfOk result (λ step. IfWhole step (λ request. self.new.refused ≡ None)) }
         ensures owed { IfOk result (λ step. OnContinue step ((self.old.asked ≡ false)
             × (self.new ≡ record self.old { since = self.old.since ++ bytes.now; asked = true })
             × OwesContinue (self.old.since ++ bytes.now))) }
@@ -87,6 +91,8 @@ impl RequestStream {
             IsRefusedAsked self.old.asked fault (self.old.since ++ bytes.now)) }
         ensures fault { IfErr result (λ fault. IsFalse (is_of_stream fault)) }
         ensures goes_on { self.new.is_open ≡ is_ok result }
+        ensures head { IfErr result (λ fault.
+            TellsHead (self.old.since ++ bytes.now) fault self.new.refused) }
     {
         self.seen.add(bytes);
         match self.feed.feed(bytes, true) {
@@ -103,6 +109,25 @@ impl RequestStream {
                 Err(fault)
             }
         }
+    }
+
+    /// After `feed` gave a fault: the head of the request. `None` if no head was parsed, because it is malformed, too
+    /// large or cut off, or because an allocation failed; and `None` before a fault.
+    pub fn refused_head(&self) -> Option<&RequestHead>
+        ensures { option_copied result ≡ option_map (λ refused. refused.head) self.now.refused }
+    {
+        if self.is_open {
+            return None;
+        }
+        self.feed.refused_head()
+    }
+
+    /// Whether the head of the request that had a fault passes all rules of `judge_request`. So the fault is not in the
+    /// head. False if [`Self::refused_head`] gives none.
+    pub fn is_refused_head_sound(&self) -> bool
+        ensures { result ≡ is_sound_head self.now.refused }
+    {
+        !self.is_open && self.feed.is_refused_head_sound()
     }
 
     /// The end of the connection: `None` if no byte came since the end of the last request, so that

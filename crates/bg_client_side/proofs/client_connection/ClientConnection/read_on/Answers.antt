@@ -15,5 +15,5 @@ returns-in-Ok-Whole c =
     let request = c.in-Ok-Whole.request in
     let stays = c.asks_to_keep-self-inside.result in
     let came = whole_came inside.stream c.feed.new.self inside.stage inside.facts c.args.self.now request c.args.bytes.now stays
-    c.self.view_is c.asks_to_keep-self-inside.ensures step.next step.whole in
+    c.self.view_is c.asks_to_keep-self-inside.ensures step.next step.no_head step.whole in
     (request, came.0, came.1)
