@@ -31,7 +31,7 @@ set -eu
 cd "$(dirname -- "$0")/.."
 # Builds the programs where they are stale.
 bin/bg_switch check < examples/direct.json > /dev/null
-scripts/build_if_stale.sh bg_tests_event_loop 0 close empty slot 9 9
+scripts/build_if_stale.sh bg_tests_event_loop 0 close empty slot /dev/null 9 9
 work=$(mktemp -d)
 trap 'rm -rf "$work"' EXIT
 # The longest begin first. Two at a time for each processor are as fast as all at once, since the longest is as long, and each

@@ -1,13 +1,16 @@
 """The event loop of bg_event_loop on loopback: `bg_tests_event_loop` has a book of four seats, and of
 one endpoint or two. Connections of both sides are kept for further requests, or carry one request
-each. A request is dialled at the endpoint of its slot, or also at the other one.
+each. A request is dialled at the endpoint of its slot, or also at the other one. The access log has
+a line for each request.
 """
 import contextlib
 import os
+import pathlib
 import re
 import signal
 import socket
 import subprocess
+import tempfile
 import threading
 import time
 from collections.abc import Iterator, Sequence
@@ -36,6 +39,9 @@ from support.ports import (
     unread_at,
 )
 from support.switch import LISTENING
+
+# isort: split; `support` tells where the tools' package is
+from bg_switch_tools.switch.access_log import LogEntry, read_lines
 
 # Another program can be tried by hand in its place.
 PROGRAM = os.environ.get(
@@ -69,6 +75,7 @@ READ = 16_384  # bytes that the loop reads at once
 RESETS, TO_THE_END, SENDS_MUCH = b"/resets", b"/to-the-end", b"/sends-much"
 CLOSES_AFTERWARDS, DIES, HOLDS = b"/closes-afterwards", b"/dies", b"/holds"
 SENDS_MORE, SENDS_MORE_UNREAD, SENDS_LATER = b"/sends-more", b"/sends-more-unread", b"/sends-later"
+HTTP = b"HTTP/1.1 200 OK\r\n"
 UNASKED = response(b"nobody asked for this")
 # A response that one read of the loop takes whole, without the bytes behind it. Its length has five
 # digits.
@@ -173,16 +180,17 @@ class EventLoop:
         other: int | None = None,
         dials: str = REDISPATCH,
         later: int = NOBODY,
+        log: str = os.devnull,
     ) -> None:
         """The book has the endpoint here, and one at the port `other` if it is not None. The first
         request is that of the other endpoint, and then they take turns. `later` is the port of the
-        revision that may take the place of the first one.
+        revision that may take the place of the first one; `log` is the file of the access log.
         """
         self.endpoint = KeptEndpoint()
         self.port = free_port()
         ports = [self.endpoint.port] + ([] if other is None else [other or self.port])
         self.process = subprocess.Popen(
-            [PROGRAM, str(self.port), mode, refusals, dials, str(later), *map(str, ports)],
+            [PROGRAM, str(self.port), mode, refusals, dials, log, str(later), *map(str, ports)],
             stdin=subprocess.PIPE,
             stdout=subprocess.PIPE,
             text=True,
@@ -636,6 +644,73 @@ def entered_requests() -> None:
         check(f"{mode}: three requests entered", entered, 3)
 
 
+def told(entry: LogEntry) -> tuple[object, ...]:
+    return entry.status, entry.end, entry.reason, entry.method, entry.target
+
+
+def logged() -> None:
+    """The access log has a line for each request of a connection, and counts the connections that
+    have sent nothing."""
+    for mode in MODES:
+        with tempfile.TemporaryDirectory() as folder:
+            path = pathlib.Path(folder) / "log"
+            event_loop = EventLoop(mode, log=str(path))
+            with KeptClient(event_loop.port) as client:
+                client.send(request(b"/one") + last(request(b"/two")))
+                check(f"{mode}: answers that are logged", client.rest().startswith(HTTP), True)
+            timed(event_loop.port, [b"GET /no-host HTTP/1.1\r\n\r\n"])
+            timed(event_loop.port, [b"BAD\r\n\r\n"])
+            event_loop.once(request(RESETS))
+            with connect(event_loop.port) as cut:
+                cut.sendall(b"GET /cut")
+            with connect(event_loop.port):
+                pass
+            gone = connect(event_loop.port)
+            gone.sendall(request(HOLDS))
+            check(f"{mode}: a request is held", event_loop.endpoint.held.holds(1), True)
+            reset(gone)
+            check(
+                f"{mode}: all have left", comes(lambda: not connections_at(event_loop.port)), True
+            )
+            event_loop.begin_shutdown()
+            event_loop.check_end(f"{mode}: the end of a logged run")
+            batch = read_lines(path.read_bytes().splitlines())
+            check(f"{mode}: lines that can't be read", (batch.unreadable, batch.lost), (0, 0))
+            two = [] if mode == CLOSE else [(200, "answered", None, "GET", "/two")]
+            check(
+                f"{mode}: the lines of the log",
+                sorted(map(told, batch.entries), key=repr),
+                sorted(
+                    [
+                        (200, "answered", None, "GET", "/one"),
+                        *two,
+                        (400, "refused", "head", "GET", "/no-host"),
+                        (400, "refused", "head", None, None),
+                        (502, "refused", "connect_failed", "GET", RESETS.decode()),
+                        (None, "closed", None, None, None),
+                        (499, "refused", "client_gone", "GET", HOLDS.decode()),
+                    ],
+                    key=repr,
+                ),
+            )
+            by_target = {entry.target: entry for entry in batch.entries}
+            one, held = by_target["/one"], by_target[HOLDS.decode()]
+            check(
+                f"{mode}: the numbers of the requests that entered, their revision and port",
+                [(e.request, e.revision, e.port) for e in (one, held)],
+                [
+                    (1, 1, event_loop.endpoint.port),
+                    (3 if mode == CLOSE else 4, 1, event_loop.endpoint.port),
+                ],
+            )
+            check(f"{mode}: the bytes of an answer", one.response_bytes, len(client_answer(mode)))
+
+
+def client_answer(mode: str) -> bytes:
+    """What the client of the request /one gets."""
+    return answer(echo(b"/one")) if mode == CLOSE else response(echo(b"/one"))
+
+
 def pages() -> None:
     """With pages, a refusal has the page that its request accepts; a HEAD gets its head alone."""
     with running(CLOSE, PAGES) as event_loop:
@@ -821,7 +896,7 @@ def scaled_down() -> None:
 
 def wrong_words() -> None:
     """Words that are wrong end the program with status 1."""
-    good = ["0", KEEP, EMPTY, SLOT, "9", "9"]
+    good = ["0", KEEP, EMPTY, SLOT, os.devnull, "9", "9"]
     none: list[str] = []
     for words in (
         none,
@@ -831,7 +906,7 @@ def wrong_words() -> None:
         ["0", "sometimes", *good[2:]],
         ["0", KEEP, "some", *good[3:]],
         ["0", KEEP, EMPTY, "elsewhere", *good[4:]],
-        ["0", KEEP, EMPTY, SLOT, "-1", "9"],
+        ["0", KEEP, EMPTY, SLOT, os.devnull, "-1", "9"],
         [*good, "65536"],
     ):
         run = processes.run_to_end([PROGRAM, *words])
@@ -856,6 +931,7 @@ if __name__ == "__main__":
             resets_inside,
             many_clients,
             entered_requests,
+            logged,
             pages,
             dialled_elsewhere,
             late_dials,

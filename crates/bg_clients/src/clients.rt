@@ -121,8 +121,8 @@ impl<R: Clock + Wait> Clients<'_, R> {
         ConnectionFacts {
             time: log.time(self.rt),
             service: client.sender,
-            method: line.and_then(|line| text_of(alloc, line.method)),
-            target: line.and_then(|line| text_of(alloc, line.target)),
+            method: line.and_then(|line| text_of(alloc, line.method.get())),
+            target: line.and_then(|line| text_of(alloc, line.target.get())),
             is_head_sound: match connection.refused_head() {
                 Some(refused) => refused.is_sound,
                 None => false,

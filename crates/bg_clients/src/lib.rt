@@ -4,6 +4,8 @@
 mod clients;
 mod entry;
 mod request_text;
+mod service_log;
 
 pub use clients::{Client, Clients};
 pub use entry::{ConnectionFacts, entry_of};
+pub use service_log::ServiceLog;

@@ -1,6 +1,5 @@
 //! Parts of a request as the access log shows them.
 
-use bg_http::Bytes;
 use std::alloc::Global;
 use std::borrow::CowStr;
 use std::str;
@@ -10,8 +9,7 @@ const MOST_BYTES: usize = 1024;
 
 /// The first 1,024 bytes as text. Those that are not UTF-8 are U+FFFD; the text is copied only then. `None` if an
 /// allocation fails.
-pub fn text_of(alloc: Global, bytes: &Bytes) -> Option<CowStr<'_>> {
-    let bytes = bytes.get();
+pub fn text_of(alloc: Global, bytes: &[u8]) -> Option<CowStr<'_>> {
     let shown = &bytes[..bytes.len().min(MOST_BYTES)];
     match str::from_utf8(shown) {
         Ok(text) => Some(CowStr::Borrowed(text)),

@@ -1,5 +1,6 @@
 pub mod LivePorts
 pub mod Moments
+pub mod Outcomes
 pub mod Readinesses
 pub mod Seats
 pub mod Sources

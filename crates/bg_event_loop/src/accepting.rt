@@ -5,13 +5,12 @@ use crate::endpoint_ports::EndpointPorts;
 use crate::event_loop::EventLoop;
 use crate::events::Source;
 use crate::moments::has_come;
-use crate::sockets::{Accepted, accept};
+use crate::request_log::RequestLog;
 use bg_both_sides::BothSides;
-use bg_sockets::{EpollSet, Watched};
+use bg_loop_port::Accepted;
+use bg_sockets::Watched;
 use libc::net::EPOLLIN;
-use std::io;
-use std::net::{TcpListener, TcpStream};
-use std::os::fd::AsRawFd;
+use std::net::TcpStream;
 
 /// An event wakes at least one of the waiting sets, and not always all (`EPOLLEXCLUSIVE` of epoll_ctl(2)).
 const EXCLUSIVE: u32 = 1 << 28;
@@ -19,30 +18,69 @@ const EXCLUSIVE: u32 = 1 << 28;
 /// The number of clients that are accepted in a row.
 const ACCEPTS_A_TURN: u32 = 2;
 
+/// The maximum number of clients of the backlog that a loop accepts at a shutdown.
+const MOST_OF_BACKLOG: u32 = 2_048;
+
 /// The time, in milliseconds, for which no client is accepted after an accept has failed, for example because no descriptor
 /// is free.
 const PAUSE_MILLIS: u64 = 100;
 
-/// Watches a listener: an event comes as long as clients wait.
-pub(crate) fn watch_listener(set: &EpollSet, listener: &TcpListener) -> io::Result<()> {
-    set.add(Watched {
-        descriptor: listener.as_raw_fd(),
-        events: EPOLLIN | EXCLUSIVE,
-        number: Source::Listener.number(),
-    })
-}
+/// The same, if the loop has no room.
+const FULL_PAUSE_MILLIS: u64 = 20;
 
-impl<'a, P: EndpointPorts> EventLoop<'a, P> {
-    /// Accepts the clients that wait.
-    pub(crate) fn accept_some(&mut self, listener: &TcpListener) {
+impl<'a, P: EndpointPorts, L: RequestLog> EventLoop<'a, P, L> {
+    /// Watches the listener: an event comes as long as clients wait. Gives whether that succeeded.
+    pub(crate) fn watch_listener(&mut self) -> bool {
+        let watched = self.set.add(Watched {
+            descriptor: self.port.descriptor(),
+            events: EPOLLIN | EXCLUSIVE,
+            number: Source::Listener.number(),
+        });
+        self.watches_listener = watched.is_ok();
+        self.watches_listener
+    }
+
+    /// Watches the listener no longer. A closed listener would be ready all the time.
+    pub(crate) fn unwatch_listener(&mut self) {
+        if self.watches_listener {
+            self.watches_listener = false;
+            self.set.remove(self.port.descriptor());
+        }
+    }
+
+    /// Accepts the clients that wait, as far as there is room.
+    pub(crate) fn accept_some(&mut self) {
         for _ in 0..ACCEPTS_A_TURN {
-            match accept(listener) {
-                Accepted::Stream(stream) => self.begin_client(stream),
-                Accepted::Nothing => return,
-                Accepted::Failed => {
-                    self.pause_accepts(listener);
-                    return;
-                }
+            if !self.accept_one() {
+                return;
+            }
+        }
+    }
+
+    /// Accepts the clients of the backlog, as far as there is room: their requests may have come before a shutdown.
+    pub(crate) fn accept_backlog(&mut self) {
+        for _ in 0..MOST_OF_BACKLOG {
+            if !self.accept_one() {
+                return;
+            }
+        }
+    }
+
+    /// Accepts a client. Gives whether one was accepted. Without room, or after a failure, no client is accepted for a while.
+    fn accept_one(&mut self) -> bool {
+        if !self.has_room() {
+            self.pause_accepts(FULL_PAUSE_MILLIS);
+            return false;
+        }
+        match self.port.accept() {
+            Accepted::Stream(stream) => {
+                self.begin_client(stream);
+                true
+            }
+            Accepted::Nothing => false,
+            Accepted::Failed => {
+                self.pause_accepts(PAUSE_MILLIS);
+                false
             }
         }
     }
@@ -50,26 +88,30 @@ impl<'a, P: EndpointPorts> EventLoop<'a, P> {
     fn begin_client(&mut self, stream: TcpStream) {
         let sides = BothSides::new(self.alloc, self.settings.clients, self.now);
         // without memory, the connection is closed
-        if let Ok(key) = self.clients.put(Client::new(stream, sides)) {
-            self.make_due(key);
+        if let Ok(key) = self.clients.put(Client::new(stream, sides, self.now)) {
+            if self.loads.accept(key, self.now).is_ok() {
+                self.make_due(key);
+            } else {
+                self.clients.remove(key);
+            }
         }
     }
 
-    /// Accepts no client for a while. The listener would be ready all the time.
-    fn pause_accepts(&mut self, listener: &TcpListener) {
-        self.set.remove(listener.as_raw_fd());
-        self.accepts_at = Some(self.now.saturating_add(PAUSE_MILLIS));
+    /// Accepts no client for so many milliseconds. The listener would be ready all the time.
+    fn pause_accepts(&mut self, millis: u64) {
+        self.unwatch_listener();
+        self.accepts_at = Some(self.now.saturating_add(millis));
     }
 
     /// Accepts clients again once the pause is over.
-    pub(crate) fn end_pause(&mut self, listener: &TcpListener) {
-        if self.closes_at.is_some() || !has_come(self.accepts_at, self.now) {
+    pub(crate) fn end_pause(&mut self) {
+        if self.port.is_closed() || !has_come(self.accepts_at, self.now) {
             return;
         }
-        if watch_listener(self.set, listener).is_ok() {
+        if self.has_room() && self.watch_listener() {
             self.accepts_at = None;
         } else {
-            self.pause_accepts(listener);
+            self.pause_accepts(FULL_PAUSE_MILLIS);
         }
     }
 }

@@ -1,12 +1,14 @@
 //! The connections of clients.
-ghost use Rattle.std.specs.Prelude.{◌≡◌, None, Some, if◌then◌else◌};
+ghost use Rattle.std.specs.Prelude.{◌≡◌, ◌&&◌, ◌||◌, None, Some, if◌then◌else◌};
 ghost use Rattle.bg_endpoint_side.specs.declared.outcome.GivingUp.TheVariants as why;
 
 use crate::events::Told;
 use crate::readiness::Readiness;
+use crate::request_record::RequestRecord;
 use crate::tries::Tries;
-use bg_both_sides::BothSides;
+use bg_both_sides::{BothSides, Given};
 use bg_endpoint_side::GivingUp;
+use bg_forward::Route;
 use std::net::TcpStream;
 
 /// The connection of a client, with its socket.
@@ -23,6 +25,23 @@ pub(crate) struct Client {
     pub(crate) endpoint: Option<usize>,
     /// The ports that were chosen for the request.
     pub(crate) tries: Option<Tries>,
+    /// What the client was given for the request that is over, until that is logged.
+    pub(crate) given: Option<Given>,
+    /// What is kept of the request for the log.
+    pub(crate) record: RequestRecord,
+    /// Whether the client has ended its input.
+    pub(crate) has_ended: bool,
+    /// Whether a write to the client has failed.
+    pub(crate) has_write_failed: bool,
+    /// The number of bytes of the last answer that are not written, if it was logged as an answer.
+    pub(crate) unwritten: usize,
+    /// The number of bytes of the last answer.
+    pub(crate) answer_size: usize,
+    /// Whether its lingering close has begun, and the number of bytes that were discarded in it.
+    pub(crate) is_lingering: bool,
+    pub(crate) discarded: u64,
+    /// Whether its request is paused: no byte of it is read.
+    pub(crate) is_paused: bool,
 }
 
 impl Drop for Client {
@@ -36,13 +55,22 @@ impl Drop for Client {
             seat: _,
             endpoint: _,
             tries: _,
+            given: _,
+            record: _,
+            has_ended: _,
+            has_write_failed: _,
+            unwritten: _,
+            answer_size: _,
+            is_lingering: _,
+            discarded: _,
+            is_paused: _,
         } = self;
     }
 }
 
 impl Client {
     /// A client that was accepted. Its socket may be ready, since no event of it came yet.
-    pub(crate) fn new(stream: TcpStream, sides: BothSides) -> Client {
+    pub(crate) fn new(stream: TcpStream, sides: BothSides, now: u64) -> Client {
         Client {
             stream,
             ready: Readiness {
@@ -56,6 +84,15 @@ impl Client {
             seat: None,
             endpoint: None,
             tries: None,
+            given: None,
+            record: RequestRecord::new(now),
+            has_ended: false,
+            has_write_failed: false,
+            unwritten: 0,
+            answer_size: 0,
+            is_lingering: false,
+            discarded: 0,
+            is_paused: false,
         }
     }
 
@@ -63,6 +100,14 @@ impl Client {
     pub(crate) fn port(&self) -> Option<u16> {
         match &self.tries {
             Some(tries) => Some(tries.port()),
+            None => None,
+        }
+    }
+
+    /// What was dialled for the last request that entered.
+    pub(crate) fn route(&self) -> Option<Route> {
+        match &self.tries {
+            Some(tries) => Some(tries.route()),
             None => None,
         }
     }
@@ -77,7 +122,7 @@ impl Client {
 
     /// Whether a step is due that waits for nothing.
     pub(crate) fn is_due(&self) -> bool {
-        self.writes() && self.ready.output || self.sides.client().wants_read() && self.ready.input
+        self.writes() && self.ready.output || self.reads() && self.ready.input
     }
 
     /// Whether it waits for its client, and not for its request.
@@ -85,17 +130,23 @@ impl Client {
         self.writes() || self.sides.client().wants_read()
     }
 
+    /// Whether bytes are to be read.
+    fn reads(&self) -> bool {
+        self.sides.client().wants_read() && !self.is_paused
+    }
+
     /// Whether something is to be written.
     pub(crate) fn writes(&self) -> bool {
         self.sides.client().owes_continue() || !self.sides.client().rest().is_empty()
     }
 
-    /// Why the request that is inside is given up, if it is.
-    pub(crate) fn why_given_up(&self, is_given_up: bool) -> Option<GivingUp>
-        ensures { result ≡ (if self.now.sides.client.facts.has_failed then Some why.ClientGone
-            else if is_given_up then Some why.Drained else None) }
+    /// Why the request that is inside is given up, if it is. `aborts_on_close` says whether it is if its client has ended its
+    /// input.
+    pub(crate) fn why_given_up(&self, is_given_up: bool, aborts_on_close: bool) -> Option<GivingUp>
+        ensures { result ≡ (if self.now.sides.client.facts.has_failed || (aborts_on_close && self.now.ready.end)
+            then Some why.ClientGone else if is_given_up then Some why.Drained else None) }
     {
-        if self.sides.client().has_failed() {
+        if self.sides.client().has_failed() || aborts_on_close && self.ready.end {
             Some(GivingUp::ClientGone)
         } else if is_given_up {
             Some(GivingUp::Drained)

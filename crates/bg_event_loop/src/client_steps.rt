@@ -5,9 +5,11 @@ ghost use Rattle.bg_both_sides.specs.ClientEvents.{entered};
 ghost use Rattle.bg_both_sides.specs.EndpointEvents.{RefusesEntered};
 
 use crate::client::Client;
+use crate::request_log::RequestLog;
 use crate::sockets::{Input, read, write};
 use bg_client_side::Fed;
 use bg_sockets::is_drained;
+use std::alloc::Global;
 use std::net::Shutdown;
 
 /// The interim response that some clients await before they send a body (RFC 9110 section 10.1.1).
@@ -48,6 +50,7 @@ impl Client {
                 Fed::NotReading
             }
             Input::End => {
+                self.has_ended = true;
                 self.sides.end_input();
                 Fed::NotReading
             }
@@ -62,7 +65,10 @@ impl Client {
     fn take_bytes(&mut self, bytes: &[u8], now: u64) -> Fed {
         let fed = self.sides.feed(bytes, now);
         if fed == Fed::NotReading {
+            self.discarded = self.discarded.saturating_add(bytes.len() as u64);
             self.sides.discarded(bytes.len() as u64);
+        } else {
+            self.record.note_bytes(bytes.len(), now);
         }
         fed
     }
@@ -83,12 +89,15 @@ impl Client {
         let rest = self.sides.client().rest();
         let most = rest.len();
         let Some(count) = write(&self.stream, rest) else {
+            self.has_write_failed = true;
             self.sides.fail();
             return Fed::NotReading;
         };
         self.ready.note_write(count, most);
+        self.unwritten = self.unwritten.saturating_sub(count);
         let fed = self.sides.wrote(count, now);
         if count >= most && fed == Fed::NotReading {
+            self.is_lingering = true;
             self.begin_lingering();
         }
         fed
@@ -115,12 +124,21 @@ impl Client {
         }
     }
 
-    /// Refuses the request that waits for a seat with 503.
-    pub(crate) fn refuse_waiting(&mut self, now: u64)
-        ensures { (told : Bool) × (reply : Option Reply) × RefusesEntered (entered self.old.sides).endpoint now
-            (entered self.old.sides).client told reply self.new.sides }
+    /// Refuses the request that waits for a seat with 503. Keeps its method and target, if they are logged.
+    pub(crate) fn refuse_waiting<L: RequestLog>(&mut self, alloc: Global, log: &L, now: u64)
+        ensures { (refuses : Bool) × (reply : Option Reply) × RefusesEntered (entered self.old.sides).endpoint now
+            (entered self.old.sides).client refuses reply self.new.sides }
     {
         self.sides.enter();
+        self.keep_line(alloc, log);
+        self.sides.refuse(now);
+    }
+
+    /// Refuses the request that entered with 503.
+    pub(crate) fn refuse_entered(&mut self, now: u64)
+        ensures { (refuses : Bool) × (reply : Option Reply) × RefusesEntered self.old.sides.endpoint now
+            self.old.sides.client refuses reply self.new.sides }
+    {
         self.sides.refuse(now);
     }
 }

@@ -4,15 +4,19 @@ use crate::client::Client;
 use crate::endpoint_ports::EndpointPorts;
 use crate::endpoints::Endpoints;
 use crate::events::{Source, Told, watch};
+use crate::outcome::Cause;
+use crate::request_log::RequestLog;
 use crate::settings::LoopSettings;
 use crate::slots::Slots;
 use bg_client_side::{Fed, Seats};
+use bg_forward::Reason;
+use bg_load::Loads;
+use bg_loop_port::LoopPort;
 use bg_sockets::EpollSet;
 use os::EpollEvent;
 use std::alloc::Global;
 use std::collections::VecDeque;
 use std::io;
-use std::net::TcpListener;
 
 /// The number of steps of a client in a row.
 const STEPS_A_TURN: u32 = 64;
@@ -20,58 +24,89 @@ const STEPS_A_TURN: u32 = 64;
 /// The number of bytes that one read asks for.
 const PIECE: usize = 16_384;
 
+/// What a loop begins with.
+#[derive(Clone, Copy, Drop)]
+pub(crate) struct LoopTerms {
+    pub(crate) alloc: Global,
+    pub(crate) settings: LoopSettings,
+    /// The number of its seats.
+    pub(crate) seats: usize,
+}
+
 /// The connections of a loop.
 #[derive(Drop)]
-pub(crate) struct EventLoop<'a, P> {
+pub(crate) struct EventLoop<'a, P, L> {
     pub(crate) alloc: Global,
     pub(crate) settings: LoopSettings,
     pub(crate) set: &'a EpollSet,
+    pub(crate) port: &'a LoopPort,
     pub(crate) clients: Slots<Client>,
+    /// What they take.
+    pub(crate) loads: Loads,
     pub(crate) endpoints: Endpoints<'a, P>,
+    /// Where the ends of requests are logged.
+    pub(crate) log: &'a L,
     /// The seats, and the clients whose requests wait for one.
     pub(crate) queue: Seats,
     /// The keys of the clients that are to be served.
     pub(crate) due: VecDeque<usize>,
     /// What the last read gave.
     pub(crate) piece: Vec<u8>,
+    /// Whether the listener is watched.
+    pub(crate) watches_listener: bool,
+    /// Whether the most requests are inside, over all loops. The signal of the port comes once one has left.
+    pub(crate) is_held_up: bool,
     /// The moment of the last events, in milliseconds from the start of the loop.
     pub(crate) now: u64,
     /// When clients are accepted again, if none are accepted now.
     pub(crate) accepts_at: Option<u64>,
     /// When the connections that are left are closed, if a shutdown has begun.
     pub(crate) closes_at: Option<u64>,
+    /// When the connections are closed of which no byte came, if a shutdown has begun.
+    pub(crate) grace_until: Option<u64>,
 }
 
-impl<'a, P: EndpointPorts> EventLoop<'a, P> {
-    /// A loop with so many seats, without connections.
+impl<'a, P: EndpointPorts, L: RequestLog> EventLoop<'a, P, L> {
+    /// A loop without connections.
     pub(crate) fn new(
-        alloc: Global,
-        settings: LoopSettings,
+        terms: LoopTerms,
         set: &'a EpollSet,
+        port: &'a LoopPort,
         ports: &'a P,
-        seats: usize,
-    ) -> io::Result<EventLoop<'a, P>> {
+        log: &'a L,
+    ) -> io::Result<EventLoop<'a, P, L>> {
+        let LoopTerms {
+            alloc,
+            settings,
+            seats,
+        } = terms;
         Ok(EventLoop {
             alloc,
             settings,
             set,
+            port,
             clients: Slots::new(alloc),
+            loads: Loads::new(alloc, settings.loads),
             endpoints: Endpoints::new(alloc, set, ports, settings.endpoints)?,
+            log,
             queue: Seats::new(alloc, seats, settings.most_waiting)?,
             due: VecDeque::new(alloc),
             piece: vec![in alloc; 0; PIECE]?,
+            watches_listener: false,
+            is_held_up: false,
             now: 0,
             accepts_at: None,
             closes_at: None,
+            grace_until: None,
         })
     }
 
     /// Notes an event. The client that it belongs to is to be served.
-    pub(crate) fn note(&mut self, listener: &TcpListener, event: &EpollEvent) {
+    pub(crate) fn note(&mut self, event: &EpollEvent) {
         let told = Told::of(event.events);
         match Source::of(event.data) {
-            Source::Listener => self.accept_some(listener),
-            Source::Shutdown => {}
+            Source::Listener => self.accept_some(),
+            Source::Signal => self.is_held_up = false,
             Source::Client(key) => {
                 if let Some(client) = self.clients.get_mut(key) {
                     client.note(told);
@@ -96,6 +131,7 @@ impl<'a, P: EndpointPorts> EventLoop<'a, P> {
     pub(crate) fn serve(&mut self, key: usize, is_given_up: bool) -> Option<usize> {
         let seat = self.serve_inside(key, is_given_up);
         self.serve_client(key);
+        self.observe(key);
         seat
     }
 
@@ -124,13 +160,48 @@ impl<'a, P: EndpointPorts> EventLoop<'a, P> {
         true
     }
 
-    /// Lets a request wait for a seat that has become whole. It is refused if the most requests wait.
-    pub(crate) fn note_fed(&mut self, key: usize, fed: Fed) {
-        if fed != Fed::Whole || self.queue.wait(key) {
+    /// Ends a connection if no byte came on it. It is read once more before: its client may have sent meanwhile.
+    pub(crate) fn end_if_silent(&mut self, key: usize) {
+        if !self.is_silent(key) {
             return;
         }
         if let Some(client) = self.clients.get_mut(key) {
-            client.refuse_waiting(self.now);
+            let fed = client.step(self.piece.as_mut_slice(), self.now);
+            self.note_fed(key, fed);
+        }
+        if self.is_silent(key)
+            && let Some(client) = self.clients.get_mut(key)
+        {
+            client.sides.fail();
+        }
+    }
+
+    /// Whether no byte came on a connection.
+    fn is_silent(&self, key: usize) -> bool {
+        match self.clients.get(key) {
+            Some(client) => client.record.is_silent(),
+            None => false,
+        }
+    }
+
+    /// Lets a request wait for a seat that has become whole. It is refused if the most requests wait. What is no request is
+    /// over.
+    pub(crate) fn note_fed(&mut self, key: usize, fed: Fed) {
+        let Some(client) = self.clients.get_mut(key) else {
+            return;
+        };
+        match fed {
+            Fed::Whole => {
+                client.record.note_whole(self.now);
+                if !self.queue.wait(key) {
+                    client.refuse_waiting(self.alloc, self.log, self.now);
+                    client.end_request(self.log, Cause::Refused(Reason::Memory), self.now);
+                }
+            }
+            Fed::Refused(fault) => {
+                client.end_request(self.log, Cause::Fault(fault), self.now);
+            }
+            Fed::NotReading | Fed::More | Fed::OwesContinue => {}
         }
     }
 
@@ -160,11 +231,14 @@ impl<'a, P: EndpointPorts> EventLoop<'a, P> {
     }
 
     /// Closes the connection of a client that has left.
-    fn remove_if_left(&mut self, key: usize) {
-        if let Some(client) = self.clients.get(key)
+    pub(crate) fn remove_if_left(&mut self, key: usize) {
+        if let Some(client) = self.clients.get_mut(key)
             && client.sides.client().has_left()
         {
+            client.end_connection(self.log, self.now);
+            self.port.note_unwritten(client.unwritten);
             self.queue.withdraw(key);
+            self.loads.leave(key);
             self.clients.remove(key);
         }
     }

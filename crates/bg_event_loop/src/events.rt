@@ -8,11 +8,11 @@ use std::io;
 use std::net::TcpStream;
 use std::os::fd::AsRawFd;
 
-/// Who an event belongs to: the listener, a shutdown, or the connection of this key.
+/// Who an event belongs to: the listener, the signal of the port, or the connection of this key.
 #[derive(Clone, Copy, PartialEq, Eq, Debug, Drop)]
 pub(crate) enum Source {
     Listener,
-    Shutdown,
+    Signal,
     Client(usize),
     Endpoint(usize),
 }
@@ -24,7 +24,7 @@ impl Source {
     {
         match self {
             Source::Listener => 0,
-            Source::Shutdown => 1,
+            Source::Signal => 1,
             Source::Client(key) => (key as u64).saturating_mul(2).saturating_add(2),
             Source::Endpoint(key) => (key as u64).saturating_mul(2).saturating_add(3),
         }
@@ -36,7 +36,7 @@ impl Source {
     {
         match number {
             0 => Source::Listener,
-            1 => Source::Shutdown,
+            1 => Source::Signal,
             other => {
                 let key = ((other - 2) / 2) as usize;
                 if other % 2 == 0 {

@@ -198,6 +198,7 @@ impl<P: EndpointPorts> Endpoints<'_, P> {
         if let Some(tries) = &mut client.tries {
             tries.leave(self.ports, ending.health);
         }
+        client.given = Some(ending.given);
     }
 
     /// Ends the request of a client of which a timeout has passed. If it is that of a dial, the next port is dialled.

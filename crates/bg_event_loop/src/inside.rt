@@ -2,37 +2,76 @@
 
 use crate::endpoint_ports::EndpointPorts;
 use crate::event_loop::EventLoop;
+use crate::outcome::Cause;
+use crate::request_log::RequestLog;
 use bg_book::Ticket;
-use bg_client_side::Entered;
+use bg_client_side::{Entered, Fed};
+use bg_forward::Reason;
 
-impl<'a, P: EndpointPorts> EventLoop<'a, P> {
-    /// Begins to forward the request of a client, if it has a ticket. Otherwise the client is refused, and the seat is free,
-    /// which is given.
-    pub(crate) fn begin(&mut self, entered: Entered, ticket: Option<Ticket>) -> Option<usize> {
-        self.make_due(entered.key);
-        if self.forward_with(entered, ticket) {
+impl<'a, P: EndpointPorts, L: RequestLog> EventLoop<'a, P, L> {
+    /// The client whose request enters next: it has waited longest, and the port admits a further request. `None` if no client
+    /// waits, no seat is free, or the most requests are inside.
+    pub(crate) fn next_to_enter(&mut self) -> Option<Entered> {
+        if self.queue.waiting() == 0 || self.queue.free() == 0 {
             return None;
         }
-        self.queue.leave(entered.seat);
-        Some(entered.seat)
+        self.is_held_up = !self.port.admits();
+        if self.is_held_up {
+            return None;
+        }
+        self.queue.enter()
     }
 
-    fn forward_with(&mut self, entered: Entered, ticket: Option<Ticket>) -> bool {
+    /// Notes that the request of a seat has left, if there is one.
+    pub(crate) fn note_left(&self, seat: Option<usize>) {
+        if seat.is_some() {
+            self.port.note_left();
+        }
+    }
+
+    /// Begins to forward the request of a client, if it has a ticket. Otherwise the client is refused, and the seat is free,
+    /// which is given.
+    pub(crate) fn begin(
+        &mut self,
+        entered: Entered,
+        ticket: Result<Ticket, Reason>,
+    ) -> Option<usize> {
+        self.make_due(entered.key);
+        match self.forward_with(entered, ticket) {
+            Ok(()) => None,
+            Err(fed) => {
+                self.queue.leave(entered.seat);
+                self.note_fed(entered.key, fed);
+                Some(entered.seat)
+            }
+        }
+    }
+
+    /// Begins to forward the request of a client. The error is what the answer to a refused request made of its connection.
+    fn forward_with(
+        &mut self,
+        entered: Entered,
+        ticket: Result<Ticket, Reason>,
+    ) -> Result<(), Fed> {
         let Some(client) = self.clients.get_mut(entered.key) else {
-            return false;
+            return Err(Fed::NotReading);
         };
         client.sides.enter();
-        let dials = match ticket {
-            Some(ticket) => self.endpoints.dials_for(client, ticket.port, self.now),
-            None => false,
+        client.keep_line(self.alloc, self.log);
+        let why = match ticket {
+            Ok(ticket) => {
+                client.record.note_entered(ticket, self.now);
+                if self.endpoints.dials_for(client, ticket.port, self.now) {
+                    client.seat = Some(entered.seat);
+                    self.endpoints.begin(client, entered.key, self.now);
+                    return Ok(());
+                }
+                Reason::Memory
+            }
+            Err(why) => why,
         };
-        if dials {
-            client.seat = Some(entered.seat);
-            self.endpoints.begin(client, entered.key, self.now);
-        } else {
-            client.sides.refuse(self.now);
-        }
-        dials
+        client.refuse_entered(self.now);
+        Err(client.end_request(self.log, Cause::Refused(why), self.now))
     }
 
     /// The seat of the request that a client has inside.
@@ -47,7 +86,7 @@ impl<'a, P: EndpointPorts> EventLoop<'a, P> {
         if client.seat.is_none() {
             return None;
         }
-        if let Some(why) = client.why_given_up(is_given_up) {
+        if let Some(why) = client.why_given_up(is_given_up, self.settings.aborts_on_close) {
             self.endpoints.give_up(client, key, why, self.now);
         } else {
             let piece = self.piece.as_mut_slice();
@@ -64,11 +103,16 @@ impl<'a, P: EndpointPorts> EventLoop<'a, P> {
         self.finish(key)
     }
 
-    /// Writes what a client takes at once of the answer to a request that is over, and frees its seat, which is given.
+    /// Writes what a client takes at once of the answer to a request that is over, logs the request, and frees its seat, which
+    /// is given.
     fn finish(&mut self, key: usize) -> Option<usize> {
         let client = self.clients.get_mut(key)?;
         let seat = client.seat.take()?;
-        let fed = client.write_first(self.now);
+        let cause = match client.given.take() {
+            Some(given) => Cause::Given(given),
+            None => Cause::Refused(Reason::Memory),
+        };
+        let fed = client.end_request(self.log, cause, self.now);
         self.queue.leave(seat);
         self.note_fed(key, fed);
         Some(seat)

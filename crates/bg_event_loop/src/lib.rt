@@ -4,8 +4,7 @@
 //! has an epoll set, the clients that it accepted, its connections to endpoints, and seats of a book. No call waits but
 //! the one for events.
 //!
-//! The program does not use this crate yet. What is missing: uploads are not paused; neither the number of connections nor the
-//! memory of requests and answers is bounded; and there is no access log.
+//! The program serves clients by it if the environment asks for that, to compare the two ways; workers do so otherwise.
 #![tactic(auto)]
 
 mod accepting;
@@ -20,12 +19,17 @@ mod events;
 mod forwarding;
 mod inside;
 pub mod laws;
+mod logging;
+mod loops;
 mod moments;
+mod outcome;
 mod readiness;
+mod request_log;
+mod request_record;
+mod room;
 mod running;
 mod seating;
 mod settings;
-mod shutdown;
 mod slots;
 mod sockets;
 mod sweeping;
@@ -33,6 +37,7 @@ mod tries;
 
 pub use book_ports::BookPorts;
 pub use endpoint_ports::EndpointPorts;
+pub use loops::run_event_loops;
+pub use request_log::{EndedRequest, RequestLine, RequestLog};
 pub use running::{LoopContext, run_event_loop};
 pub use settings::{EndpointSettings, LoopSettings};
-pub use shutdown::Shutdown;

@@ -4,22 +4,22 @@ ghost use Rattle.bg_event_loop.specs.Seats.{AllServed, AllUsed};
 ghost use Rattle.bg_forward.specs.Seats.{AllOut};
 ghost use Rattle.bg_rollout.specs.Gathering.{indices};
 
-use crate::accepting::watch_listener;
 use crate::endpoint_ports::EndpointPorts;
-use crate::event_loop::EventLoop;
+use crate::event_loop::{EventLoop, LoopTerms};
 use crate::events::Source;
+use crate::request_log::RequestLog;
 use crate::seating::{enter_at, is_cut, leave_all, leave_at};
 use crate::settings::LoopSettings;
-use crate::shutdown::Shutdown;
 use bg_book::laws as book_laws;
 use bg_forward::Gate;
 use bg_ledger::{Names, Seat};
+use bg_loop_port::LoopPort;
 use bg_sockets::{EpollSet, PortClock, Watched};
 use libc::net::{EPOLLET, EPOLLIN};
 use os::EpollEvent;
 use std::alloc::Global;
 use std::io;
-use std::net::TcpListener;
+use std::io::ErrorKind;
 use std::sync::Wait;
 use std::time::Clock;
 
@@ -31,26 +31,27 @@ const SWEEP_MILLIS: u64 = 500;
 
 /// What the loops of a port share.
 #[derive(Drop)]
-pub struct LoopContext<'a, G, P> {
+pub struct LoopContext<'a, G, P, L> {
     pub alloc: Global,
     /// Where requests enter and leave.
     pub gate: &'a G,
     /// The ports at which they are dialled.
     pub ports: &'a P,
-    /// The listener, whose accepts do not wait. A shutdown closes it.
-    pub listener: &'a TcpListener,
-    pub shutdown: &'a Shutdown,
+    /// Where the ends of requests are logged.
+    pub log: &'a L,
+    /// The port at which clients are accepted.
+    pub port: &'a LoopPort,
     pub settings: LoopSettings,
 }
 
-/// Serves clients on these seats until a shutdown has begun and no client is left. An error if a system call or an
+/// Serves clients on these seats until the port is closed and no client is left. An error if a system call or an
 /// allocation fails before the first client is accepted.
 ///
 /// Every seat is out at the end and has its place, and its number of calls has risen by two for each of its requests that
 /// entered.
-pub fn run_event_loop<N: Names, R: Clock + Wait, G: Gate<N>, P: EndpointPorts>(
+pub fn run_event_loop<N: Names, R: Clock + Wait, G: Gate<N>, P: EndpointPorts, L: RequestLog>(
     rt: &R,
-    context: &LoopContext<'_, G, P>,
+    context: &LoopContext<'_, G, P, L>,
     seats: &mut [Seat<N>],
 ) -> io::Result<()>
     requires { AllOut seats.old }
@@ -63,32 +64,33 @@ pub fn run_event_loop<N: Names, R: Clock + Wait, G: Gate<N>, P: EndpointPorts>(
     served
 }
 
-/// Serves clients until a shutdown has begun and no client is left.
-fn serve_clients<N: Names, R: Clock + Wait, G: Gate<N>, P: EndpointPorts>(
+/// Serves clients until the port is closed and no client is left.
+fn serve_clients<N: Names, R: Clock + Wait, G: Gate<N>, P: EndpointPorts, L: RequestLog>(
     rt: &R,
-    context: &LoopContext<'_, G, P>,
+    context: &LoopContext<'_, G, P, L>,
     seats: &mut [Seat<N>],
 ) -> io::Result<()>
     ensures { AllUsed seats.old seats.new }
 {
     let set = EpollSet::new()?;
-    watch_port(&set, context)?;
     let clock = PortClock::start(rt)?;
-    let mut connections = EventLoop::new(
-        context.alloc,
-        context.settings,
-        &set,
-        context.ports,
-        seats.len(),
-    )?;
+    let terms = LoopTerms {
+        alloc: context.alloc,
+        settings: context.settings,
+        seats: seats.len(),
+    };
+    let mut connections = EventLoop::new(terms, &set, context.port, context.ports, context.log)?;
+    watch_port(&mut connections)?;
+    context.port.note_begun();
     let mut swept = 0;
     for _ in rt.forever() {
-        note_events(context, &clock, rt, &mut connections);
+        note_events(&clock, rt, &mut connections);
         if connections.now.saturating_sub(swept) >= SWEEP_MILLIS {
             swept = connections.now;
             connections.sweep();
         }
         serve_round(context, &mut connections, seats);
+        connections.regulate();
         connections.reuse_keys();
         if connections.is_over() {
             return Ok(());
@@ -97,22 +99,27 @@ fn serve_clients<N: Names, R: Clock + Wait, G: Gate<N>, P: EndpointPorts>(
     unreachable!()
 }
 
-/// Watches the listener and the shutdown.
-fn watch_port<G, P>(set: &EpollSet, context: &LoopContext<'_, G, P>) -> io::Result<()> {
-    watch_listener(set, context.listener)?;
-    set.add(Watched {
-        descriptor: context.shutdown.descriptor(),
+/// Watches the listener and the signal of the port.
+fn watch_port<P: EndpointPorts, L: RequestLog>(
+    connections: &mut EventLoop<'_, P, L>,
+) -> io::Result<()> {
+    connections.set.add(Watched {
+        descriptor: connections.port.signal_descriptor(),
         events: EPOLLIN | EPOLLET,
-        number: Source::Shutdown.number(),
-    })
+        number: Source::Signal.number(),
+    })?;
+    if connections.watch_listener() {
+        Ok(())
+    } else {
+        Err(io::Error::from(ErrorKind::Other))
+    }
 }
 
 /// Waits for events, and notes them.
-fn note_events<R: Clock, G, P: EndpointPorts>(
-    context: &LoopContext<'_, G, P>,
+fn note_events<R: Clock, P: EndpointPorts, L: RequestLog>(
     clock: &PortClock,
     rt: &R,
-    connections: &mut EventLoop<'_, P>,
+    connections: &mut EventLoop<'_, P, L>,
 ) {
     let mut events = [EpollEvent { events: 0, data: 0 }; MOST_EVENTS];
     let count = connections
@@ -120,18 +127,20 @@ fn note_events<R: Clock, G, P: EndpointPorts>(
         .wait(&mut events, connections.longest_wait());
     connections.now = clock.now(rt);
     for event in events.iter().take(count) {
-        connections.note(context.listener, event);
+        connections.note(event);
     }
-    connections.end_pause(context.listener);
-    if context.shutdown.has_begun() {
-        connections.begin_closing(context.listener);
+    connections.end_pause();
+    if connections.port.is_shut_down() {
+        connections.begin_closing();
+    } else if connections.port.is_closed() {
+        connections.unwatch_listener();
     }
 }
 
 /// Serves the clients that are to be served, lets requests enter, and begins to forward them.
-fn serve_round<N: Names, G: Gate<N>, P: EndpointPorts>(
-    context: &LoopContext<'_, G, P>,
-    connections: &mut EventLoop<'_, P>,
+fn serve_round<N: Names, G: Gate<N>, P: EndpointPorts, L: RequestLog>(
+    context: &LoopContext<'_, G, P, L>,
+    connections: &mut EventLoop<'_, P, L>,
     seats: &mut [Seat<N>],
 )
     ensures { AllUsed seats.old seats.new }
@@ -141,9 +150,9 @@ fn serve_round<N: Names, G: Gate<N>, P: EndpointPorts>(
 }
 
 /// Lets requests enter, and serves the clients that are to be served then.
-fn admit_and_serve<N: Names, G: Gate<N>, P: EndpointPorts>(
-    context: &LoopContext<'_, G, P>,
-    connections: &mut EventLoop<'_, P>,
+fn admit_and_serve<N: Names, G: Gate<N>, P: EndpointPorts, L: RequestLog>(
+    context: &LoopContext<'_, G, P, L>,
+    connections: &mut EventLoop<'_, P, L>,
     seats: &mut [Seat<N>],
 )
     ensures { AllUsed seats.old seats.new }
@@ -154,9 +163,9 @@ fn admit_and_serve<N: Names, G: Gate<N>, P: EndpointPorts>(
 
 /// Serves the clients that are to be served. The gate is asked whether the request of each goes on, and a request that is
 /// over leaves there.
-fn serve_due<N: Names, G: Gate<N>, P: EndpointPorts>(
-    context: &LoopContext<'_, G, P>,
-    connections: &mut EventLoop<'_, P>,
+fn serve_due<N: Names, G: Gate<N>, P: EndpointPorts, L: RequestLog>(
+    context: &LoopContext<'_, G, P, L>,
+    connections: &mut EventLoop<'_, P, L>,
     seats: &mut [Seat<N>],
 )
     ensures { AllUsed seats.old seats.new }
@@ -168,23 +177,25 @@ fn serve_due<N: Names, G: Gate<N>, P: EndpointPorts>(
         let is_given_up = is_cut(context.gate, seats, connections.seat_of(key));
         let over = connections.serve(key, is_given_up);
         leave_at(context.gate, seats, over);
+        connections.note_left(over);
     }
 }
 
-/// Lets the requests enter that wait longest, as long as a seat is free.
-fn admit<N: Names, G: Gate<N>, P: EndpointPorts>(
-    context: &LoopContext<'_, G, P>,
-    connections: &mut EventLoop<'_, P>,
+/// Lets the requests enter that wait longest, as long as a seat is free and the port admits a further request.
+fn admit<N: Names, G: Gate<N>, P: EndpointPorts, L: RequestLog>(
+    context: &LoopContext<'_, G, P, L>,
+    connections: &mut EventLoop<'_, P, L>,
     seats: &mut [Seat<N>],
 )
     ensures { AllUsed seats.old seats.new }
 {
     for _ in 0..connections.queue.waiting() {
-        let Some(entered) = connections.queue.enter() else {
+        let Some(entered) = connections.next_to_enter() else {
             return;
         };
         let ticket = enter_at(context.gate, context.settings.service, seats, entered.seat);
         let refused = connections.begin(entered, ticket);
         leave_at(context.gate, seats, refused);
+        connections.note_left(refused);
     }
 }

@@ -3,27 +3,31 @@ ghost use Rattle.std.specs.Prelude.{◌≡◌, map};
 ghost use Rattle.bg_event_loop.specs.Seats.{AllUsed, emptied};
 
 use bg_book::{GoOn, Ticket};
-use bg_forward::Gate;
+use bg_forward::{Gate, Reason};
 use bg_ledger::{Names, Seat};
 use bg_revisions::Service;
 
-/// Lets a request enter at the seat of this number. `None` if the gate refuses it.
+/// Lets a request enter at the seat of this number. The error is why the gate refuses it; `Memory` if there is no such seat
+/// that is out.
 pub(crate) fn enter_at<N: Names, G: Gate<N>>(
     gate: &G,
     service: Service,
     seats: &mut [Seat<N>],
     number: usize,
-) -> Option<Ticket>
+) -> Result<Ticket, Reason>
     ensures { AllUsed seats.old seats.new }
 {
     if number >= seats.len() {
-        return None;
+        return Err(Reason::Memory);
     }
     let seat = &mut seats[number];
     if seat.is_in() {
-        return None;
+        return Err(Reason::Memory);
     }
-    gate.enter(seat, service).ok()
+    match gate.enter(seat, service) {
+        Ok(ticket) => Ok(ticket),
+        Err(fault) => Err(Reason::of_enter(fault)),
+    }
 }
 
 /// Lets the request of a seat leave, if there is such a seat.

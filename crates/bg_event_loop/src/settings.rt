@@ -6,6 +6,7 @@ ghost use Rattle.bg_http.specs.declared.refusal.RefusalBody.TheVariants as body;
 use bg_client_side::ClientSettings;
 use bg_endpoint_side::Timeouts;
 use bg_http::{Persistence, RefusalBody};
+use bg_load::LoadSettings;
 use bg_revisions::Service;
 
 /// The settings of the connections to endpoints. Times are milliseconds.
@@ -28,8 +29,14 @@ pub struct LoopSettings {
     pub service: Service,
     pub clients: ClientSettings,
     pub endpoints: EndpointSettings,
+    /// The bounds on its connections and on what they take.
+    pub loads: LoadSettings,
     /// The most requests that may wait for a seat. Each further one is refused with 503.
     pub most_waiting: usize,
+    /// Whether a request that is inside is given up if its client has ended its input.
+    pub aborts_on_close: bool,
+    /// The time, in milliseconds, for which a shutdown keeps connections of which no byte came.
+    pub grace_millis: u64,
     /// The time, in milliseconds, after which a shutdown closes the connections that are left.
     pub closing_millis: u64,
 }
@@ -60,7 +67,14 @@ impl LoopSettings {
                 most_kept: 1_024,
                 kept_millis: 60_000,
             },
+            loads: LoadSettings {
+                connections: 1_024,
+                request_bytes: 1 << 27,
+                response_bytes: 1 << 28,
+            },
             most_waiting: 1_024,
+            aborts_on_close: false,
+            grace_millis: 1_000,
             closing_millis: 60_000,
         }
     }

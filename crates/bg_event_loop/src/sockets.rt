@@ -2,53 +2,14 @@
 
 use bg_endpoint_side::DialFault;
 use bg_sockets::{receive_now, send_now};
-use libc::net::{_SS_SIZE, AF_INET, SHUT_RDWR, SOCK_CLOEXEC, SOCK_NONBLOCK, SOCK_STREAM, shutdown};
+use libc::net::{_SS_SIZE, AF_INET, SOCK_CLOEXEC, SOCK_NONBLOCK, SOCK_STREAM};
 use os::FromRawFd;
-use std::io;
 use std::io::ErrorKind;
-use std::net::{TcpListener, TcpStream};
+use std::net::TcpStream;
 use std::os::fd::{AsRawFd, OwnedFd};
 
 /// The number of bytes of an address that C reads: the size of its sockaddr_in.
 const ADDRESS_LENGTH: u32 = 16;
-
-/// What an accept gave.
-#[derive(Drop)]
-pub(crate) enum Accepted {
-    Stream(TcpStream),
-    /// No client waits.
-    Nothing,
-    /// The system gives no connection now, for example because no descriptor is free.
-    Failed,
-}
-
-/// The next client that waits, if any.
-pub(crate) fn accept(listener: &TcpListener) -> Accepted {
-    let mut address = [0u8; _SS_SIZE];
-    let mut length = ADDRESS_LENGTH;
-    let descriptor = unsafe {
-        libc::net::accept4(
-            listener.as_raw_fd(),
-            &mut address,
-            &mut length,
-            SOCK_NONBLOCK | SOCK_CLOEXEC,
-        )
-    };
-    if descriptor < 0 {
-        return match io::Error::from_raw_os_error(os::errno()).kind() {
-            ErrorKind::WouldBlock | ErrorKind::Interrupted | ErrorKind::ConnectionAborted => {
-                Accepted::Nothing
-            }
-            _ => Accepted::Failed,
-        };
-    }
-    Accepted::Stream(TcpStream::from(unsafe { OwnedFd::from_raw_fd(descriptor) }))
-}
-
-/// Closes a listener: clients are refused from now on. Its descriptor stays open, since other loops may watch it.
-pub(crate) fn close_listener(listener: &TcpListener) {
-    shutdown(listener.as_raw_fd(), SHUT_RDWR);
-}
 
 /// A connection that was dialled, and whether it is complete.
 #[derive(Drop)]

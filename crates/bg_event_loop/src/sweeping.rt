@@ -3,20 +3,18 @@
 use crate::endpoint_ports::EndpointPorts;
 use crate::event_loop::EventLoop;
 use crate::moments::has_come;
-use crate::sockets::close_listener;
-use std::net::TcpListener;
-use std::os::fd::AsRawFd;
+use crate::request_log::RequestLog;
 
 /// The longest wait for events, in milliseconds.
 const LONGEST_WAIT_MILLIS: i32 = 500;
 
 /// The same while no client is accepted.
-const LONGEST_WAIT_IN_PAUSE_MILLIS: i32 = 100;
+const LONGEST_WAIT_IN_PAUSE_MILLIS: i32 = 20;
 
-impl<'a, P: EndpointPorts> EventLoop<'a, P> {
+impl<'a, P: EndpointPorts, L: RequestLog> EventLoop<'a, P, L> {
     /// The longest wait for events: none if a client is to be served, or may enter.
     pub(crate) fn longest_wait(&self) -> i32 {
-        let may_enter = self.queue.waiting() > 0 && self.queue.free() > 0;
+        let may_enter = self.queue.waiting() > 0 && self.queue.free() > 0 && !self.is_held_up;
         if !self.due.is_empty() || may_enter {
             0
         } else if self.accepts_at.is_some() {
@@ -32,31 +30,38 @@ impl<'a, P: EndpointPorts> EventLoop<'a, P> {
         for key in 0..self.clients.bound() {
             self.look(key);
         }
+        self.keep_bounds();
         self.endpoints.close_idle(self.now);
         self.endpoints.close_scaled_down();
     }
 
     fn look(&mut self, key: usize) {
         let is_over = has_come(self.closes_at, self.now);
+        let is_grace_over = has_come(self.grace_until, self.now);
         let Some(client) = self.clients.get_mut(key) else {
             return;
         };
         client.sides.look(self.now);
         if is_over {
             client.sides.fail();
+        } else if is_grace_over {
+            self.end_if_silent(key);
         }
         self.watch(key);
         self.make_due(key);
     }
 
-    /// Begins a shutdown: no client is accepted any more, no connection is kept, and idle ones are closed.
-    pub(crate) fn begin_closing(&mut self, listener: &TcpListener) {
+    /// Begins a shutdown: the clients of the backlog are accepted, and no others; no connection is kept, and idle ones are
+    /// closed.
+    pub(crate) fn begin_closing(&mut self) {
         if self.closes_at.is_some() {
             return;
         }
-        self.set.remove(listener.as_raw_fd());
-        close_listener(listener);
+        self.accept_backlog();
+        self.unwatch_listener();
+        self.port.close();
         self.endpoints.keep_none();
+        self.grace_until = Some(self.now.saturating_add(self.settings.grace_millis));
         self.closes_at = Some(self.now.saturating_add(self.settings.closing_millis));
         for key in 0..self.clients.bound() {
             if let Some(client) = self.clients.get_mut(key) {
@@ -66,9 +71,9 @@ impl<'a, P: EndpointPorts> EventLoop<'a, P> {
         }
     }
 
-    /// Whether a shutdown has begun, and no client is left.
+    /// Whether no further client is accepted, and none is left.
     pub(crate) fn is_over(&self) -> bool {
-        self.closes_at.is_some() && self.clients.is_empty()
+        self.port.is_closed() && self.clients.is_empty()
     }
 
     /// Lets the keys of closed connections be given again.

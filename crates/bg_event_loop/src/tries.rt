@@ -1,9 +1,10 @@
 //! The ports that are dialled for one request.
-ghost use Rattle.std.specs.Prelude.{◌≡◌, [], Some, if◌then◌else◌};
+ghost use Rattle.std.specs.Prelude.{◌≡◌, ◌+◌, ◌-◌, ◌^◌, [], Some, if◌then◌else◌, length, min};
 ghost use Rattle.bg_event_loop.specs.Tries.{TriesNext, tried};
 
 use crate::endpoint_ports::EndpointPorts;
 use bg_endpoint_side::{DialFault, Health};
+use bg_forward::Route;
 use std::alloc::Global;
 
 /// The ports that were chosen for a request, one after the other.
@@ -44,6 +45,19 @@ impl Tries {
         ensures { result ≡ self.now.port }
     {
         self.port
+    }
+
+    /// The port that was chosen last, and the number of ports that were chosen.
+    pub(crate) fn route(&self) -> Route
+        ensures port { result.port ≡ self.now.port }
+        ensures tries { result.tries ≡ min (1 + length self.now.failed.items) (2 ^ 32 - 1) }
+    {
+        Route {
+            port: self.port,
+            tries: u32::try_from(self.failed.len())
+                .unwrap_or(u32::MAX)
+                .saturating_add(1),
+        }
     }
 
     /// Chooses the port that is dialled next, since the dial of the last one failed, and counts the request there. Gives

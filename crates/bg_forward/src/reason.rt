@@ -93,7 +93,7 @@ impl Reason {
     }
 
     /// The reason for a request with this fault; `None` if its client is not answered.
-    pub(crate) fn of_request(fault: RequestFault) -> Option<Reason>
+    pub fn of_request(fault: RequestFault) -> Option<Reason>
         ensures reason { result ≡ request_reason fault }
         ensures status { option_map reason_status result ≡ request_status fault }
     {
@@ -108,7 +108,7 @@ impl Reason {
     }
 
     /// The reason for a request that may not enter.
-    pub(crate) fn of_enter(fault: EnterFault) -> Reason
+    pub fn of_enter(fault: EnterFault) -> Reason
         ensures reason { result ≡ enter_reason fault }
         ensures status { reason_status result ≡ 503 }
     {
@@ -121,7 +121,7 @@ impl Reason {
     }
 
     /// The reason for a request whose response has this fault.
-    pub(crate) fn of_response(fault: ResponseFault) -> Reason
+    pub fn of_response(fault: ResponseFault) -> Reason
         ensures reason { result ≡ response_reason fault }
         ensures status { reason_status result ≡ response_status fault }
     {

@@ -10,6 +10,6 @@ mod ports;
 mod socket_mode;
 
 pub use bind_fault::BindFault;
-pub use descriptors::FewDescriptors;
+pub use descriptors::{FewDescriptors, bounds_of};
 pub use notices::Notices;
-pub use ports::{Ports, preview_workers, service_name};
+pub use ports::{ClientServing, Ports, preview_workers, service_name};

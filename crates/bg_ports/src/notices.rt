@@ -5,6 +5,7 @@ use bg_access_log::{AccessLog, LogTrouble};
 use bg_client_port::ClientPort;
 use bg_command_line::ServeSettings;
 use bg_control_port::{ControlEvents, Entrance, Peer};
+use bg_loop_port::LoopPort;
 use bg_revisions::Service;
 use libc::STDERR_FILENO;
 use libc::net::{POLLOUT, poll};
@@ -217,6 +218,11 @@ impl<'p> Notices<'p> {
         &self.refused_lines
     }
 
+    /// The counter of the requests that are refused because the history is full.
+    pub fn refused_requests(&self) -> &AtomicU64 {
+        &self.refused_requests
+    }
+
     /// Counts a request that is refused because the history is full.
     pub fn note_refused_request(&self) {
         self.refused_requests.fetch_add(1, Ordering::SeqCst);
@@ -271,10 +277,14 @@ impl<'p> Notices<'p> {
 
     /// Checks a client port.
     fn check_port(&self, service: Service, is_late: bool) {
+        let name = service_name(service);
+        if let Some(port) = self.ports.loops_of(service) {
+            self.check_loop_port(port, service, name, is_late);
+            return;
+        }
         let Some(port) = self.ports.of(service) else {
             return;
         };
-        let name = service_name(service);
         if port.take_accept_failure() {
             self.write(&Notice::AcceptsFail { port: name });
         }
@@ -283,6 +293,25 @@ impl<'p> Notices<'p> {
             self.write_once(&written.used_up, &Notice::UsedUp { port: name });
         } else if is_late {
             self.check_threads(port, service);
+        }
+    }
+
+    /// Checks a client port that event loops serve.
+    fn check_loop_port(
+        &self,
+        client_port: &LoopPort,
+        service: Service,
+        port: &'static str,
+        is_late: bool,
+    ) {
+        if client_port.take_accept_failure() {
+            self.write(&Notice::AcceptsFail { port });
+        }
+        let written = self.written_of(service);
+        if client_port.is_closed() {
+            self.write_once(&written.used_up, &Notice::UsedUp { port });
+        } else if is_late && client_port.loops_begun() == 0 {
+            self.write_once(&written.event_loop, &Notice::NoEventLoop { port });
         }
     }
 

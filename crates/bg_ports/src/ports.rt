@@ -9,6 +9,7 @@ use bg_client_port::{Bounds, ClientPort, ClientPortSettings};
 use bg_command_line::{Connections, ServeSettings};
 use bg_control_port::{ControlPort, SocketFile};
 use bg_endpoints::OwnPorts;
+use bg_loop_port::{LoopPort, LoopPortSettings};
 use bg_peers::Users;
 use bg_revisions::Service;
 use std::alloc::Global;
@@ -17,11 +18,38 @@ use std::rt::Files;
 use std::sync::Wait;
 use std::time::Clock;
 
+/// How clients are served.
+#[derive(Clone, Copy, Drop)]
+pub struct ClientServing {
+    /// The timeout of a client's request, in seconds.
+    pub request_seconds: u64,
+    /// Whether event loops serve clients; otherwise workers do.
+    pub by_loops: bool,
+}
+
+/// A client port, and who serves it.
+#[derive(Drop)]
+enum ServedPort {
+    /// Workers, which are given requests that are over.
+    Workers(ClientPort),
+    /// Event loops.
+    Loops(LoopPort),
+}
+
+impl ServedPort {
+    fn close<R: Clock + Wait>(&self, rt: &R) {
+        match self {
+            ServedPort::Workers(port) => port.close(rt),
+            ServedPort::Loops(port) => port.shut_down(),
+        }
+    }
+}
+
 /// The ports on 127.0.0.1, and the control socket.
 #[derive(Drop)]
 pub struct Ports {
-    active: ClientPort,
-    preview: Option<ClientPort>,
+    active: ServedPort,
+    preview: Option<ServedPort>,
     /// The port and the socket at which operators connect.
     pub control: ControlPort,
     /// The file of the control socket, if there is one.
@@ -32,14 +60,14 @@ pub struct Ports {
 
 impl Ports {
     /// Listens at the ports of the settings, which are bound in the order active, preview, control, and then at the control
-    /// socket. `request_seconds` is the timeout of a client's request. The control port serves the connections of
-    /// `operators`; `None` stands for all users. The error names the first port or the socket that cannot be
-    /// bound. If all are bound, it names the first one for which another system call or an allocation fails.
+    /// socket. The control port serves the connections of `operators`; `None` stands for all users. The error names the first
+    /// port or the socket that cannot be bound. If all are bound, it names the first one for which another system call or an
+    /// allocation fails.
     pub fn bind<'a, R>(
         rt: &R,
         alloc: Global,
         settings: &ServeSettings<'a>,
-        request_seconds: u64,
+        serving: ClientServing,
         operators: Option<Users>,
     ) -> Result<Ports, BindFault<'a>>
     where
@@ -50,10 +78,11 @@ impl Ports {
         let clients = ClientPorts {
             alloc,
             connections: settings.connections,
-            request_seconds,
+            request_seconds: serving.request_seconds,
             grace_seconds: u64::from(settings.shutdown_grace),
             aborts_on_close: settings.abort_on_close,
             bounds: bounds_of(settings),
+            by_loops: serving.by_loops,
         };
         let active = clients.port(rt, &addresses.active, listeners.active, settings.workers)?;
         let workers = settings.preview_workers;
@@ -88,8 +117,23 @@ impl Ports {
         }
     }
 
-    /// The port of a service, if it has one.
+    /// The port of a service, if it has one that workers serve.
     pub fn of(&self, service: Service) -> Option<&ClientPort> {
+        match self.served(service)? {
+            ServedPort::Workers(port) => Some(port),
+            ServedPort::Loops(_) => None,
+        }
+    }
+
+    /// The port of a service, if it has one that event loops serve.
+    pub fn loops_of(&self, service: Service) -> Option<&LoopPort> {
+        match self.served(service)? {
+            ServedPort::Workers(_) => None,
+            ServedPort::Loops(port) => Some(port),
+        }
+    }
+
+    fn served(&self, service: Service) -> Option<&ServedPort> {
         match service {
             Service::Active => Some(&self.active),
             Service::Preview => self.preview.as_ref(),
@@ -116,6 +160,7 @@ struct ClientPorts {
     grace_seconds: u64,
     aborts_on_close: bool,
     bounds: Bounds,
+    by_loops: bool,
 }
 
 impl ClientPorts {
@@ -143,9 +188,17 @@ impl ClientPorts {
         address: &Address,
         listener: TcpListener,
         workers: u16,
-    ) -> Result<ClientPort, BindFault<'a>> {
+    ) -> Result<ServedPort, BindFault<'a>> {
         let settings = self.settings(workers);
-        address.or_fault(ClientPort::new(rt, self.alloc, listener, settings))
+        if self.by_loops {
+            let settings = LoopPortSettings {
+                concurrency: u64::from(workers),
+                connections: settings.connections,
+            };
+            return Ok(ServedPort::Loops(address.or_fault(LoopPort::new(listener, settings))?));
+        }
+        let port = ClientPort::new(rt, self.alloc, listener, settings);
+        Ok(ServedPort::Workers(address.or_fault(port)?))
     }
 
     /// The port of the preview service, if there is one.
@@ -155,7 +208,7 @@ impl ClientPorts {
         addresses: &Addresses<'a>,
         listener: Option<TcpListener>,
         workers: u16,
-    ) -> Result<Option<ClientPort>, BindFault<'a>> {
+    ) -> Result<Option<ServedPort>, BindFault<'a>> {
         match (&addresses.preview, listener) {
             (Some(address), Some(listener)) => {
                 Ok(Some(self.port(rt, address, listener, workers)?))

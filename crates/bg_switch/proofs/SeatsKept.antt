@@ -3,6 +3,7 @@ use Rattle.std.proofs.Common.{◌≡◌, ℕ, suc, List, [], ◌∷◌, ◌++◌
 use Rattle.std.specs.Prelude.{slice_get}
 use Rattle.bg_ledger.specs.declared.holding.Holding.{Holding}
 use Rattle.bg_rollout.specs.Gathering.{are_all, are_from, indices}
+use Rattle.bg_event_loop.specs.Seats.{AllServed}
 use Rattle.bg_forward.specs.Seats.{AllWorked}
 
 same_indices : (old new : List Holding) → length new ≡ length old
@@ -17,11 +18,18 @@ same_indices (x ∷ xs) (y ∷ ys) e h =
     ap (λ (n : ℕ). n ∷ indices ys) head ∙ ap (λ (l : List ℕ). x.index ∷ l) rest
 
 -- the vector's seats, after they were borrowed as `old` and returned as `new`
-pub still_all : (seats count len : ℕ) (items old new rest : List Holding) → are_all seats items ≡ true → old ≡ items → len ≡ length items
-    → AllWorked count old new → are_all seats (take len (new ++ rest)) ≡ true
-still_all seats count len items old new rest all same long worked =
+pub still_all : (seats len : ℕ) (items old new rest : List Holding) → are_all seats items ≡ true → old ≡ items → len ≡ length items
+    → AllServed old new → are_all seats (take len (new ++ rest)) ≡ true
+still_all seats len items old new rest all same long worked =
     let as_many : length new ≡ length old = worked.as_many in
     let lent : length old ≡ length items = ap length same in
     let back : take len (new ++ rest) ≡ new = take_at new rest len (omega arith) in
-    let kept : indices new ≡ indices old = same_indices old new as_many (λ i before after p q. (worked.each i before after p q).index) in
+    let kept : indices new ≡ indices old = same_indices old new as_many (λ i before after p q. (worked.each i before after p q).1.index) in
     ap (are_all seats) back ∙ (ap (are_from 0 seats) kept ∙ (ap (are_all seats) same ∙ all))
+
+-- a worker serves at most so many connections, so each seat has served some
+pub served_by_workers : (count : ℕ) (old new : List Holding) → AllWorked count old new → AllServed old new
+served_by_workers count old new worked = record {
+  as_many = worked.as_many;
+  each = λ i before after p q. (count, worked.each i before after p q);
+}

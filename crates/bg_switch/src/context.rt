@@ -1,7 +1,7 @@
 //! What the threads of `serve` share.
 
 use bg_access_log::AccessLog;
-use bg_command_line::MessageTimeout;
+use bg_command_line::{MessageTimeout, ServeSettings};
 use bg_endpoints::Directory;
 use bg_forward::RefusalBody;
 use bg_ports::{Notices, Ports};
@@ -21,6 +21,10 @@ pub struct ServeContext<'a, R> {
     pub seats: u32,
     /// How many of these workers serve the preview service.
     pub previews: u32,
+    /// The number of event loops that serve the active port; `None` stands for workers.
+    pub loops: Option<u32>,
+    /// What the words of the command line set.
+    pub words: &'a ServeSettings<'a>,
     /// The maximum number of connections that each worker takes.
     pub count: u64,
     /// Whether `quit` begins a graceful shutdown of the client ports.

@@ -8,7 +8,9 @@ use bg_command_line::{Connections, MessageTimeout, ServeSettings};
 use bg_endpoints::{Directory, Share};
 use bg_forward::RefusalBody;
 use bg_peers::Users;
-use bg_ports::{BindFault, FewDescriptors, Notices, Ports, preview_workers, service_name};
+use bg_ports::{
+    BindFault, ClientServing, FewDescriptors, Notices, Ports, preview_workers, service_name,
+};
 use bg_revisions::Service;
 use bg_script::{Finding, RunEnd, finding_of_input, write_finding};
 use bg_strategy::Strategy;
@@ -33,6 +35,8 @@ pub struct RunSettings<'l, 'w> {
     pub log: Option<&'l AccessLog>,
     /// The users whose connections the control port serves; `None` stands for all users.
     pub operators: Option<Users>,
+    /// The number of event loops that serve the active port; `None` stands for workers.
+    pub loops: Option<u32>,
 }
 
 /// Reads the whole input as the JSON text of a strategy, and serves clients by this strategy and by the
@@ -115,12 +119,14 @@ fn bind_ports<'w, R>(
 where
     R: Files + Net<Listener = TcpListener, Stream = TcpStream> + Clock,
 {
-    let request_seconds = settings.timeout.seconds();
     Ports::bind(
         rt,
         settings.alloc,
         &settings.words,
-        request_seconds,
+        ClientServing {
+            request_seconds: settings.timeout.seconds(),
+            by_loops: settings.loops.is_some(),
+        },
         operators,
     )
 }
@@ -141,7 +147,7 @@ where
     let most_entries = Limits::usual().entries;
     let notices = Notices::new(settings.alloc, ports, words, settings.log, most_entries);
     let previews = preview_workers(words);
-    let seats = u32::from(words.workers).saturating_add(previews);
+    let seats = seats_of(words.workers, settings.loops).saturating_add(previews);
     let directory = directory_of(rt, settings.alloc, words, seats);
     let context = ServeContext {
         rt,
@@ -150,6 +156,8 @@ where
         ports,
         seats,
         previews,
+        loops: settings.loops,
+        words,
         count: most_connections(words.connections),
         shuts_down: words.connections == Connections::Forever,
         timeout: settings.timeout,
@@ -159,6 +167,18 @@ where
         notices: &notices,
     };
     await_open(&context, output)
+}
+
+/// The most seats of the active service, so that those of both services are at most 2,048.
+const MOST_SEATS: u32 = 1_024;
+
+/// The number of seats of the active service with so many workers, or with so many event loops. Each loop has as many as
+/// requests may be inside at a time, if there are so many.
+fn seats_of(workers: u16, loops: Option<u32>) -> u32 {
+    let workers = u32::from(workers);
+    workers
+        .saturating_mul(loops.unwrap_or(1))
+        .min(workers.max(MOST_SEATS))
 }
 
 /// The maximum number of connections that each worker takes.
@@ -213,18 +233,24 @@ fn write_few_descriptors<E: Write>(settings: &ServeSettings, errors: &mut E) {
 /// Writes how many responses were cut at each client port, if any were.
 fn write_cut_responses<R: Wait, E: Write>(rt: &R, ports: &Ports, errors: &mut E) {
     for service in [Service::Active, Service::Preview] {
+        let name = service_name(service);
         if let Some(port) = ports.of(service) {
             let cut = port.take_cut_responses(rt);
-            if cut.responses > 0 {
-                let _ = writeln!(
-                    errors,
-                    "bg_switch: responses of the {} port that were cut: {}, bytes that were not written: {}",
-                    service_name(service),
-                    cut.responses,
-                    cut.bytes
-                );
-            }
+            write_cut(name, cut.responses, cut.bytes, errors);
+        } else if let Some(port) = ports.loops_of(service) {
+            let cut = port.take_cut_answers();
+            write_cut(name, cut.answers, cut.bytes, errors);
         }
+    }
+}
+
+/// Writes that so many responses of a port were cut, if any were.
+fn write_cut<E: Write>(port: &str, responses: u64, bytes: u64, errors: &mut E) {
+    if responses > 0 {
+        let _ = writeln!(
+            errors,
+            "bg_switch: responses of the {port} port that were cut: {responses}, bytes that were not written: {bytes}"
+        );
     }
 }
 

@@ -1,9 +1,11 @@
 //! Runs the workers and the operators in parallel.
-ghost use Rattle.std.specs.Prelude.{◌≡◌, IfOk, length, vec_len};
+ghost use Rattle.std.specs.Prelude.{◌≡◌, IfOk, None, length, vec_len};
+ghost use Rattle.bg_event_loop.specs.Seats.{AllServed};
 ghost use Rattle.bg_forward.specs.Seats.{AllOut, AllWorked};
 ghost use Rattle.bg_switch.specs.Services.{services_in};
 
 use crate::context::ServeContext;
+use crate::loops::serve_by_loops;
 use crate::operators::{Operator, answer_operators};
 use bg_book::Desk;
 use bg_clients::Clients;
@@ -33,6 +35,13 @@ pub fn services_of(alloc: Global, workers: u32, previews: u32) -> Result<Vec<Ser
     Ok(services)
 }
 
+/// Who serves clients: so many event loops, or workers, each for at most so many connections.
+#[derive(Clone, Copy, Drop)]
+struct Serving {
+    loops: Option<u32>,
+    count: u64,
+}
+
 /// Runs the workers with the event loops of their ports, and answers operators in parallel. Returns
 /// when all are done.
 pub fn work_beside_operators<'a, N: Names + Send + Sync, R>(
@@ -46,15 +55,20 @@ where
     R: Net<Listener = TcpListener, Stream = TcpStream> + Threads + Wait + Clock + Sync,
     requires out { AllOut seats.old }
     requires services { length services.now ≡ length seats.old }
-    ensures { AllWorked context.now.count seats.old seats.new }
+    ensures served { AllServed seats.old seats.new }
+    ensures worked { context.now.loops ≡ None → AllWorked context.now.count seats.old seats.new }
 {
-    let count = context.count;
+    let serving = Serving {
+        loops: context.loops,
+        count: context.count,
+    };
     join_mut(
         context.rt,
         &mut ||
             requires { AllOut seats.now × (length services.now ≡ length seats.now) }
-            ensures { AllWorked count seats.entry.now seats.exit.now }
-        { work_beside_side_threads(context, desk, services, seats, count) },
+            ensures served { AllServed seats.entry.now seats.exit.now }
+            ensures worked { serving.loops ≡ None → AllWorked serving.count seats.entry.now seats.exit.now }
+        { work_beside_side_threads(context, desk, services, seats, serving) },
         &mut || run_operators(context, desk, operator),
     );
 }
@@ -73,33 +87,59 @@ fn run_operators<'a, N: Names, R: Clock + Wait>(
     }
 }
 
-/// Runs the workers, each for at most this many connections, and in parallel the event loops of their ports and the
-/// writer of the access log. Returns when all are done.
+/// Serves the clients of both services, and in parallel runs the event loops of the workers' ports and the writer of the
+/// access log. Returns when all are done.
 fn work_beside_side_threads<N: Names + Send + Sync, R>(
     context: &ServeContext<R>,
     desk: &Desk<N>,
     services: &[Service],
     seats: &mut [Seat<N>],
-    count: u64,
+    serving: Serving,
 )
 where
     R: Net<Listener = TcpListener, Stream = TcpStream> + Threads + Wait + Clock + Sync,
     requires out { AllOut seats.old }
     requires services { length services.now ≡ length seats.old }
-    ensures { AllWorked count seats.old seats.new }
+    ensures served { AllServed seats.old seats.new }
+    ensures worked { serving.loops ≡ None → AllWorked serving.count seats.old seats.new }
 {
     join_mut(
         context.rt,
         &mut || run_side_threads(context),
         &mut ||
             requires { AllOut seats.now × (length services.now ≡ length seats.now) }
-            ensures { AllWorked count seats.entry.now seats.exit.now }
-        { work(context, desk, services, seats, count) },
+            ensures served { AllServed seats.entry.now seats.exit.now }
+            ensures worked { serving.loops ≡ None → AllWorked serving.count seats.entry.now seats.exit.now }
+        { work(context, desk, services, seats, serving) },
     );
 }
 
-/// Runs the workers, each for at most this many connections, and then ends the writer of the access log.
+/// Serves the clients of both services, and then ends the writer of the access log.
 fn work<'a, N: Names + Send + Sync, R>(
+    context: &'a ServeContext<'a, R>,
+    desk: &'a Desk<N>,
+    services: &[Service],
+    seats: &mut [Seat<N>],
+    serving: Serving,
+)
+where
+    R: Net<Listener = TcpListener, Stream = TcpStream> + Threads + Wait + Clock + Sync,
+    requires out { AllOut seats.old }
+    requires services { length services.now ≡ length seats.old }
+    ensures served { AllServed seats.old seats.new }
+    ensures worked { serving.loops ≡ None → AllWorked serving.count seats.old seats.new }
+{
+    match serving.loops {
+        Some(loops) => serve_by_loops(context, desk, loops, seats),
+        None => serve_by_workers(context, desk, services, seats, serving.count),
+    }
+    if let Some(log) = context.log {
+        log.end();
+    }
+}
+
+/// Runs the workers, each for at most this many connections.
+fn serve_by_workers<'a, N: Names + Send + Sync, R>(
     context: &'a ServeContext<'a, R>,
     desk: &'a Desk<N>,
     services: &[Service],
@@ -110,7 +150,8 @@ where
     R: Net<Listener = TcpListener, Stream = TcpStream> + Threads + Wait + Clock + Sync,
     requires out { AllOut seats.old }
     requires services { length services.now ≡ length seats.old }
-    ensures { AllWorked count seats.old seats.new }
+    ensures served { AllServed seats.old seats.new }
+    ensures worked { AllWorked count seats.old seats.new }
 {
     let desk_gate = DeskGate::new(context.rt, desk);
     let clients = Clients {
@@ -131,9 +172,6 @@ where
         dial: &endpoints,
     };
     run_workers(context.rt, &workers, seats, services, count);
-    if let Some(log) = context.log {
-        log.end();
-    }
 }
 
 /// A thread beside those of the workers and the operators.
@@ -179,7 +217,8 @@ fn run_event_loop<R: Wait + Clock>(context: &ServeContext<R>, service: Service) 
     }
 }
 
-fn response_timeout(timeout: MessageTimeout) -> ResponseTimeout {
+/// The timeout of an endpoint's response.
+pub(crate) fn response_timeout(timeout: MessageTimeout) -> ResponseTimeout {
     ResponseTimeout {
         seconds: timeout.seconds(),
         is_given: matches!(timeout, MessageTimeout::Given(_)),

@@ -22,7 +22,7 @@ pub fn carry_out_orders<'a, N: Names, R: Input + Wait>(run: &Run<'a, R>, desk: &
             break;
         }
     }
-    run.shutdown.begin();
+    run.port.shut_down();
 }
 
 /// Carries out an order. Gives whether it is one; a shutdown is not.

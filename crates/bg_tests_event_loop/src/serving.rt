@@ -7,12 +7,15 @@ ghost use Rattle.bg_rollout.specs.Gathering.{indices};
 use crate::orders::carry_out_orders;
 use crate::stop::Stop;
 use crate::words::Words;
+use bg_access_log::AccessLog;
 use bg_book::{Book, Control, Desk, Limits, RolloutOpening};
+use bg_clients::ServiceLog;
 use bg_endpoints::{Directory, OwnPorts, PortList, PortLists, Share};
-use bg_event_loop::{BookPorts, LoopContext, LoopSettings, Shutdown, run_event_loop};
+use bg_event_loop::{BookPorts, LoopContext, LoopSettings, run_event_loop};
 use bg_forward::DeskGate;
 use bg_http::Persistence;
 use bg_ledger::{Blanks, Names, Seat};
+use bg_loop_port::{LoopPort, LoopPortSettings};
 use bg_revisions::Service;
 use bg_strategy::Strategy;
 use bg_strategy_text::read;
@@ -20,6 +23,7 @@ use std::alloc::{AllocError, Global};
 use std::marker::Brand;
 use std::net::TcpListener;
 use std::sync::Wait;
+use std::sync::atomic::AtomicU64;
 use std::thread::{Threads, join_mut};
 use std::time::Clock;
 
@@ -38,35 +42,45 @@ const TWO: &[u8] =
 pub struct Run<'a, R> {
     pub rt: &'a R,
     pub alloc: Global,
-    pub listener: &'a TcpListener,
-    pub shutdown: &'a Shutdown,
+    pub port: &'a LoopPort,
     /// The directory of the endpoints, if a request may be dialled at another port than its ticket's.
     pub directory: Option<&'a Directory>,
     pub strategy: &'a Strategy,
+    pub log: &'a AccessLog,
     pub words: &'a Words,
 }
 
 /// Serves clients of the listener as the words say. Returns after a shutdown, which the end of the input begins, and gives
 /// how many requests entered.
-pub fn serve<R>(rt: &R, listener: &TcpListener, words: &Words) -> Result<u64, Stop>
+pub fn serve<R>(rt: &R, listener: TcpListener, words: &Words) -> Result<u64, Stop>
 where
     R: AllocGlobal + Input + Threads + Wait + Clock + Sync,
 {
     let alloc = rt.alloc();
-    let shutdown = Shutdown::new()?;
+    let port = LoopPort::new(
+        listener,
+        LoopPortSettings {
+            concurrency: u64::from(SEATS),
+            connections: None,
+        },
+    )?;
     let directory = directory_for(rt, alloc, words)?;
+    let log = AccessLog::open(alloc, words.log.as_str())?;
     let strategy = read(alloc, if words.endpoints.len() == 1 { ONE } else { TWO })?;
     let run = Run {
         rt,
         alloc,
-        listener,
-        shutdown: &shutdown,
+        port: &port,
         directory: directory.as_ref(),
         strategy: &strategy,
+        log: &log,
         words,
     };
     let blanks = Blanks::new();
-    open_and_serve::<Brand, R>(&run, blanks)
+    let entered = open_and_serve::<Brand, R>(&run, blanks);
+    log.end();
+    log.run_writer(rt);
+    entered
 }
 
 /// A directory with the list of the first revision, if a request may be dialled at another port than its ticket's.
@@ -181,12 +195,21 @@ fn serve_seats<'a, N: Names, R: Wait + Clock>(
             control: None,
         },
     };
+    let refused_for_room = AtomicU64::new(0);
+    let log = ServiceLog {
+        rt: run.rt,
+        alloc: run.alloc,
+        service: Service::Active,
+        log: Some(run.log),
+        redispatches: run.words.redispatches,
+        refused_for_room: &refused_for_room,
+    };
     let context = LoopContext {
         alloc: run.alloc,
         gate: &gate,
         ports: &ports,
-        listener: run.listener,
-        shutdown: run.shutdown,
+        log: &log,
+        port: run.port,
         settings: settings_of(run.words),
     };
     run_event_loop(run.rt, &context, seats).is_ok()

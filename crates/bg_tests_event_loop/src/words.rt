@@ -15,6 +15,8 @@ pub struct Words {
     pub refusal_body: RefusalBody,
     /// Whether a request may be dialled at another port than its ticket's.
     pub redispatches: bool,
+    /// The path of the access log.
+    pub log: String,
     /// The port of the endpoint of a second revision.
     pub next: u16,
     /// The ports of the endpoints of the first revision: one or two.
@@ -30,6 +32,7 @@ impl Words {
             persistence,
             refusal_body,
             dials,
+            log,
             next,
             endpoints @ ..,
         ] = texts
@@ -41,6 +44,7 @@ impl Words {
             persistence: persistence_of(persistence)?,
             refusal_body: refusal_body_of(refusal_body)?,
             redispatches: redispatches_of(dials)?,
+            log: log.clone()?,
             next: port_of(next)?,
             endpoints: endpoints_of(alloc, endpoints)?,
         })

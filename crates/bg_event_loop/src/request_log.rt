@@ -1,0 +1,42 @@
+//! Where the ends of requests are logged.
+
+use bg_forward::Served;
+
+/// The method and the target of a request, as they came.
+#[derive(Clone, Copy, Drop)]
+pub struct RequestLine<'a> {
+    pub method: &'a [u8],
+    pub target: &'a [u8],
+}
+
+/// A request that is over, or what came of one before its connection ended. Times are milliseconds.
+#[derive(Drop)]
+pub struct EndedRequest<'a> {
+    pub served: Served,
+    /// The method and the target, if the head of the request was parsed.
+    pub line: Option<RequestLine<'a>>,
+    /// Whether the request was refused although its head passes all rules.
+    pub is_head_sound: bool,
+    /// The number of bytes that came since the request before it on its connection was over.
+    pub request_bytes: u64,
+    /// The number of bytes of its answer. They may not be written yet. 0 if writing the answer failed at once.
+    pub response_bytes: u64,
+    /// The time since its connection was accepted, or, of a later request of a connection, since its first byte came.
+    pub duration_millis: u64,
+    /// The time from when it entered to its answer; `None` if it did not enter, or was not answered.
+    pub response_millis: Option<u64>,
+}
+
+/// Where the ends of requests are logged. All loops share it.
+///
+/// No method takes a handle. A log that waits for a lock has its own handle, so that its callers see no lock.
+pub trait RequestLog {
+    /// Whether the methods and the targets of requests are logged. They are copied only then.
+    fn logs_lines(&self) -> bool;
+
+    /// Logs a request that is over.
+    fn add(&self, ended: &EndedRequest<'_>);
+
+    /// Counts a connection that ended without having sent a byte.
+    fn note_silent(&self);
+}

@@ -1,0 +1,154 @@
+//! How a loop keeps the bounds on its connections and its memory.
+
+use crate::client::Client;
+use crate::endpoint_ports::EndpointPorts;
+use crate::event_loop::EventLoop;
+use crate::request_log::RequestLog;
+use bg_load::{Activity, Among};
+use bg_sockets::is_drained;
+
+impl Client {
+    /// What the connection does now.
+    fn activity(&self) -> Activity {
+        let connection = self.sides.client();
+        let left = connection.rest().len();
+        let written = self.answer_size.saturating_sub(left) as u64;
+        if connection.is_inside() {
+            Activity::Inside
+        } else if left > 0 {
+            Activity::Answering {
+                weight: self.answer_size as u64,
+                written,
+            }
+        } else if self.is_lingering {
+            Activity::Lingering {
+                moved: written.saturating_add(self.discarded),
+            }
+        } else if self.record.is_whole() {
+            Activity::Waiting(self.record.bytes())
+        } else if connection.is_idle() {
+            Activity::Idle
+        } else {
+            Activity::Arriving(self.record.bytes())
+        }
+    }
+}
+
+impl<'a, P: EndpointPorts, L: RequestLog> EventLoop<'a, P, L> {
+    /// Notes what a connection does now.
+    pub(crate) fn observe(&mut self, key: usize) {
+        if let Some(client) = self.clients.get(key) {
+            self.loads.observe(key, client.activity(), self.now);
+        }
+    }
+
+    /// Closes a connection. If its request is inside, the request is given up.
+    fn close(&mut self, key: usize) {
+        if let Some(client) = self.clients.get_mut(key) {
+            client.sides.fail();
+        }
+        self.remove_if_left(key);
+        self.make_due(key);
+    }
+
+    /// Whether a further connection may be accepted. A full loop makes room: it closes the connection that is idle for the
+    /// longest time, or else one that makes too little progress.
+    pub(crate) fn has_room(&mut self) -> bool {
+        if !self.loads.is_full() {
+            return true;
+        }
+        let key = match self.loads.oldest_idle() {
+            Some(key) => key,
+            None => match self.loads.slowest(self.among_whom(), self.now) {
+                Some(key) => key,
+                None => return false,
+            },
+        };
+        self.close(key);
+        !self.loads.is_full()
+    }
+
+    /// The connections among which a slow one makes room: those that were answered, if responses take too much memory.
+    fn among_whom(&self) -> Among {
+        if self.loads.totals().response_bytes / 2 > self.settings.loads.response_bytes {
+            Among::Responses
+        } else {
+            Among::All
+        }
+    }
+
+    /// Closes slow connections while requests or responses take too much memory, and pauses large requests.
+    pub(crate) fn keep_bounds(&mut self) {
+        self.free_responses();
+        self.free_stuck();
+        self.regulate();
+        self.free_stalled();
+        self.regulate();
+    }
+
+    /// If responses take too much memory, closes slow connections until they take at most three quarters of the bound, or until
+    /// none is slow.
+    fn free_responses(&mut self) {
+        let most = self.settings.loads.response_bytes;
+        if self.loads.totals().response_bytes <= most {
+            return;
+        }
+        for _ in 0..self.clients.bound() {
+            if self.loads.totals().response_bytes <= most / 4 * 3 {
+                return;
+            }
+            match self.loads.slowest(Among::Responses, self.now) {
+                Some(key) => self.close(key),
+                None => return,
+            }
+        }
+    }
+
+    /// If requests take too much memory, closes connections with large ones that are slow although none of their bytes wait to
+    /// be read.
+    fn free_stuck(&mut self) {
+        let mut from = 0;
+        for _ in 0..self.clients.bound() {
+            let Some(key) = self.loads.stuck_from(from, self.now) else {
+                return;
+            };
+            if self.has_no_input(key) {
+                self.close(key);
+            }
+            from = key.saturating_add(1);
+        }
+    }
+
+    /// Whether no byte of a client waits to be read.
+    fn has_no_input(&self, key: usize) -> bool {
+        match self.clients.get(key) {
+            Some(client) => is_drained(&client.stream),
+            None => false,
+        }
+    }
+
+    /// If none of the large requests that go on makes progress while others are paused for them, closes the connections of those
+    /// that have made none for the longest time.
+    fn free_stalled(&mut self) {
+        for _ in 0..self.clients.bound() {
+            match self.loads.stalled(self.now) {
+                Some(key) => self.close(key),
+                None => return,
+            }
+        }
+    }
+
+    /// Pauses and resumes large requests.
+    pub(crate) fn regulate(&mut self) {
+        for _ in 0..self.clients.bound() {
+            let Some(key) = self.loads.regulate(self.now) else {
+                return;
+            };
+            let is_paused = self.loads.is_paused(key);
+            if let Some(client) = self.clients.get_mut(key) {
+                client.is_paused = is_paused;
+            }
+            self.make_due(key);
+        }
+    }
+}

@@ -1,0 +1,11 @@
+pub mod Activities
+pub mod Changes
+pub mod Events
+pub mod Loads
+pub mod Paces
+pub mod Pauses
+pub mod Rankings
+pub mod Registers
+pub mod Room
+pub mod Stalls
+pub mod Totals

@@ -1,0 +1,27 @@
+-- Which connections are slow or idle, and when an event loop is full.
+use Rattle.std.specs.Prelude.{◌||◌, ℕ, ◌-◌, ◌/◌, Bool, nat_le, nat_lt, sum_by, Option, Some, None}
+use Rattle.bg_load.specs.Loads.{idle_load, slow_since}
+use Rattle.bg_load.specs.Registers.{Register}
+use Rattle.bg_load.specs.Totals.{connections_of, inside_of, response_bytes_of}
+use Rattle.bg_load.specs.declared.among.Among.{Among}
+use Rattle.bg_load.specs.declared.connection.Connection.{Connection}
+
+-- since when the connection of a place has made no progress, if it is slow, and among these
+abbrev pub slow_at : Among → ℕ → Option Connection → Option ℕ
+slow_at which now None = None
+slow_at which now (Some c) = slow_since which now c.load
+
+-- since when the connection of a place has been idle
+abbrev pub idle_since : Option Connection → Option ℕ
+idle_since None = None
+idle_since (Some c) = idle_load c.load
+
+-- the number of connections that hold no seat
+abbrev pub pending : Register → ℕ
+pending r = sum_by connections_of r.places - sum_by inside_of r.places
+
+-- no further connection is to be accepted for now
+abbrev pub is_full : Register → Bool
+is_full r =
+    nat_le r.settings.connections (pending r)
+    || nat_lt r.settings.response_bytes (sum_by response_bytes_of r.places / 2)

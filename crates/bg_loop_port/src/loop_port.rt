@@ -1,0 +1,255 @@
+//! A client port that event loops serve.
+
+use crate::accept::{Accepted, accept};
+use crate::admission::Admission;
+use bg_sockets::{Signal, set_backlog};
+use libc::net::{SHUT_RDWR, shutdown};
+use std::io;
+use std::net::TcpListener;
+use std::os::fd::{AsRawFd, RawFd};
+use std::sync::atomic::{AtomicBool, AtomicU64, AtomicUsize, Ordering};
+
+/// The number of accepts that fail in a row before they count as a connection.
+const FAILURES_OF_A_CONNECTION: u64 = 10;
+
+/// The settings of a client port.
+#[derive(Clone, Copy, Drop)]
+pub struct LoopPortSettings {
+    /// The most requests that are inside at a time, over all loops.
+    pub concurrency: u64,
+    /// The number of connections that the port accepts in all, at least 1; `None` stands for no limit. Ten accepts that fail in
+    /// a row count as one.
+    pub connections: Option<u64>,
+}
+
+/// A client port that event loops serve. They share it.
+pub struct LoopPort {
+    listener: TcpListener,
+    /// The number of connections for which no accept has begun, and of those that were not accepted.
+    free: AtomicU64,
+    untaken: AtomicU64,
+    has_limit: bool,
+    /// The number of accepts that have failed in a row.
+    failures: AtomicU64,
+    /// Whether no further connection is accepted.
+    is_closed: AtomicBool,
+    /// Whether a graceful shutdown has begun.
+    is_shut_down: AtomicBool,
+    /// What ends the waits of the loops.
+    signal: Signal,
+    admission: Admission,
+    /// The number of loops that have begun.
+    loops_begun: AtomicUsize,
+    /// Whether an accept has failed, and whether that was reported.
+    accept_failed: AtomicBool,
+    is_failure_reported: AtomicBool,
+    /// The number of answers of which a part was not written, and the bytes that were not.
+    cut_answers: AtomicU64,
+    cut_bytes: AtomicU64,
+}
+
+impl Drop for LoopPort {
+    /// Drops the fields by one call, so that the proofs of what owns a value are short (CONTRIBUTING.md, "What a check costs").
+    fn drop(self) {
+        let LoopPort {
+            listener: _,
+            free: _,
+            untaken: _,
+            has_limit: _,
+            failures: _,
+            is_closed: _,
+            is_shut_down: _,
+            signal: _,
+            admission: _,
+            loops_begun: _,
+            accept_failed: _,
+            is_failure_reported: _,
+            cut_answers: _,
+            cut_bytes: _,
+        } = self;
+    }
+}
+
+/// Answers that were not written to their end: their clients reset the connection, took too little for too long, or were
+/// closed by a timeout or for room.
+#[derive(Clone, Copy, PartialEq, Eq, Debug, Drop)]
+pub struct CutAnswers {
+    /// The number of answers.
+    pub answers: u64,
+    /// The number of bytes that were not written.
+    pub bytes: u64,
+}
+
+impl LoopPort {
+    /// The port of a listener, whose accepts do not wait from now on. An error if a system call fails.
+    pub fn new(listener: TcpListener, settings: LoopPortSettings) -> io::Result<LoopPort> {
+        listener.set_nonblocking(true)?;
+        set_backlog(&listener);
+        let most = settings.connections.unwrap_or(u64::MAX);
+        Ok(LoopPort {
+            listener,
+            free: AtomicU64::new(most),
+            untaken: AtomicU64::new(most),
+            has_limit: settings.connections.is_some(),
+            failures: AtomicU64::new(0),
+            is_closed: AtomicBool::new(false),
+            is_shut_down: AtomicBool::new(false),
+            signal: Signal::new()?,
+            admission: Admission::new(settings.concurrency),
+            loops_begun: AtomicUsize::new(0),
+            accept_failed: AtomicBool::new(false),
+            is_failure_reported: AtomicBool::new(false),
+            cut_answers: AtomicU64::new(0),
+            cut_bytes: AtomicU64::new(0),
+        })
+    }
+
+    /// Begins a graceful shutdown: the loops accept the clients that wait in the backlog, and no others, and end once their
+    /// clients have left.
+    pub fn shut_down(&self) {
+        self.is_shut_down.store(true, Ordering::SeqCst);
+        self.signal.post();
+    }
+
+    /// Whether a graceful shutdown has begun.
+    pub fn is_shut_down(&self) -> bool {
+        self.is_shut_down.load(Ordering::SeqCst)
+    }
+
+    /// Whether the port accepts no further connection: it has accepted its number of connections, or a shutdown has begun.
+    pub fn is_closed(&self) -> bool {
+        self.is_closed.load(Ordering::SeqCst)
+    }
+
+    /// Accepts no further connection: clients are refused from now on. The descriptor of the listener stays open, since loops
+    /// may watch it.
+    pub fn close(&self) {
+        if !self.is_closed.swap(true, Ordering::SeqCst) {
+            shutdown(self.listener.as_raw_fd(), SHUT_RDWR);
+            self.signal.post();
+        }
+    }
+
+    /// The descriptor of the listener, so that it can be watched.
+    pub fn descriptor(&self) -> RawFd {
+        self.listener.as_raw_fd()
+    }
+
+    /// The descriptor that is readable after a shutdown has begun, after the port was closed, or after a request has left
+    /// while another one waited. It is watched for edges.
+    pub fn signal_descriptor(&self) -> RawFd {
+        self.signal.descriptor()
+    }
+
+    /// Counts a request that enters, if fewer than the most requests are inside. If not, the signal comes once one has left.
+    pub fn admits(&self) -> bool {
+        self.admission.enter()
+    }
+
+    /// Notes that a request has left that was admitted.
+    pub fn note_left(&self) {
+        if self.admission.leave() {
+            self.signal.post();
+        }
+    }
+
+    /// The next client that waits, if a further connection may be accepted.
+    pub fn accept(&self) -> Accepted {
+        if self.is_closed() || !self.begin_accept() {
+            return Accepted::Nothing;
+        }
+        match accept(&self.listener) {
+            Accepted::Stream(stream) => {
+                self.failures.store(0, Ordering::SeqCst);
+                self.count_accepted();
+                Accepted::Stream(stream)
+            }
+            Accepted::Nothing => {
+                self.withdraw_accept();
+                Accepted::Nothing
+            }
+            Accepted::Failed => {
+                if self.is_closed() {
+                    return Accepted::Nothing;
+                }
+                self.accept_failed.store(true, Ordering::SeqCst);
+                self.note_failure();
+                Accepted::Failed
+            }
+        }
+    }
+
+    /// Counts an accept that begins, if a further connection may be accepted.
+    fn begin_accept(&self) -> bool {
+        !self.has_limit
+            || self
+                .free
+                .fetch_update(
+                    Ordering::SeqCst,
+                    Ordering::SeqCst,
+                    |free| free.checked_sub(1),
+                )
+                .is_ok()
+    }
+
+    /// Notes that an accept gave no connection.
+    fn withdraw_accept(&self) {
+        if self.has_limit {
+            self.free.fetch_add(1, Ordering::SeqCst);
+        }
+    }
+
+    /// Notes that an accept failed. Each tenth failure in a row counts as a connection, if their number is limited: a port
+    /// whose accepts always fail is closed, too.
+    fn note_failure(&self) {
+        let failures = self
+            .failures
+            .fetch_add(1, Ordering::SeqCst)
+            .saturating_add(1);
+        if failures % FAILURES_OF_A_CONNECTION == 0 {
+            self.count_accepted();
+        } else {
+            self.withdraw_accept();
+        }
+    }
+
+    /// Notes that a connection was accepted. The port is closed after the last one.
+    fn count_accepted(&self) {
+        if self.has_limit && self.untaken.fetch_sub(1, Ordering::SeqCst) == 1 {
+            self.close();
+        }
+    }
+
+    /// Notes that a loop has begun.
+    pub fn note_begun(&self) {
+        self.loops_begun.fetch_add(1, Ordering::SeqCst);
+    }
+
+    /// The number of loops that have begun.
+    pub fn loops_begun(&self) -> usize {
+        self.loops_begun.load(Ordering::SeqCst)
+    }
+
+    /// Whether an accept has failed, for example because no descriptor is free. True at most once, also if accepts fail again
+    /// later.
+    pub fn take_accept_failure(&self) -> bool {
+        self.accept_failed.load(Ordering::SeqCst)
+            && !self.is_failure_reported.swap(true, Ordering::SeqCst)
+    }
+
+    /// Notes that so many bytes of an answer were not written, if any were not.
+    pub fn note_unwritten(&self, unwritten: usize) {
+        if unwritten > 0 {
+            self.cut_answers.fetch_add(1, Ordering::SeqCst);
+            self.cut_bytes.fetch_add(unwritten as u64, Ordering::SeqCst);
+        }
+    }
+
+    /// The answers that were cut since the last call.
+    pub fn take_cut_answers(&self) -> CutAnswers {
+        CutAnswers {
+            answers: self.cut_answers.swap(0, Ordering::SeqCst),
+            bytes: self.cut_bytes.swap(0, Ordering::SeqCst),
+        }
+    }
+}
