@@ -146,6 +146,11 @@ def has_delivered(port: int) -> bool:
     )
 
 
+def inodes_at(port: int) -> set[str]:
+    """The numbers of the sockets of the connections that a program keeps at a port (`lsof -i`)."""
+    return {fields[INODE] for fields in rows_at(port) if fields[STATE] != LISTENS}
+
+
 def is_open(port: int) -> bool:
     """Whether a port of this machine is listened at: a connection would count."""
     return LISTENS in sockets_at(port)

@@ -32,7 +32,8 @@ def ends_in_time(seconds: float, later: LaterEnd) -> bool:
 
 
 def seven_slow_clients() -> None:
-    """Seven clients that send a byte now and then, at seven workers, and a polite one."""
+    """Seven clients that send a byte now and then, as many as requests may be served at a time, and
+    a polite one."""
     switch, operator = opened(
         Endpoint(in_pieces([RESPONSE])).port, workers=7, count=2, timeout=TIMEOUT
     )

@@ -73,14 +73,17 @@ endpoint_and_later_keep flags = let c = (serve flags).rules in (
 worker_and_later_keep : (flags : Flags) → let c = (serve flags).rules in
     Each (Keeps c) (held (rule_required_if (not flags.concurrency) (codes "workers") 7)
     ∷ held (rule_required_if flags.concurrency (codes "concurrency") 1023) ∷ held (number_rule (codes "preview-concurrency") 1023)
-    ∷ held (flag_rule (codes "redispatch")) ∷ held (number_rule (codes "endpoint-limit") 1023)
+    ∷ held (number_rule (codes "threads") 64) ∷ held (flag_rule (codes "redispatch")) ∷ held (number_rule (codes "endpoint-limit") 1023)
     ∷ held (flag_rule (codes "abort-on-close")) ∷ held (number_rule (codes "shutdown-grace") 60)
     ∷ held (flag_rule (codes "error-pages")) ∷ held (count_rule flags.forever) ∷ held (forever_rule flags.forever) ∷ held help_rule ∷ [])
 worker_and_later_keep flags = let c = (serve flags).rules in (
   required_if_keeps c (not flags.concurrency) (codes "workers") 7 refl,
   (
     required_if_keeps c flags.concurrency (codes "concurrency") 1023 refl,
-    (number_keeps c (codes "preview-concurrency") 1023 refl, endpoint_and_later_keep flags),
+    (
+      number_keeps c (codes "preview-concurrency") 1023 refl,
+      (number_keeps c (codes "threads") 64 refl, endpoint_and_later_keep flags),
+    ),
   ),
 )
 
@@ -131,7 +134,7 @@ endpoint_and_later_defaults flags = let c = (serve flags).rules in (
 worker_and_later_defaults : (flags : Flags) → let c = (serve flags).rules in
     Each (DefaultKeeps c) (held (rule_required_if (not flags.concurrency) (codes "workers") 7)
     ∷ held (rule_required_if flags.concurrency (codes "concurrency") 1023) ∷ held (number_rule (codes "preview-concurrency") 1023)
-    ∷ held (flag_rule (codes "redispatch")) ∷ held (number_rule (codes "endpoint-limit") 1023)
+    ∷ held (number_rule (codes "threads") 64) ∷ held (flag_rule (codes "redispatch")) ∷ held (number_rule (codes "endpoint-limit") 1023)
     ∷ held (flag_rule (codes "abort-on-close")) ∷ held (number_rule (codes "shutdown-grace") 60)
     ∷ held (flag_rule (codes "error-pages")) ∷ held (count_rule flags.forever) ∷ held (forever_rule flags.forever) ∷ held help_rule ∷ [])
 worker_and_later_defaults flags = let c = (serve flags).rules in (
@@ -140,7 +143,7 @@ worker_and_later_defaults flags = let c = (serve flags).rules in (
     no_default_keeps c (held (rule_required_if flags.concurrency (codes "concurrency") 1023)) refl,
     (
       no_default_keeps c (held (number_rule (codes "preview-concurrency") 1023)) refl,
-      endpoint_and_later_defaults flags,
+      (no_default_keeps c (held (number_rule (codes "threads") 64)) refl, endpoint_and_later_defaults flags),
     ),
   ),
 )
@@ -238,6 +241,7 @@ serve_known flags words e =
       concurrency = in_range c (held (rule_required_if flags.concurrency (codes "concurrency") 1023)) (codes "concurrency") 1023 rows refl refl refl good;
       concurrency_given = λ many. given_has c (codes "concurrency") rows good (concurrency.0 many);
       preview_concurrency = in_range c (held (number_rule (codes "preview-concurrency") 1023)) (codes "preview-concurrency") 1023 rows refl refl refl good;
+      threads = in_range c (held (number_rule (codes "threads") 64)) (codes "threads") 64 rows refl refl refl good;
       endpoint_limit = in_range c (held (number_rule (codes "endpoint-limit") 1023)) (codes "endpoint-limit") 1023 rows refl refl refl good;
       shutdown_grace = in_range c (held (number_rule (codes "shutdown-grace") 60)) (codes "shutdown-grace") 60 rows refl refl refl good;
       count = in_range c (held (count_rule flags.forever)) (codes "count") 1000000 rows refl refl refl good;

@@ -98,13 +98,14 @@ count_rule forever = record (number_rule (codes "count") 1000000) { required = n
 abbrev pub forever_rule : Bool → Rule
 forever_rule forever = flag_rule_required_if forever (codes "forever")
 
--- `--workers N`, `--concurrency N` and `[--preview-concurrency M]`; of the first two the second is required if
--- `concurrency` holds, else the first
+-- `--workers N`, `--concurrency N`, `[--preview-concurrency M]` and `[--threads N]`; of the first two the second is
+-- required if `concurrency` holds, else the first
 abbrev pub with_worker_rules : Bool → App → App
-with_worker_rules concurrency a = with_rule (with_rule (with_rule a
+with_worker_rules concurrency a = with_rule (with_rule (with_rule (with_rule a
     (rule_required_if (not concurrency) (codes "workers") 7))
     (rule_required_if concurrency (codes "concurrency") 1023))
-    (number_rule (codes "preview-concurrency") 1023)
+    (number_rule (codes "preview-concurrency") 1023))
+    (number_rule (codes "threads") 64)
 
 -- `[--redispatch] [--endpoint-limit M]`
 abbrev pub with_endpoint_rules : App → App
@@ -122,8 +123,9 @@ abbrev pub with_connection_rules : Bool → App → App
 with_connection_rules forever a = with_rule (with_rule a (count_rule forever)) (forever_rule forever)
 
 -- `serve --active P [--preview P] [--control-socket-mode MODE] [--control-socket-group GROUP] [--preview-concurrency M]
--- [--redispatch] [--endpoint-limit M] [--abort-on-close] [--shutdown-grace S] [--error-pages]`, with `--control P` or
--- `--control-socket PATH` or both, `--workers N` or `--concurrency N`, and `--count K` or `--forever`; the flags say which of each two is required
+-- [--threads N] [--redispatch] [--endpoint-limit M] [--abort-on-close] [--shutdown-grace S] [--error-pages]`, with `--control P`
+-- or `--control-socket PATH` or both, `--workers N` or `--concurrency N`, and `--count K` or `--forever`; the flags say which of
+-- each two is required
 abbrev pub serve_app : Flags → App
 serve_app flags = with_connection_rules flags.forever (with_client_rules (with_endpoint_rules
     (with_worker_rules flags.concurrency (with_control_rules flags.socket (with_port_rules (new_app (codes "serve")))))))
@@ -246,6 +248,8 @@ pub record IsServe (flags : Flags) (rows : List Row) (settings : ServeSettings) 
   pub preview_workers_are : settings.preview_workers ≡ unwrap_or (number_of (codes "preview-concurrency") rows)
       (default_preview_workers flags.concurrency settings.workers)
   pub preview_workers_range : IsBetween 1 1023 settings.preview_workers
+  pub threads_are : settings.threads ≡ number_of (codes "threads") rows
+  pub threads_range : IfSome settings.threads (IsBetween 1 64)
   pub redispatch_is : settings.redispatch ≡ has_flag (codes "redispatch") rows
   pub endpoint_limit_is : settings.endpoint_limit ≡ number_of (codes "endpoint-limit") rows
   pub endpoint_limit_range : IfSome settings.endpoint_limit (IsBetween 1 1023)
@@ -315,6 +319,7 @@ pub record HasWordsOfServe (flags : Flags) (rows : List Row) : Type 0 where
   pub concurrency_given
       : flags.concurrency ≡ true → is_some (first_of (codes "concurrency") rows) ≡ true
   pub preview_concurrency : IsIn 1 1023 (codes "preview-concurrency") rows
+  pub threads : IsIn 1 64 (codes "threads") rows
   pub endpoint_limit : IsIn 1 1023 (codes "endpoint-limit") rows
   pub shutdown_grace : IsIn 1 60 (codes "shutdown-grace") rows
   pub count : IsIn 1 1000000 (codes "count") rows

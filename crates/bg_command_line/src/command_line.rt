@@ -63,6 +63,8 @@ check has no words of its own. replay takes --seats N: how many requests can be 
                how many requests the preview port forwards at a time, 1 to 1023; where it isn't given,
                1 with --workers, and with --concurrency an eighth of N, at least 1; it has no effect
                without --preview
+  --threads N  how many event loops serve the clients of the active port, each in a thread of its own,
+               1 to 64; as many as the machine has processors where it isn't given
   --redispatch another endpoint of the same revision is asked if one can't be connected to
   --endpoint-limit M
                how many requests at a time an endpoint gets while another one of its revision is free,
@@ -112,9 +114,9 @@ fn replay_command<'a>(alloc: Global) -> Result<Command<'a>, AllocError>
 }
 
 /// `serve --active P [--preview P] [--control-socket-mode MODE] [--control-socket-group GROUP] [--preview-concurrency M]
-/// [--redispatch] [--endpoint-limit M] [--abort-on-close] [--shutdown-grace S] [--error-pages]`, with `--control P` or `--control-socket
-/// PATH` or both, `--workers N` or `--concurrency N`, and `--count K` or `--forever`. The flags say which of each two is
-/// required.
+/// [--threads N] [--redispatch] [--endpoint-limit M] [--abort-on-close] [--shutdown-grace S] [--error-pages]`, with `--control
+/// P` or `--control-socket PATH` or both, `--workers N` or `--concurrency N`, and `--count K` or `--forever`. The flags say
+/// which of each two is required.
 fn serve_command<'a>(alloc: Global, flags: Flags) -> Result<Command<'a>, AllocError>
     ensures app { IfOk result (λ c. app_of c ≡ serve_app flags) }
     ensures local { IfOk result (λ c. (fields_of c).has_globals ≡ false) }

@@ -67,6 +67,9 @@ pub struct ServeSettings<'a> {
     /// The number of workers of the preview service, 1 to 1,023, by `--preview-concurrency`. If that is not given:
     /// 1 with `--workers`, and with `--concurrency` an eighth of its number, at least 1.
     pub preview_workers: u16,
+    /// The number of event loops that serve the clients of the active port, each in a thread of its own (nginx's
+    /// `worker_processes`, HAProxy's `nbthread`), 1 to 64; `None` stands for as many as the machine has processors.
+    pub threads: Option<u16>,
     /// Whether another endpoint of the revision is asked if one can't be connected to (HAProxy's `option
     /// redispatch`, nginx's `proxy_next_upstream error`).
     pub redispatch: bool,

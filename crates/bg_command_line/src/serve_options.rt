@@ -14,15 +14,18 @@ const GREATEST_MODE: u64 = 777;
 /// How many requests a port may forward at a time, or an endpoint get.
 const MOST_REQUESTS: u64 = 1_023;
 
+/// How many event loops the active port may have.
+const MOST_THREADS: u64 = 64;
+
 /// For how many seconds a shutdown may keep silent clients: it lasts for no longer itself.
 const MOST_GRACE: u64 = 60;
 
 /// The options of `serve`: `--active P [--preview P]`; `--control P`, `--control-socket PATH`, `[--control-socket-mode MODE]`
-/// and `[--control-socket-group GROUP]`; `--workers N`, `--concurrency N` and `[--preview-concurrency M]`; `[--redispatch]
-/// [--endpoint-limit M]`; `[--abort-on-close] [--shutdown-grace S] [--error-pages]`; `--count K` and `--forever`. The flags
-/// say which of `--control` and `--control-socket` is required, which of `--workers` and `--concurrency`, and which of
-/// `--count` and `--forever`.
-pub(crate) fn serve_options<'a>(flags: Flags) -> [CommandOption<'a>; 16]
+/// and `[--control-socket-group GROUP]`; `--workers N`, `--concurrency N`, `[--preview-concurrency M]` and `[--threads N]`;
+/// `[--redispatch] [--endpoint-limit M]`; `[--abort-on-close] [--shutdown-grace S] [--error-pages]`; `--count K` and
+/// `--forever`. The flags say which of `--control` and `--control-socket` is required, which of `--workers` and
+/// `--concurrency`, and which of `--count` and `--forever`.
+pub(crate) fn serve_options<'a>(flags: Flags) -> [CommandOption<'a>; 17]
     ensures { (before : App) → fold with_rule before (map option_rule result) ≡ with_connection_rules flags.forever
         (with_client_rules (with_endpoint_rules (with_worker_rules flags.concurrency
         (with_control_rules flags.socket (with_port_rules before))))) }
@@ -81,6 +84,12 @@ pub(crate) fn serve_options<'a>(flags: Flags) -> [CommandOption<'a>; 16]
             value: OptionValue::UpTo(MOST_REQUESTS),
             required: false,
             help: "How many requests the preview port forwards at a time, 1 to 1023; where it isn't given, 1 with --workers, and an eighth of --concurrency, at least 1; has no effect without --preview",
+        },
+        CommandOption {
+            name: "threads",
+            value: OptionValue::UpTo(MOST_THREADS),
+            required: false,
+            help: "How many event loops serve the clients of the active port, each in a thread of its own, 1 to 64; as many as the machine has processors where it isn't given",
         },
         CommandOption {
             name: "redispatch",

@@ -25,9 +25,10 @@ const DEFAULT_MODE: u16 = 600;
 /// [--seats N]` with N from 1 to 8, and 4 seats if no number is given; or `serve --active P [--preview
 /// P]` with `--control P` or `--control-socket PATH` or both, with ports from 1 to 65535, either `--workers N` with N from 1 to 7 or `--concurrency N`
 /// with N from 1 to 1023, and either `--count K` with K from 1 to 1,000,000 or `--forever`. `serve` also takes
-/// `--preview-concurrency M` and `--endpoint-limit M` with M from 1 to 1023, `--redispatch`, `--abort-on-close`,
-/// `--error-pages`, `--shutdown-grace S` with S from 1 to 60, `--control-socket-mode MODE` with MODE from 1 to 777, and
-/// `--control-socket-group GROUP`. A value may also follow its option after `=`, in the same word.
+/// `--preview-concurrency M` and `--endpoint-limit M` with M from 1 to 1023, `--threads N` with N from 1 to 64,
+/// `--redispatch`, `--abort-on-close`, `--error-pages`, `--shutdown-grace S` with S from 1 to 60, `--control-socket-mode
+/// MODE` with MODE from 1 to 777, and `--control-socket-group GROUP`. A value may also follow its option after `=`, in the
+/// same word.
 ///
 /// The error is `Words` only if `clap` refuses the words, if they ask for help or for the version, or if
 /// both `--count` and `--forever` are given, or both `--workers` and `--concurrency`. It is `OutOfMemory` if an
@@ -179,6 +180,7 @@ fn serve_of<'a>(flags: Flags, matches: &ArgMatches<'a>) -> Invocation<'a>
         control_socket: control_socket_of(matches),
         workers,
         preview_workers: preview_workers_of(flags.concurrency, workers, matches),
+        threads: threads_of(matches),
         redispatch: has_flag(matches, "redispatch"),
         endpoint_limit: endpoint_limit_of(matches),
         abort_on_close: has_flag(matches, "abort-on-close"),
@@ -260,6 +262,17 @@ fn default_preview_workers(concurrency: bool, workers: u16) -> u16
     ensures range { IsBetween 1 1023 result }
 {
     if concurrency { (workers / 8).max(1) } else { 1 }
+}
+
+fn threads_of(matches: &ArgMatches) -> Option<u16>
+    requires { IsIn 1 64 (codes "threads") (rows_of (found_of matches.now)) }
+    ensures value { result ≡ number_of (codes "threads") (rows_of (found_of matches.now)) }
+    ensures range { IfSome result (IsBetween 1 64) }
+{
+    match argument_text(matches, "threads") {
+        Some(text) => Some(threads_in(text)),
+        None => None,
+    }
 }
 
 fn endpoint_limit_of(matches: &ArgMatches) -> Option<u16>
@@ -358,6 +371,14 @@ fn requests_in(text: &str) -> u16
     requires { IsUnsignedIn 1 1023 text.now }
     ensures value { result ≡ number text.now }
     ensures range { IsBetween 1 1023 result }
+{
+    text.parse::<u16>().unwrap()
+}
+
+fn threads_in(text: &str) -> u16
+    requires { IsUnsignedIn 1 64 text.now }
+    ensures value { result ≡ number text.now }
+    ensures range { IsBetween 1 64 result }
 {
     text.parse::<u16>().unwrap()
 }

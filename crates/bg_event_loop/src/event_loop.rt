@@ -8,9 +8,10 @@ use crate::outcome::Cause;
 use crate::request_log::RequestLog;
 use crate::settings::LoopSettings;
 use crate::slots::Slots;
+use crate::waiting::Waiting;
 use bg_client_side::{Fed, Seats};
 use bg_forward::Reason;
-use bg_load::Loads;
+use bg_load::{Loads, Totals};
 use bg_loop_port::LoopPort;
 use bg_sockets::EpollSet;
 use os::EpollEvent;
@@ -22,7 +23,7 @@ use std::io;
 const STEPS_A_TURN: u32 = 64;
 
 /// The number of bytes that one read asks for.
-const PIECE: usize = 16_384;
+const PIECE: usize = 65_536;
 
 /// What a loop begins with.
 #[derive(Clone, Copy, Drop)]
@@ -31,6 +32,8 @@ pub(crate) struct LoopTerms {
     pub(crate) settings: LoopSettings,
     /// The number of its seats.
     pub(crate) seats: usize,
+    /// Its number among the loops of the port.
+    pub(crate) number: usize,
 }
 
 /// The connections of a loop.
@@ -41,8 +44,9 @@ pub(crate) struct EventLoop<'a, P, L> {
     pub(crate) set: &'a EpollSet,
     pub(crate) port: &'a LoopPort,
     pub(crate) clients: Slots<Client>,
-    /// What they take.
+    /// What they take, and what of that the port counts.
     pub(crate) loads: Loads,
+    pub(crate) shared: Totals,
     pub(crate) endpoints: Endpoints<'a, P>,
     /// Where the ends of requests are logged.
     pub(crate) log: &'a L,
@@ -54,8 +58,8 @@ pub(crate) struct EventLoop<'a, P, L> {
     pub(crate) piece: Vec<u8>,
     /// Whether the listener is watched.
     pub(crate) watches_listener: bool,
-    /// Whether the most requests are inside, over all loops. The signal of the port comes once one has left.
-    pub(crate) is_held_up: bool,
+    /// Since when its requests wait, and what the other loops know of that.
+    pub(crate) waiting: Waiting,
     /// The moment of the last events, in milliseconds from the start of the loop.
     pub(crate) now: u64,
     /// When clients are accepted again, if none are accepted now.
@@ -79,6 +83,7 @@ impl<'a, P: EndpointPorts, L: RequestLog> EventLoop<'a, P, L> {
             alloc,
             settings,
             seats,
+            number,
         } = terms;
         Ok(EventLoop {
             alloc,
@@ -87,13 +92,14 @@ impl<'a, P: EndpointPorts, L: RequestLog> EventLoop<'a, P, L> {
             port,
             clients: Slots::new(alloc),
             loads: Loads::new(alloc, settings.loads),
+            shared: Totals::NONE,
             endpoints: Endpoints::new(alloc, set, ports, settings.endpoints)?,
             log,
             queue: Seats::new(alloc, seats, settings.most_waiting)?,
             due: VecDeque::new(alloc),
             piece: vec![in alloc; 0; PIECE]?,
             watches_listener: false,
-            is_held_up: false,
+            waiting: Waiting::new(alloc, number),
             now: 0,
             accepts_at: None,
             closes_at: None,
@@ -106,7 +112,7 @@ impl<'a, P: EndpointPorts, L: RequestLog> EventLoop<'a, P, L> {
         let told = Told::of(event.events);
         match Source::of(event.data) {
             Source::Listener => self.accept_some(),
-            Source::Signal => self.is_held_up = false,
+            Source::Signal => self.note_signal(),
             Source::Client(key) => {
                 if let Some(client) = self.clients.get_mut(key) {
                     client.note(told);
@@ -118,6 +124,13 @@ impl<'a, P: EndpointPorts, L: RequestLog> EventLoop<'a, P, L> {
                     self.make_due(client);
                 }
             }
+        }
+    }
+
+    /// Notes the signal of the port. Whether a request may enter is looked at in each round anyway.
+    fn note_signal(&mut self) {
+        if self.port.is_backlog_left() {
+            self.watch_listener_anew();
         }
     }
 
@@ -193,15 +206,24 @@ impl<'a, P: EndpointPorts, L: RequestLog> EventLoop<'a, P, L> {
         match fed {
             Fed::Whole => {
                 client.record.note_whole(self.now);
-                if !self.queue.wait(key) {
-                    client.refuse_waiting(self.alloc, self.log, self.now);
-                    client.end_request(self.log, Cause::Refused(Reason::Memory), self.now);
+                if client.ready.reset {
+                    client.sides.fail();
+                } else if !self.begin_to_wait(key) {
+                    self.refuse_waiting(key);
                 }
             }
             Fed::Refused(fault) => {
                 client.end_request(self.log, Cause::Fault(fault), self.now);
             }
             Fed::NotReading | Fed::More | Fed::OwesContinue => {}
+        }
+    }
+
+    /// Refuses the request of a client, which is whole, with 503.
+    fn refuse_waiting(&mut self, key: usize) {
+        if let Some(client) = self.clients.get_mut(key) {
+            client.refuse_waiting(self.alloc, self.log, self.now);
+            client.end_request(self.log, Cause::Refused(Reason::Memory), self.now);
         }
     }
 
@@ -236,7 +258,7 @@ impl<'a, P: EndpointPorts, L: RequestLog> EventLoop<'a, P, L> {
             && client.sides.client().has_left()
         {
             client.end_connection(self.log, self.now);
-            self.port.note_unwritten(client.unwritten);
+            self.port.note_unwritten(client.answer.unwritten);
             self.queue.withdraw(key);
             self.loads.leave(key);
             self.clients.remove(key);

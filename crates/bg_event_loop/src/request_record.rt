@@ -112,6 +112,11 @@ impl RequestRecord {
         self.is_whole = true;
     }
 
+    /// Notes that the request is not answered although its client stays. It is logged as one that was not read.
+    pub(crate) fn note_dropped(&mut self) {
+        self.is_whole = false;
+    }
+
     /// Notes what the request got as it entered.
     pub(crate) fn note_entered(&mut self, ticket: Ticket, now: u64) {
         self.ticket = Some(ticket);
@@ -138,7 +143,7 @@ impl RequestRecord {
                 method: line.method.as_slice(),
                 target: line.target.as_slice(),
             }),
-            None => ended.refused,
+            None => ended.line,
         };
         log.add(&EndedRequest {
             served: Served {
@@ -173,8 +178,8 @@ pub(crate) struct RequestEnd<'a> {
     pub(crate) outcome: Outcome,
     /// What was dialled for the last request of the connection that entered.
     pub(crate) route: Option<Route>,
-    /// The method and the target of what is no request, if its head was parsed, and whether that head passes all rules.
-    pub(crate) refused: Option<RequestLine<'a>>,
+    /// The method and the target, if a head was parsed, and whether the head of what is no request passes all rules.
+    pub(crate) line: Option<RequestLine<'a>>,
     pub(crate) is_head_sound: bool,
     pub(crate) response_bytes: u64,
     pub(crate) response_millis: Option<u64>,

@@ -68,9 +68,10 @@ impl LoopSettings {
                 kept_millis: 60_000,
             },
             loads: LoadSettings {
+                loops: 1,
                 connections: 1_024,
                 request_bytes: 1 << 27,
-                response_bytes: 1 << 28,
+                response_bytes: 1 << 29,
             },
             most_waiting: 1_024,
             aborts_on_close: false,

@@ -1,11 +1,9 @@
 //! The notices that are written to standard error while the ports are open.
 
+use crate::event_loops::EventLoops;
 use crate::ports::{Ports, service_name};
 use bg_access_log::{AccessLog, LogTrouble};
-use bg_client_port::ClientPort;
-use bg_command_line::ServeSettings;
 use bg_control_port::{ControlEvents, Entrance, Peer};
-use bg_loop_port::LoopPort;
 use bg_revisions::Service;
 use libc::STDERR_FILENO;
 use libc::net::{POLLOUT, poll};
@@ -21,14 +19,14 @@ const SECONDS_TO_BEGIN: u64 = 3;
 /// A notice.
 #[derive(Drop)]
 enum Notice<'a> {
-    /// The number of workers of a port that have begun, and the number that it should have.
-    FewerWorkers {
+    NoEventLoop {
+        port: &'static str,
+    },
+    /// The number of event loops of a port that have begun, and the number that it should have.
+    FewerEventLoops {
         port: &'static str,
         begun: usize,
         expected: usize,
-    },
-    NoEventLoop {
-        port: &'static str,
     },
     AcceptsFail {
         port: &'static str,
@@ -70,12 +68,12 @@ enum Notice<'a> {
 impl fmt::Display for Notice<'_> {
     fn fmt<W: fmt::Write>(&self, f: &mut fmt::Formatter<W>) -> fmt::Result {
         match self {
-            Notice::FewerWorkers {
+            Notice::NoEventLoop { port } => write!(f, "the {port} port has no event loop"),
+            Notice::FewerEventLoops {
                 port,
                 begun,
                 expected,
-            } => write!(f, "the {port} port has {begun} of {expected} workers"),
-            Notice::NoEventLoop { port } => write!(f, "the {port} port has no event loop"),
+            } => write!(f, "the {port} port has {begun} of {expected} event loops"),
             Notice::AcceptsFail { port } => {
                 write!(f, "accepts fail at the {port} port, and are tried again")
             }
@@ -124,8 +122,7 @@ fn entrance_name(entrance: Entrance) -> &'static str {
 /// Which notices were written about a client port.
 #[derive(Drop)]
 struct PortNotices {
-    workers: AtomicBool,
-    event_loop: AtomicBool,
+    event_loops: AtomicBool,
     used_up: AtomicBool,
 }
 
@@ -133,15 +130,14 @@ impl PortNotices {
     /// No notices yet.
     fn new() -> PortNotices {
         PortNotices {
-            workers: AtomicBool::new(false),
-            event_loop: AtomicBool::new(false),
+            event_loops: AtomicBool::new(false),
             used_up: AtomicBool::new(false),
         }
     }
 }
 
-/// Writes notices to standard error while the ports are open: fewer threads than expected, failed
-/// accepts, a port that is closed because its workers have taken all their connections, a history that is
+/// Writes notices to standard error while the ports are open: fewer event loops than expected, failed
+/// accepts, a port that is closed because it has taken all its connections, a history that is
 /// nearly full, lines and requests that are refused because it is full, an access log that takes nothing
 /// or has lost lines, decisions that came by the control socket, and, if the control port serves only listed users, their
 /// decisions and the connections of others. Each is written once, or once for each client port, with these exceptions.
@@ -153,9 +149,8 @@ pub struct Notices<'p> {
     alloc: Global,
     ports: &'p Ports,
     log: Option<&'p AccessLog>,
-    /// The number of workers of the active service, and of the preview service.
-    workers: usize,
-    preview_workers: usize,
+    /// How many event loops are to begin.
+    loops: EventLoops,
     of_active: PortNotices,
     of_preview: PortNotices,
     is_open: AtomicBool,
@@ -177,7 +172,7 @@ impl<'p> Notices<'p> {
     pub fn new(
         alloc: Global,
         ports: &'p Ports,
-        settings: &ServeSettings,
+        loops: EventLoops,
         log: Option<&'p AccessLog>,
         most_entries: u64,
     ) -> Notices<'p> {
@@ -185,8 +180,7 @@ impl<'p> Notices<'p> {
             alloc,
             ports,
             log,
-            workers: usize::from(settings.workers),
-            preview_workers: usize::from(settings.preview_workers),
+            loops,
             of_active: PortNotices::new(),
             of_preview: PortNotices::new(),
             is_open: AtomicBool::new(false),
@@ -199,7 +193,7 @@ impl<'p> Notices<'p> {
         }
     }
 
-    /// Notes that a book was opened, so workers and event loops should begin.
+    /// Notes that a book was opened, so the event loops should begin.
     pub fn note_open(&self) {
         self.is_open.store(true, Ordering::SeqCst);
     }
@@ -221,11 +215,6 @@ impl<'p> Notices<'p> {
     /// The counter of the requests that are refused because the history is full.
     pub fn refused_requests(&self) -> &AtomicU64 {
         &self.refused_requests
-    }
-
-    /// Counts a request that is refused because the history is full.
-    pub fn note_refused_request(&self) {
-        self.refused_requests.fetch_add(1, Ordering::SeqCst);
     }
 
     /// Writes how many lines and requests were refused because the history is full, if any were refused since the
@@ -277,66 +266,38 @@ impl<'p> Notices<'p> {
 
     /// Checks a client port.
     fn check_port(&self, service: Service, is_late: bool) {
-        let name = service_name(service);
-        if let Some(port) = self.ports.loops_of(service) {
-            self.check_loop_port(port, service, name, is_late);
-            return;
-        }
-        let Some(port) = self.ports.of(service) else {
+        let Some(client_port) = self.ports.of(service) else {
             return;
         };
-        if port.take_accept_failure() {
-            self.write(&Notice::AcceptsFail { port: name });
-        }
-        let written = self.written_of(service);
-        if port.is_closed() {
-            self.write_once(&written.used_up, &Notice::UsedUp { port: name });
-        } else if is_late {
-            self.check_threads(port, service);
-        }
-    }
-
-    /// Checks a client port that event loops serve.
-    fn check_loop_port(
-        &self,
-        client_port: &LoopPort,
-        service: Service,
-        port: &'static str,
-        is_late: bool,
-    ) {
+        let port = service_name(service);
         if client_port.take_accept_failure() {
             self.write(&Notice::AcceptsFail { port });
         }
         let written = self.written_of(service);
         if client_port.is_closed() {
             self.write_once(&written.used_up, &Notice::UsedUp { port });
-        } else if is_late && client_port.loops_begun() == 0 {
-            self.write_once(&written.event_loop, &Notice::NoEventLoop { port });
+        } else if is_late {
+            self.check_loops(service, client_port.loops_begun());
         }
     }
 
-    /// Checks whether the threads of a port have begun.
-    fn check_threads(&self, client_port: &ClientPort, service: Service) {
+    /// Checks whether the event loops of a port have begun.
+    fn check_loops(&self, service: Service, begun: usize) {
         let port = service_name(service);
-        let written = self.written_of(service);
-        let expected = match service {
-            Service::Active => self.workers,
-            Service::Preview => self.preview_workers,
+        let expected = self.loops.of_service(service) as usize;
+        if begun >= expected {
+            return;
+        }
+        let notice = if begun == 0 {
+            Notice::NoEventLoop { port }
+        } else {
+            Notice::FewerEventLoops {
+                port,
+                begun,
+                expected,
+            }
         };
-        let begun = client_port.workers_begun();
-        if begun < expected {
-            self.write_once(
-                &written.workers,
-                &Notice::FewerWorkers {
-                    port,
-                    begun,
-                    expected,
-                },
-            );
-        }
-        if !client_port.has_event_loop() {
-            self.write_once(&written.event_loop, &Notice::NoEventLoop { port });
-        }
+        self.write_once(&self.written_of(service).event_loops, &notice);
     }
 
     fn written_of(&self, service: Service) -> &PortNotices {

@@ -1,4 +1,3 @@
 pub mod Decisions
 pub mod RevisionLists
 pub mod Rollbacks
-pub mod Services

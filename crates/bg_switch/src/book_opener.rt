@@ -5,7 +5,7 @@ ghost use Rattle.bg_ledger.specs.Blanks.{AreAllFor};
 use crate::context::ServeContext;
 use crate::operators::Operator;
 use crate::serve::written;
-use crate::workers::{services_of, work_beside_operators};
+use crate::serving::serve_beside_operators;
 use bg_book::{Book, Desk, Limits, OpenFault, RolloutOpening};
 use bg_ledger::{Blanks, Names, Seat};
 use bg_report::report;
@@ -76,7 +76,6 @@ where
     requires blanks { AreAllFor N.Names blanks }
     requires seats { 1 ≤ context.now.seats → context.now.seats ≤ 2048 → N.seats ≡ context.now.seats }
 {
-    let services = services_of(context.alloc, context.seats, context.previews)?;
     let opening = RolloutOpening {
         strategy: context.strategy,
         name: first.name.get(),
@@ -86,7 +85,7 @@ where
     };
     let (book, mut seats) = Book::<N>::open_with_many_seats(context.alloc, &opening, blanks)?;
     let desk = Desk::new(book);
-    work_beside_operators(context, &desk, &services, seats.as_mut_slice(), operator);
+    serve_beside_operators(context, &desk, seats.as_mut_slice(), operator);
     context.notices.write_refusals();
     context.notices.write_log_trouble();
     let book = desk.into_book();

@@ -3,30 +3,28 @@ ghost use Rattle.bg_event_loop.specs.Seats.{AllServed};
 ghost use Rattle.bg_forward.specs.Seats.{AllOut};
 
 use crate::context::ServeContext;
-use crate::workers::response_timeout;
 use bg_book::Desk;
 use bg_client_side::ClientSettings;
-use bg_clients::ServiceLog;
 use bg_command_line::MessageTimeout;
 use bg_endpoint_side::Timeouts;
+use bg_endpoints::ResponseTimeout;
 use bg_event_loop::{BookPorts, EndpointSettings, LoopContext, LoopSettings, run_event_loops};
 use bg_forward::DeskGate;
 use bg_ledger::{Names, Seat};
 use bg_load::LoadSettings;
 use bg_ports::bounds_of;
+use bg_request_log::ServiceLog;
 use bg_revisions::Service;
 use std::sync::Wait;
 use std::thread;
 use std::thread::Threads;
 use std::time::Clock;
 
-/// Serves the clients of both services by event loops, those of the active service by so many, until their ports are closed and
-/// no client is left. The last seats are those of the preview service; it has one loop for as many of them as the active
-/// service has.
+/// Serves the clients of both services by event loops, until their ports are closed and no client is left. The last seats are
+/// those of the preview service; it has one loop for as many of them as the active service has.
 pub fn serve_by_loops<'a, N: Names + Send + Sync, R: Threads + Wait + Clock + Sync>(
     context: &ServeContext<'a, R>,
     desk: &Desk<N>,
-    loops: u32,
     seats: &mut [Seat<N>],
 )
     requires { AllOut seats.old }
@@ -40,7 +38,7 @@ pub fn serve_by_loops<'a, N: Names + Send + Sync, R: Threads + Wait + Clock + Sy
         &|start, part: &mut [Seat<N>]|
             requires { AllOut part.old }
             ensures { AllServed part.old part.new }
-        { serve_part(context, desk, start, loops, part) },
+        { serve_part(context, desk, start, part) },
     );
 }
 
@@ -49,31 +47,29 @@ fn serve_part<'a, N: Names + Send + Sync, R: Threads + Wait + Clock + Sync>(
     context: &ServeContext<'a, R>,
     desk: &Desk<N>,
     start: usize,
-    loops: u32,
     seats: &mut [Seat<N>],
 )
     requires { AllOut seats.old }
     ensures { AllServed seats.old seats.new }
 {
     if start == 0 {
-        serve_port(context, desk, Service::Active, loops, seats);
+        serve_port(context, desk, Service::Active, seats);
     } else {
-        serve_port(context, desk, Service::Preview, 1, seats);
+        serve_port(context, desk, Service::Preview, seats);
     }
 }
 
-/// Serves the clients of a service by so many event loops, if it has a port.
+/// Serves the clients of a service by the event loops of its port, if it has one.
 fn serve_port<'a, N: Names + Send + Sync, R: Threads + Wait + Clock + Sync>(
     context: &ServeContext<'a, R>,
     desk: &Desk<N>,
     service: Service,
-    loops: u32,
     seats: &mut [Seat<N>],
 )
     requires { AllOut seats.old }
     ensures { AllServed seats.old seats.new }
 {
-    let Some(port) = context.ports.loops_of(service) else {
+    let Some(port) = context.ports.of(service) else {
         return;
     };
     let gate = DeskGate::new(context.rt, desk);
@@ -97,20 +93,16 @@ fn serve_port<'a, N: Names + Send + Sync, R: Threads + Wait + Clock + Sync>(
         ports: &ports,
         log: &log,
         port,
-        settings: settings_of(context, service, loops),
+        settings: settings_of(context, service),
     };
-    run_event_loops(context.rt, &loop_context, seats, loops as usize);
+    let loops = context.loops.of_service(service) as usize;
+    run_event_loops(context.rt, &loop_context, seats, loops);
 }
 
-/// The part of a bound that each of so many loops has, at least 1.
-fn part_of(bound: usize, loops: u32) -> u64 {
-    (bound as u64 / u64::from(loops.max(1))).max(1)
-}
-
-/// The settings of each of so many event loops of a port. Each has an equal part of the bounds of the port.
-fn settings_of<R>(context: &ServeContext<R>, service: Service, loops: u32) -> LoopSettings {
+/// The settings of the event loops of a port. The bounds are those of the port.
+fn settings_of<R>(context: &ServeContext<R>, service: Service) -> LoopSettings {
     let usual = LoopSettings::usual(service).with_refusal_body(context.refusal_body);
-    let bounds = bounds_of(context.words);
+    let bounds = bounds_of(context.words, context.loops);
     LoopSettings {
         clients: ClientSettings {
             request_millis: millis(context.timeout.seconds()),
@@ -121,11 +113,10 @@ fn settings_of<R>(context: &ServeContext<R>, service: Service, loops: u32) -> Lo
             ..usual.endpoints
         },
         loads: LoadSettings {
-            connections: part_of(bounds.connections, loops),
-            request_bytes: part_of(bounds.request_bytes, loops),
-            response_bytes: part_of(bounds.response_bytes, loops),
+            loops: u64::from(context.loops.of_service(service)),
+            ..bounds
         },
-        most_waiting: bounds.connections,
+        most_waiting: bounds.connections as usize,
         aborts_on_close: context.words.abort_on_close,
         grace_millis: millis(u64::from(context.words.shutdown_grace)),
         ..usual
@@ -134,7 +125,10 @@ fn settings_of<R>(context: &ServeContext<R>, service: Service, loops: u32) -> Lo
 
 /// The timeouts of a request at its endpoint.
 fn timeouts_of(timeout: MessageTimeout) -> Timeouts {
-    let response = response_timeout(timeout);
+    let response = ResponseTimeout {
+        seconds: timeout.seconds(),
+        is_given: matches!(timeout, MessageTimeout::Given(_)),
+    };
     Timeouts {
         response: millis(response.seconds),
         idle: millis(response.idle_seconds()),

@@ -10,7 +10,7 @@ mod operator_users;
 mod operators;
 mod revision_ports;
 mod serve;
-mod workers;
+mod serving;
 
 use crate::buffered_output::{check_buffered, replay_buffered};
 use crate::operator_users::operator_users;
@@ -34,12 +34,6 @@ use std::{env, io};
 
 /// The environment variable that gives the path of the access log; `-` is standard error.
 const ACCESS_LOG_VARIABLE: &str = "BG_SWITCH_ACCESS_LOG";
-
-/// The environment variable that gives the number of event loops that serve the clients of the active port. Without it, workers
-/// serve clients.
-const EVENT_LOOPS_VARIABLE: &str = "BG_SWITCH_EVENT_LOOPS";
-
-const MOST_EVENT_LOOPS: u32 = 64;
 
 /// The word that stands for all words if one of them is not UTF-8.
 const NO_TEXT: &str = "\u{FFFD}";
@@ -129,18 +123,8 @@ where
         timeout,
         log: log.as_ref(),
         operators,
-        loops: event_loops(rt),
     };
     serve(rt, &mut settings, input, output, errors)
-}
-
-/// The number of event loops that the environment sets, if it sets one.
-fn event_loops<R: Env + AllocGlobal>(rt: &R) -> Option<u32> {
-    let text = env::var(rt, EVENT_LOOPS_VARIABLE).ok()?;
-    match text.as_str().parse::<u32>() {
-        Ok(loops) if loops > 0 => Some(loops.min(MOST_EVENT_LOOPS)),
-        _ => None,
-    }
 }
 
 /// The message timeout that the environment sets. Writes a notice if the environment gives no usable

@@ -9,13 +9,13 @@ use crate::stop::Stop;
 use crate::words::Words;
 use bg_access_log::AccessLog;
 use bg_book::{Book, Control, Desk, Limits, RolloutOpening};
-use bg_clients::ServiceLog;
 use bg_endpoints::{Directory, OwnPorts, PortList, PortLists, Share};
 use bg_event_loop::{BookPorts, LoopContext, LoopSettings, run_event_loop};
 use bg_forward::DeskGate;
 use bg_http::Persistence;
 use bg_ledger::{Blanks, Names, Seat};
 use bg_loop_port::{LoopPort, LoopPortSettings};
+use bg_request_log::ServiceLog;
 use bg_revisions::Service;
 use bg_strategy::Strategy;
 use bg_strategy_text::read;
@@ -58,8 +58,11 @@ where
 {
     let alloc = rt.alloc();
     let port = LoopPort::new(
+        rt,
+        alloc,
         listener,
         LoopPortSettings {
+            loops: 1,
             concurrency: u64::from(SEATS),
             connections: None,
         },
