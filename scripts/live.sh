@@ -5,7 +5,7 @@
 #   live_starting    faults of the strategy, and ports that are taken
 #   live_timeouts    slow clients and endpoints, and requests that are given up
 #   live_resources   connections that are used up; descriptors and threads that can't be had
-#   live_concurrency hundreds of requests at a time, and workers that wait
+#   live_concurrency hundreds of requests at a time, and event loops that wait
 #   live_memory      the memory of uploads that come at once, and of messages of mixed sizes
 #   live_attack      hostile clients, endpoints and operators
 #   live_random      ten thousand exchanges at random
@@ -24,6 +24,8 @@
 #   live_history     a full history
 #   live_error_pages the pages of refusals
 #   live_event_loop  the event loop of bg_event_loop, by a program of its own
+#   live_keep_alive  connections of clients and to endpoints that are kept
+#   live_journal     what a start resumes from a journal, disks that fail, and kills at random
 #   live_analysis    outages that analyses find, by the access log, by reports and by Prometheus
 #   live_dashboard   the dashboard's page in a browser, and a bad revision that its analysis takes back
 #   live_fleet       a fleet of three machines with etcd, HAProxy and nginx, each kind of fault once, and the rules of a fleet
@@ -38,7 +40,7 @@ trap 'rm -rf "$work"' EXIT
 # has more of the processors.
 parts='live_clients live_history live_endpoints live_operators live_access_log_random live_control live_operator live_concurrency
     live_access_log live_timeouts live_operating live_random live_analysis live_shutdown live_attack live_controller live_event_loop
-    live_resources live_memory live live_readme live_production live_error_pages live_starting'
+    live_keep_alive live_resources live_journal live_memory live live_readme live_production live_error_pages live_starting'
 # These run alone, since they start many programs: two controllers and eight switches at a time, a browser, and fleets.
 alone='live_crash live_dashboard live_fleet live_fleet_pages'
 # play COUNT PART..: runs the parts, so many at a time.

@@ -3,6 +3,7 @@
 by hand.
 
 usage: scripts/read_alike.py [--server NAME].. [--section NAME].. [--all] [--servers-only]
+                             [--keep-alive]
 
 Each message of the corpus (`scripts/support/smuggling`) goes to nginx, apache2, haproxy, lighttpd,
 gunicorn and node, as far as they are installed, with one and with two plain requests behind it on
@@ -13,7 +14,8 @@ behind it. What the program writes to an endpoint goes to each server, as it was
 second request behind it (without the field `Connection: close`, so that the server looks for the
 second one). Each server must read the same one request, and then the second one. Where docs/HTTP.md
 says that a server differs about such requests, it may refuse the request, or read another target or
-method, but not find another end. All else is told as FAILED.
+method, but not find another end. All else is told as FAILED. With `--keep-alive` the program keeps
+connections, so the requests behind a message are forwarded, too, each as a text of its own.
 
 Exit status: 0 if nothing has failed; 1 if a text of the switch is not read alike, or a refused
 request was forwarded; 2 if the words are wrong, no server is installed, or the program is
@@ -104,13 +106,14 @@ def answers_of(one: Switch, messages: Sequence[Message]) -> dict[str, list[Answe
 
 
 def texts_of(
-    messages: Sequence[Message], answered: dict[str, list[Answered]]
+    messages: Sequence[Message], answered: dict[str, list[Answered]], keeps: bool = False
 ) -> tuple[list[Forwarded], list[str]]:
-    """The texts that the switch wrote, each once, and what is wrong with its answers."""
+    """The texts that the switch wrote, each once, and what is wrong with its answers. It keeps
+    connections or does not."""
     texts, wrong = dict[bytes, Forwarded](), []
     for message in messages:
         for each in answered[message.name]:
-            if each.texts and not each.is_answered():
+            if each.texts and not each.is_answered(keeps):
                 wrong.append(
                     f"{message.name}: answered {each.statuses}, and forwarded {each.texts}"
                 )
@@ -148,7 +151,7 @@ def play(readers: Sequence[Reader], messages: Sequence[Message], given: argparse
     """Plays both parts. Whether nothing has failed."""
     answered = {}
     if not given.servers_only:
-        with switch() as one:
+        with switch(flags=("--keep-alive",) if given.keep_alive else ()) as one:
             answered = answers_of(one, messages)
     answers = {name: str(its[0]) for name, its in answered.items()}
     all_compared = compare_all(readers, messages)
@@ -158,7 +161,7 @@ def play(readers: Sequence[Reader], messages: Sequence[Message], given: argparse
     print(f"read_alike: {len(messages)} messages, {len(readers)} servers: {summary}", flush=True)
     if given.servers_only:
         return True
-    texts, wrong = texts_of(messages, answered)
+    texts, wrong = texts_of(messages, answered, given.keep_alive)
     for line in wrong:
         print(f"{Verdict.FAILED.value}: {line}")
     counts = tell_judged(judge_all(readers, texts), given.all)
@@ -179,6 +182,7 @@ def arguments() -> argparse.Namespace:
     parser.add_argument("--section", action="append")
     parser.add_argument("--all", action="store_true")
     parser.add_argument("--servers-only", action="store_true")
+    parser.add_argument("--keep-alive", action="store_true")
     given = parser.parse_args()
     sections = {message.section for message in corpus()}
     if unknown := set(given.section or ()) - sections:

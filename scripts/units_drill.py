@@ -27,7 +27,9 @@ from support.checks import COUNTS, check, comes
 NEEDED = "systemd,systemd-sysv,dbus,python3,python3-aiohttp,python3-prometheus-client,curl,procps"
 SYSTEMD = "/lib/systemd/systemd"
 BOOT, SOON = 60, 60  # seconds for the start of the container, and for a command in it
-WORKERS = 255 + 31  # of the unit's command
+# A thread for each event loop of both client ports, and for the operators and the access log.
+BESIDE_ACTIVE_LOOPS = 1 + 2
+MOST_LOOPS = 64  # of the active port
 UNITS = ("bg-switch", "bg-controller", "bg-dashboard")
 PLAN = "/var/lib/bg/plan.json"
 CONTROL = "/run/bg-switch/control"
@@ -166,8 +168,14 @@ def start(inside: Container) -> None:
         True,
     )
     threads = inside.run("ls", f"/proc/{inside.shown('bg-switch', 'MainPID')}/task").printed.split()
+    loops = min(int(inside.run("nproc").printed), MOST_LOOPS)
+    check(
+        "the switch has a thread for each event loop",
+        len(threads),
+        loops + BESIDE_ACTIVE_LOOPS,
+    )
     most = int(inside.shown("bg-switch", "TasksMax"))
-    check("the switch has a thread for each worker", WORKERS < len(threads) < most, True)
+    check("the unit lets it have more", len(threads) < most, True)
 
 
 def roll_out(inside: Container) -> None:

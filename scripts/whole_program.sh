@@ -84,6 +84,8 @@ serve --active 1 --control 2 --workers 0 --count 4
 serve --active 1 --control 2 --workers 8 --count 4
 serve --active 1 --control 2 --workers 3 --count 0
 serve --active 1 --control 2 --workers 3 --count 1000001
+serve --active 1 --control 2 --workers 3 --count 4 --threads 0
+serve --active 1 --control 2 --workers 3 --count 4 --threads 65
 END
 expect 2 /dev/null '?*' "$(printf '\377')" < /dev/null
 expect 2 /dev/null '?*--seats*' replay --help < /dev/null
@@ -92,7 +94,7 @@ expect 2 /dev/null '?*--active*' serve --help < /dev/null
 # The help says what a connection is that counts, who `quit` ends, and what each word takes.
 for word in '' serve; do
     expect 2 /dev/null '*[Aa]ny connection counts*health check*quit ends the operators*not the workers*' $word --help < /dev/null
-    expect 2 /dev/null '*--active*65535*--preview*65535*--control*65535*--workers*1 to 7*--count*1 to 1000000*' $word --help < /dev/null
+    expect 2 /dev/null '*--active*65535*--preview*65535*--control*65535*--workers*1 to 7*--threads*1 to 64*--count*1 to 1000000*' $word --help < /dev/null
 done
 expect 2 /dev/null '*1 to 8*4 where it isn*' replay --help < /dev/null
 

@@ -68,6 +68,17 @@ class Lines(unittest.TestCase):
         self.assertEqual(
             read_line(LINE[:-1] + b',"idle_connections":4}'), expected._replace(idle_connections=4)
         )
+        self.assertEqual((expected.connection_request, expected.upstream_reused), (None, None))
+        for member, is_reused in ((b"true", True), (b"false", False)):
+            kept = read_line(
+                LINE[:-1] + b',"connection_request":3,"upstream_reused":' + member + b"}"
+            )
+            self.assertEqual(
+                kept, expected._replace(connection_request=3, upstream_reused=is_reused)
+            )
+            # 1 == True, which no caller should depend on
+            assert isinstance(kept, LogEntry)
+            self.assertIs(kept.upstream_reused, is_reused)
         for wrong in (
             b'"idle_connections":"4"',
             b'"slot_port":"9202"',
@@ -76,9 +87,28 @@ class Lines(unittest.TestCase):
             b'"tries":true',
             b'"tries":1e400',
             b'"slot_port":[]',
+            b'"connection_request":"3"',
+            b'"connection_request":true',
+            b'"connection_request":-1',
+            b'"connection_request":1e400',
+            b'"upstream_reused":1',
+            b'"upstream_reused":0',
+            b'"upstream_reused":"true"',
+            b'"upstream_reused":[]',
         ):
             with self.subTest(member=wrong), self.assertRaises(LogEntryError):
                 read_line(LINE[:-1] + b"," + wrong + b"}")
+
+    def test_a_request_on_a_kept_connection(self) -> None:
+        for number, is_kept in ((None, False), (1, False), (2, True), (1000, True)):
+            entry = ANSWERED._replace(connection_request=number)
+            self.assertIs(entry.is_on_kept_connection, is_kept, number)
+
+    def test_when_a_request_began(self) -> None:
+        """Of a later request of a connection the duration counts from its first byte on."""
+        for number in (None, 1, 2):
+            entry = ANSWERED._replace(time=BEGIN + 9, duration_ms=2000.0, connection_request=number)
+            self.assertEqual(entry.begun, BEGIN + 7, number)
 
     def test_a_refusal_without_an_endpoint(self) -> None:
         told = [reason for reason, *_ in REFUSALS if refused(reason).is_without_endpoint]
@@ -102,6 +132,9 @@ class Lines(unittest.TestCase):
             ANSWERED,
             *(refused(reason) for reason, *_ in REFUSALS),
             ANSWERED._replace(target='"\\\n\u2028<'),
+            ANSWERED._replace(connection_request=1, upstream_reused=False),
+            ANSWERED._replace(connection_request=2, upstream_reused=True),
+            ANSWERED._replace(connection_request=3),
             ANSWERED._replace(
                 status=None, end="closed", request_bytes=None, response_bytes=None, upstream_ms=None
             ),

@@ -504,6 +504,17 @@ class Metrics(Dashboard):
         assert isinstance(recent, dict)
         self.assertEqual([each["port"] for each in recent["web-v2"]["ports"]], [9202])
 
+    def test_requests_on_kept_connections(self) -> None:
+        self.log.add(
+            each._replace(connection_request=number, upstream_reused=number > 2)
+            for number, each in enumerate(self.now([Part(2, 5)]), 1)
+        )
+        labels = '{revision="web-v2",service="active",status="2xx"}'
+        self.assertTrue(
+            comes(lambda: self.value(f"bg_switch_kept_connection_requests_total{labels}") == 4)
+        )
+        self.assertEqual(self.value(f"bg_switch_upstream_reused_requests_total{labels}"), 3)
+
     def test_clients_that_have_gone(self) -> None:
         now = time.time()
         gone = refused("client_gone")._replace(time=now, revision=2, idle_connections=5)

@@ -193,6 +193,20 @@ class Counted(unittest.TestCase):
         )
         self.assertEqual(counted.idle_connections, 7)
 
+    def test_requests_on_kept_connections(self) -> None:
+        """A first request is on no kept connection, though its endpoint's connection may be
+        reused."""
+        counted = Totals()
+        for number, is_reused in ((None, None), (1, False), (1, True), (2, False), (3, True)):
+            counted.add(
+                ANSWERED._replace(connection_request=number, upstream_reused=is_reused), "a"
+            )
+        counted.add(refused("head")._replace(connection_request=4), "a")
+        self.assertEqual(
+            {labels.status: (found.kept, found.reused) for labels, found in counted.items()},
+            {"2xx": (2, 2), "4xx": (1, 0)},
+        )
+
     def test_names_that_are_too_old_are_dropped(self) -> None:
         counted = Totals()
         with mock.patch.object(totals, "MOST_REVISIONS", 2):

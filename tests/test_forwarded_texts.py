@@ -9,9 +9,11 @@ import unittest
 from typing import NamedTuple
 
 import read_alike
+from support.messages import response
 from support.reserved import HOST
 from support.smuggling.differences import DIFFERENCES
 from support.smuggling.forwarded import (
+    CLOSE,
     Answered,
     Forwarded,
     Judged,
@@ -218,6 +220,39 @@ class Switches(unittest.TestCase):
                 pass
             connection.sendall(b"more")
         self.assertEqual(recorder.texts.get(timeout=30), GOOD + b"more")
+
+    def test_requests_of_a_kept_connection_are_recorded(self) -> None:
+        """Each is a text, with what came behind it before its answer."""
+        recorder, kept = Recorder(), GOOD.replace(CLOSE, b"")
+        with socket.create_connection((HOST, recorder.port)) as connection:
+            for text in (kept, kept + b"more", GOOD):
+                connection.sendall(text)
+                self.assertEqual(connection.recv(4096), response(b""))
+        texts = [recorder.texts.get(timeout=30) for _ in range(3)]
+        self.assertEqual(texts, [kept, kept + b"more", GOOD])
+
+    def test_a_part_behind_kept_requests_is_recorded(self) -> None:
+        recorder, kept = Recorder(), GOOD.replace(CLOSE, b"")
+        with socket.create_connection((HOST, recorder.port)) as connection:
+            connection.sendall(kept)
+            self.assertEqual(connection.recv(4096), response(b""))
+            connection.sendall(kept[:9])
+        texts = [recorder.texts.get(timeout=30) for _ in range(2)]
+        self.assertEqual(texts, [kept, kept[:9]])
+
+    def test_whether_the_answers_are_those_of_the_endpoint(self) -> None:
+        for statuses, count, is_plain, is_kept in (
+            ((200,), 1, True, True),
+            ((200, 200), 2, True, True),
+            ((200, 400), 1, False, True),
+            ((200,), 2, False, False),
+            ((200, 200), 1, False, False),
+            ((400, 200), 1, False, False),
+            ((200, 400, 400), 1, False, False),
+        ):
+            answered = Answered(statuses, (GOOD,) * count)
+            told = (answered.is_answered(), answered.is_answered(keeps=True))
+            self.assertEqual(told, (is_plain, is_kept), statuses)
 
     def test_when_a_request_is_whole(self) -> None:
         self.assertEqual({is_whole(GOOD[:count]) for count in range(len(GOOD))}, {False})

@@ -32,13 +32,15 @@ PACKAGED_COMMANDS = (
 LINK = re.compile(r"\[[^\]]*\]\(([^)#\s]*)(?:#[^)\s]*)?\)")
 ARCHIVE = "/usr/share/bg-switch/bg_switch_tools.pyz"
 KINDS_OF_CHANGE = ("Added", "Changed", "Deprecated", "Removed", "Fixed", "Security")
-# Descriptors for each worker, connections at each client port, operators at the control port, and
-# what the switch has beside.
-FOR_A_WORKER, FOR_A_PORT, FOR_OPERATORS, OWN = 3, 1024, 1024, 64
-# Memory in MiB: the largest request and response of a worker; requests and responses that a client
+# The event loops of both client ports at most, each of which has a thread and a descriptor.
+LOOPS = 64 + 1
+# Descriptors for each request at a time, connections at each client port, operators at the control
+# port, and what the switch has beside.
+FOR_A_REQUEST, FOR_A_PORT, FOR_OPERATORS, OWN = 2, 1024, 1024, 64
+# Memory in MiB: the largest request at a time and its response; requests and responses that a client
 # port buffers, for which requests may count twice their bound, and the system's buffers of its
 # sockets if no client reads; and what the switch has beside.
-OF_A_WORKER, OF_A_PORT, BESIDE = 1 + 4, 2 * 128 + 512 + 4 * FOR_A_PORT, 512
+OF_A_REQUEST, OF_A_PORT, BESIDE = 1 + 4, 2 * 128 + 512 + 4 * FOR_A_PORT, 512
 
 
 def version() -> str:
@@ -78,8 +80,8 @@ def values(unit: str, key: str) -> list[str]:
     ]
 
 
-def workers_of_the_switch() -> int:
-    """How many workers both client ports of the unit have."""
+def requests_of_the_switch() -> int:
+    """How many requests both client ports of the unit forward at a time."""
     (start,) = values("bg-switch", "ExecStart")
     active = int(word_after(start, "--concurrency"))
     return active + max(active // 8, 1)
@@ -398,17 +400,17 @@ class Units(unittest.TestCase):
         purge = (TOP / "packaging" / "debian" / "bg-switch.postrm").read_text(encoding="ascii")
         self.assertLessEqual(users | groups, set(re.findall(r"[\w-]+", purge)))
 
-    def test_the_switch_has_descriptors_and_threads_for_all_workers(self) -> None:
-        workers = workers_of_the_switch()
-        needed = FOR_A_WORKER * workers + 2 * FOR_A_PORT + FOR_OPERATORS + OWN
+    def test_the_switch_has_descriptors_for_all_requests_and_threads_for_all_loops(self) -> None:
+        of_requests = FOR_A_REQUEST * requests_of_the_switch()
+        needed = of_requests + 2 * FOR_A_PORT + FOR_OPERATORS + LOOPS + OWN
         self.assertGreaterEqual(int(values("bg-switch", "LimitNOFILE")[0]), needed)
-        self.assertGreaterEqual(int(values("bg-switch", "TasksMax")[0]), workers + OWN)
+        self.assertGreaterEqual(int(values("bg-switch", "TasksMax")[0]), LOOPS + OWN)
 
-    def test_the_switch_has_memory_for_the_largest_messages_of_all_workers(self) -> None:
+    def test_the_switch_has_memory_for_the_largest_messages_of_all_requests(self) -> None:
         (most,) = values("bg-switch", "MemoryMax")
         self.assertEqual(most[-1], "G")
         self.assertGreaterEqual(
-            int(most[:-1]) * 1024, OF_A_WORKER * workers_of_the_switch() + 2 * OF_A_PORT + BESIDE
+            int(most[:-1]) * 1024, OF_A_REQUEST * requests_of_the_switch() + 2 * OF_A_PORT + BESIDE
         )
 
     def test_all_have_one_control_socket(self) -> None:

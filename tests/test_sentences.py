@@ -137,9 +137,11 @@ class Told(unittest.TestCase):
         cells = table_of(
             "## What the program prints", "FIELD is `document`", r"fault (\w+)(?: FIELD)?"
         )
-        # (TooLarge and Bind are no faults of the text; that memory is refused is told on standard
+        # (TooLarge, Bind and Journal are no faults of the text; that memory is refused is told on standard
         # error)
-        named = {name: why for name, why in cells.items() if name not in ("TooLarge", "Bind")}
+        named = {
+            name: why for name, why in cells.items() if name not in ("TooLarge", "Bind", "Journal")
+        }
         self.check("docs/LINES.md", named, self.of[OF_STRATEGIES], "OutOfMemory")
 
 

@@ -226,18 +226,20 @@ def reset_at_once(_: Request, connection: socket.socket) -> None:
 
 class EndpointProcess:
     """An endpoint in a process of its own, which can be killed, and stopped as by SIGSTOP. It
-    answers with its name."""
+    answers with its name, or as another module does that gets these words beside its name and
+    port."""
 
-    def __init__(self, name: str, port: int) -> None:
+    def __init__(self, name: str, port: int, module: str = "support.endpoints", *more: str) -> None:
         self.name = name
         self.port = port
+        self.words = ("-m", module, name, str(port), *more)
         self.start()
 
     def start(self) -> None:
         """Starts the process, and waits until it listens."""
         paths = os.pathsep.join((str(TOP / "scripts"), str(TOP / "lib")))
         self.process = subprocess.Popen(
-            [sys.executable, "-B", "-m", "support.endpoints", self.name, str(self.port)],
+            [sys.executable, "-B", *self.words],
             env={**os.environ, "PYTHONPATH": paths},
             text=True,
         )

@@ -40,11 +40,18 @@ SCRIPTS = (
     "live_memory",
     "live_error_pages",
     "live_event_loop",
+    "live_keep_alive",
+    "keep_alive_clients",
+    "keep_alive_soak",
+    "live_journal",
 )
-FIRST_PORT, PORTS_EACH = 19500, 490
+# The first port of the scripts, and the first that the system gives to connections of itself.
+FIRST_PORT, SYSTEM_PORT = 19_500, 32_768
+PORTS_EACH = (SYSTEM_PORT - FIRST_PORT) // len(SCRIPTS)
 # The system's table of sockets, its columns, and the state of a socket that listens.
 TABLE = pathlib.Path("/proc/net/tcp")
-LOCAL, STATE, QUEUES, INODE, LISTENS = 1, 3, 4, 9, "0A"
+LOCAL, STATE, QUEUES, INODE = 1, 3, 4, 9
+LISTENS, ESTABLISHED = "0A", "01"
 
 
 def all_ports() -> Iterator[int]:
@@ -144,6 +151,16 @@ def has_delivered(port: int) -> bool:
         for fields in rows_at(port)
         if fields[STATE] != LISTENS
     )
+
+
+def has_closed_all(port: int) -> bool:
+    """Whether the program of a port has closed each connection that it has accepted."""
+    return ESTABLISHED not in sockets_at(port)
+
+
+def inodes_at(port: int) -> set[str]:
+    """The numbers of the sockets of the connections that a program keeps at a port (`lsof -i`)."""
+    return {fields[INODE] for fields in rows_at(port) if fields[STATE] != LISTENS}
 
 
 def is_open(port: int) -> bool:

@@ -7,7 +7,7 @@ import pathlib
 import resource
 import signal
 import subprocess
-from collections.abc import Sequence
+from collections.abc import Collection, Sequence
 from typing import Any, NamedTuple
 
 from support.checks import comes
@@ -61,11 +61,11 @@ def status_of(process: "subprocess.Popen[Any]", longest: float = LONGEST) -> int
         return process.wait(widened(longest) - longest)
 
 
-def limit(process: "subprocess.Popen[Any]", longest: float = LONGEST) -> None:
-    """Ends a process after a while, and with this script, so that whoever waits for it fails and
-    doesn't hang."""
+def limit(process: "subprocess.Popen[Any]", longest: float | None = None) -> None:
+    """Ends a process after a while (`LONGEST` as it is now, if none is given), and with this script,
+    so that whoever waits for it fails and doesn't hang."""
     atexit.register(process.kill)
-    at_the_limit(longest, process.kill)
+    at_the_limit(LONGEST if longest is None else longest, process.kill)
 
 
 def stop(process: subprocess.Popen[str]) -> None:
@@ -104,6 +104,20 @@ def end(process: "subprocess.Popen[Any]", longest: float = LONGEST) -> None:
 def descriptors(process: int) -> list[int]:
     """The descriptors that a process has open."""
     return sorted(map(int, os.listdir(f"/proc/{process}/fd")))
+
+
+def links(process: int) -> dict[int, str]:
+    """The descriptors that a process has open, and what each is."""
+    found = {}
+    for descriptor in descriptors(process):
+        with contextlib.suppress(FileNotFoundError):
+            found[descriptor] = os.readlink(f"/proc/{process}/fd/{descriptor}")
+    return found
+
+
+def sockets(process: int) -> int:
+    """How many of the descriptors of a process are sockets."""
+    return sum(target.startswith("socket:") for target in links(process).values())
 
 
 def threads(process: int) -> int:
@@ -157,6 +171,29 @@ def signals(process: int) -> dict[int, int]:
 def posts(process: int) -> int:
     """How many posts of signals no thread of a process has taken."""
     return sum(signals(process).values())
+
+
+def sets_that_watch(process: int, sockets_there: Collection[str]) -> int:
+    """How many epoll sets of a process watch one of the sockets of these numbers."""
+    places = {
+        str(descriptor)
+        for descriptor, target in links(process).items()
+        if target.removeprefix("socket:[").removesuffix("]") in sockets_there
+    }
+    return sum(not places.isdisjoint(watched_by(process, one)) for one in epoll_sets(process))
+
+
+def epoll_sets(process: int) -> list[int]:
+    """The epoll sets of a process."""
+    return [one for one, target in links(process).items() if target == "anon_inode:[eventpoll]"]
+
+
+def watched_by(process: int, epoll_set: int) -> list[str]:
+    """The descriptors that an epoll set of a process watches."""
+    with contextlib.suppress(FileNotFoundError):
+        text = pathlib.Path(f"/proc/{process}/fdinfo/{epoll_set}").read_text(encoding="ascii")
+        return [line.split()[1] for line in text.splitlines() if line.startswith("tfd:")]
+    return []
 
 
 def limit_descriptors(soft: int, hard: int | None = None) -> None:

@@ -9,13 +9,14 @@ from support.switch import Switch
 REASON = r"[^:]*(: .+)?"
 
 
-def fewer_workers(port: str) -> re.Pattern[str]:
-    """Of the workers of a port fewer have begun than were ordered; the groups are both numbers."""
-    return re.compile(rf"bg_switch: the {port} port has (\d+) of (\d+) workers")
+def fewer_event_loops(port: str) -> re.Pattern[str]:
+    """Of the event loops of a port fewer have begun than were ordered; the groups are both
+    numbers."""
+    return re.compile(rf"bg_switch: the {port} port has (\d+) of (\d+) event loops")
 
 
 def no_event_loop(port: str) -> re.Pattern[str]:
-    """The thread that deals with the pending connections of a port hasn't begun."""
+    """No event loop of a port has begun."""
     return re.compile(rf"bg_switch: the {port} port has no event loop")
 
 

@@ -66,11 +66,11 @@ class EndedSwitch(NamedTuple):
 class Switch:
     """A running `serve`, whose connections are counted, and whose standard error is kept.
 
-    With a `count` each worker takes exactly this number of connections, and `end` takes all that
-    the checks have left over; without one it serves for ever. It may have `descriptors`
-    descriptors, `prepare` is called in its process before it starts, and it has these flags beside
-    its other words, and these variables of the environment beside those of the script. With a
-    `path` it takes lines at this control socket, in the place of the control port.
+    With a `count` each port takes exactly this number of connections for each of its `workers`, and
+    `end` takes all that the checks have left over; without one it serves for ever. It may have
+    `descriptors` descriptors, `prepare` is called in its process before it starts, and it has these
+    flags beside its other words, and these variables of the environment beside those of the script.
+    With a `path` it takes lines at this control socket, in the place of the control port.
     """
 
     def __init__(
@@ -161,6 +161,11 @@ class Switch:
     def count_descriptors(self) -> int:
         """How many descriptors the program has open. Each connection that it has taken is one."""
         return len(processes.descriptors(self.process.pid))
+
+    def has_loops(self, count: int) -> bool:
+        """Whether `count` event loops of the client ports have begun, at a time that comes soon.
+        Each has an epoll set, and so have the operators' connections."""
+        return comes(lambda: len(processes.epoll_sets(self.process.pid)) == count + 1)
 
     @property
     def place(self) -> Control:

@@ -1,8 +1,8 @@
 """`bg_switch serve` on loopback through a rollout: what clients, operators and endpoints get, and
 the last report.
 
-Each worker takes exactly K connections. What the checks leave over of them, the end of a switch
-takes.
+The ports take exactly K connections for each worker. What the checks leave over of them, the end of
+a switch takes.
 """
 import collections
 import concurrent.futures

@@ -198,7 +198,7 @@ def ends_of_others(switch: Switch, endpoint: Endpoint) -> list[tuple[str, tuple[
         comes(lambda: switch.open_requests() == [1])
         reset(client)
         check(
-            "a client that has gone frees its worker",
+            "a client that has gone frees its seat",
             comes(lambda: switch.open_requests() == [0]),
             True,
         )

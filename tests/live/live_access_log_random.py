@@ -34,6 +34,9 @@ KEPT_OF_TARGET = 1024
 LAST = "/last"  # the target of requests whose lines tell the last of what is counted
 SLACK = 2  # milliseconds by which a rounded time may be off
 SLOW = 0.25  # seconds
+# Seconds for which a busy machine may run no loop between an answer that its client has read and the
+# line of its request.
+LATE = 30
 STRATEGY = """{{"spec": {{"replicas": 3, "strategy": {{"blueGreen": {{"activeService": "web", {preview}
 "autoPromotionEnabled": false}}}}}}}}"""
 WITH_PREVIEW = STRATEGY.format(preview='"previewService": "web-preview",')
@@ -391,7 +394,8 @@ def fits_times(entry: LogEntry, seen: Answered, served: Served | None) -> bool:
     """Whether the times of a line lie within what the client and the endpoint measured."""
     millis = (seen.ended - seen.begun) * 1000 + SLACK
     if not seen.was_cut and not (
-        seen.begun - SLACK / 1000 <= entry.time <= seen.ended and entry.duration_ms <= millis
+        seen.begun - SLACK / 1000 <= entry.time <= seen.ended + LATE
+        and entry.duration_ms <= millis + LATE * 1000 * (entry.time > seen.ended)
     ):
         return False
     if entry.revision is None:

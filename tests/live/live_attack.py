@@ -40,8 +40,8 @@ def drip_again(port: int, text: bytes, rounds: int) -> list[clients.Timed]:
 
 
 def dripping_clients() -> None:
-    """Seven clients that send a byte every second, at seven workers, beside polite ones at both
-    ports."""
+    """Seven clients that send a byte every second, as many as requests may be served at a time,
+    beside polite ones at both ports."""
     switch, operator = opened(Endpoint(by_target(b"one")).port, workers=7, count=4, timeout=TIMEOUT)
     texts = [
         b"GET /",

@@ -1,8 +1,9 @@
 """The ports of clients of a running `serve`: requests that come slowly, answers that are taken
-slowly, uploads, clients that have gone, more connections than a port keeps, and workers that all
-wait for endpoints."""
+slowly, uploads, clients that have gone, more connections than a port keeps, and as many requests at
+endpoints as may be there at a time."""
 import contextlib
 import select
+import signal
 import socket
 import threading
 import time
@@ -27,12 +28,19 @@ from support.messages import (
     request,
     response,
 )
-from support.ports import HOST, connections_at, is_refused, unread_at
+from support.ports import (
+    HOST,
+    connections_at,
+    has_delivered,
+    inodes_at,
+    is_refused,
+    unread_at,
+)
 from support.switch import LaterEnd, Switch, opened, serving
 
-# How long, in seconds, a polite client waits at most beside slow ones. If one of them kept a
-# worker, it would wait for the timeout of the switch or longer. That is so long that it ends nothing
-# on a busy machine.
+# How long, in seconds, a polite client waits at most beside slow ones. If one of them kept a seat
+# that it needs, it would wait for the timeout of the switch or longer. That is so long that it ends
+# nothing on a busy machine.
 POLITE = 8.0
 TIMEOUT = 600
 ABORT_ON_CLOSE = "--abort-on-close"
@@ -43,6 +51,9 @@ SLACK = 5.0
 # silent reader go.
 READERS, ROUNDS_OF_READERS, STEADY = 80, 3, 0.2
 BIG = b"x" * 4000000
+# How often clients come at most until they are at several event loops.
+ROUNDS_OF_CLIENTS = 10
+FOUR_LOOPS = ("--threads", "4")
 HEAD_OF_CHUNKS = b"POST / HTTP/1.1\r\nHost: x\r\nTransfer-Encoding: chunked\r\n\r\n"
 MEGABYTE = 1 << 20
 
@@ -163,7 +174,7 @@ def ended_early(port: int, text: bytes) -> bytes | None:
 
 
 def served_once() -> None:
-    """Each connection is given to one worker once, whichever way its request comes: the endpoint
+    """Each connection is given to one event loop once, whichever way its request comes: the endpoint
     counts the requests, and the run ends with the last connection."""
     counting = Counting()
     # requests in pieces have to be whole by then, on a busy machine too
@@ -192,14 +203,14 @@ def served_once() -> None:
     for _ in range(50):
         connect(switch.preview).close()
     check(
-        "each connection is given to a worker",
+        "each connection is given to an event loop",
         comes(lambda: switch.process.poll() is not None),
         True,
     )
     switch.process.terminate()
     ended = switch.wait()
     check(
-        "each connection is given to one worker once",
+        "each connection is given to one event loop once",
         (ended.printed[-10:], ended.status),
         ("calls 240\n", 0),
     )
@@ -305,7 +316,7 @@ class LateReader:
 
 
 def slow_readers() -> None:
-    """Forty clients read an answer of 4 MB at a kilobyte a second: they hold no worker, no request
+    """Forty clients read an answer of 4 MB at a kilobyte a second: they hold no seat, no request
     and no revision, and one that reads on gets all of its answer."""
     one, two = Endpoint(by_target(b"one")), Endpoint(by_target(b"two"))
     switch, operator = opened(one.port, workers=3, timeout=TIMEOUT)
@@ -429,7 +440,7 @@ def large_bodies() -> None:
 
 def endless_bodies() -> None:
     """A client that was answered and sends on is passed over for ten seconds and up to 16 MiB, and
-    keeps no worker."""
+    keeps no seat."""
     with serving(Endpoint(by_target(b"one")).port, workers=1) as switch:
         with connect(switch.active) as client, contextlib.suppress(OSError):
             client.sendall(head_of(1 << 40))
@@ -529,8 +540,8 @@ def has_bytes(client: socket.socket) -> bool:
 
 
 def room_is_noticed() -> None:
-    """A client that came while the port was full is accepted by a free worker once there is room,
-    whatever the others do."""
+    """A client that came while the port was full is accepted once there is room, whatever the
+    others do."""
 
     for _ in range(4):
         held = Held(b"held")
@@ -547,7 +558,7 @@ def room_is_noticed() -> None:
             uploads[-1].sendall(b"x" * MEGABYTE)
             check("a client that waited for room", received(late), answer(b"one"))
             check(
-                "a worker was free: the other one still waits for its endpoint",
+                "a seat was free: the request at the other one still waits for its endpoint",
                 (has_bytes(uploads[-1]), held.holds(1)),
                 (False, True),
             )
@@ -555,7 +566,7 @@ def room_is_noticed() -> None:
 
 
 def memory_of_pending_requests() -> None:
-    """Requests that came whole and wait for a worker count: beyond the bound no further large
+    """Requests that came whole and wait for a seat count: beyond the bound no further large
     request is read."""
     held = Held(b"held")
     with serving(Endpoint(held).port, timeout=TIMEOUT) as switch, contextlib.ExitStack() as stack:
@@ -613,19 +624,19 @@ def ten_thousand_left_open() -> None:
 
 @contextlib.contextmanager
 def busy(switch: Switch, held: Held, count: int) -> Iterator[None]:
-    """`count` workers wait for an endpoint."""
+    """`count` requests, of which no more may be forwarded at a time, wait for an endpoint."""
     with contextlib.ExitStack() as stack:
         for _ in range(count):
             client = stack.enter_context(connect(switch.active))
             client.sendall(request(b"/held"))
-        check("all workers wait for endpoints", held.holds(count), True)
+        check("all seats wait for endpoints", held.holds(count), True)
         yield
         held.is_free.set()
 
 
-def all_workers_busy() -> None:
-    """While all workers wait for endpoints, a pending answer is written, a request is read, and one
-    is ended at its time."""
+def all_seats_taken() -> None:
+    """While no seat is free, since endpoints are silent, a pending answer is written, a request is
+    read, and one is ended at its time."""
     held, timeout = Held(b"held"), 24
     endpoint = Endpoint(held_at(b"/held", held, by_target(b"one")))
     with serving(
@@ -646,44 +657,68 @@ def all_workers_busy() -> None:
         with busy(switch, held, 2):
             whole = received(reader) == answer(BIG)
             check(
-                "a pending answer is written while all workers wait",
+                "a pending answer is written while no seat is free",
                 (whole, held.closed),
                 (True, 0),
             )
             expecting.sendall(b"Expect: 100-continue\r\n\r\n")
             check(
-                "a request is read while all workers wait",
+                "a request is read while no seat is free",
                 (expecting.recv(100), held.closed),
                 (CONTINUE, 0),
             )
             expecting.sendall(b"abc")
-            check("a late request is answered nothing while all workers wait", received(late), b"")
-            check("all workers have waited meanwhile", (held.pending, held.closed), (2, 0))
+            check("a late request is answered nothing while no seat is free", received(late), b"")
+            check("no seat was free meanwhile", (held.pending, held.closed), (2, 0))
         check("the request that was read meanwhile", received(expecting), answer(b"oneabc"))
 
 
+def connected_to_loops(switch: Switch, least: int) -> list[socket.socket]:
+    """At least so many clients, which are not all at one event loop."""
+    connected: list[socket.socket] = []
+    for _ in range(ROUNDS_OF_CLIENTS):
+        # all loops find clients then, and not one that has accepted each as it came
+        processes.pause(switch.process.pid)
+        connected += [connect(switch.active) for _ in range(least)]
+        switch.process.send_signal(signal.SIGCONT)
+        check("they are accepted", comes(partial(has_clients, switch, len(connected))), True)
+        inodes = inodes_at(switch.active)
+        if comes(lambda: processes.sets_that_watch(switch.process.pid, inodes) > 1, 1.0):
+            break
+    return connected
+
+
+def has_clients(switch: Switch, count: int) -> bool:
+    return connections_at(switch.active) == count
+
+
 @contextlib.contextmanager
-def requests_that_wait(switch: Switch, held: Held, count: int) -> Iterator[list[socket.socket]]:
-    """`count` clients whose requests are whole, and wait for the one worker, which waits for its
-    endpoint."""
-    waiting = [connect(switch.active) for _ in range(count)]
+def requests_that_wait(switch: Switch, held: Held, least: int) -> Iterator[list[socket.socket]]:
+    """At least so many clients of several event loops, whose requests have come whole one after the
+    other, and wait for the one seat, whose request waits for its endpoint."""
+    waiting = connected_to_loops(switch, least)
+    inodes = inodes_at(switch.active)
+    check(
+        "they are at several event loops",
+        processes.sets_that_watch(switch.process.pid, inodes) > 1,
+        True,
+    )
     for number, client in enumerate(waiting):
         client.sendall(request(b"/%d" % number)[:-1])
-    check("they are accepted", comes(lambda: connections_at(switch.active) == count), True)
     check("they are read", comes(lambda: unread_at(switch.active) == 0), True)
     with connect_and_send(switch.active, request(b"/held")):
-        check("the worker waits for its endpoint", held.holds(1), True)
-        for number, client in enumerate(waiting, 1):
+        check("the request at the seat waits for its endpoint", held.holds(1), True)
+        for client in waiting:
             client.sendall(b"\n")
-            check("a request waits for the worker", comes(partial(has_posts, switch, number)), True)
+            check("a request waits for the seat", comes(partial(is_read, switch, client)), True)
         yield waiting
         for client in waiting:
             client.close()
 
 
-def has_posts(switch: Switch, count: int) -> bool:
-    """Whether `count` signals between the threads of a switch wait to be taken."""
-    return processes.posts(switch.process.pid) == count
+def is_read(switch: Switch, client: socket.socket) -> bool:
+    """Whether the switch has read all that a client has sent."""
+    return has_delivered(client.getsockname()[1]) and unread_at(switch.active) == 0
 
 
 def connect_and_send(port: int, text: bytes) -> socket.socket:
@@ -693,8 +728,8 @@ def connect_and_send(port: int, text: bytes) -> socket.socket:
 
 
 def first_come_first_served() -> None:
-    """A worker takes the requests that wait, in their order, before it accepts clients that came
-    later."""
+    """The requests that wait for a seat get it in their order, whichever event loops they are at,
+    and before those that came later."""
     held, order = Held(b"held"), list[bytes]()
 
     def note(asked: Request, connection: socket.socket) -> None:
@@ -702,41 +737,50 @@ def first_come_first_served() -> None:
         connection.sendall(response(b"one"))
 
     with serving(
-        Endpoint(held_at(b"/held", held, note)).port, workers=1, timeout=TIMEOUT
+        Endpoint(held_at(b"/held", held, note)).port, workers=1, timeout=TIMEOUT, flags=FOUR_LOOPS
     ) as switch:
-        with requests_that_wait(switch, held, 5) as waiting:
+        with requests_that_wait(switch, held, 8) as waiting:
             later = [connect_and_send(switch.active, request(b"/later")) for _ in range(5)]
             held.is_free.set()
             check(
                 "all are answered",
                 [received(client) for client in (*waiting, *later)],
-                [answer(b"one")] * 10,
+                [answer(b"one")] * (len(waiting) + 5),
             )
     check(
         "the order of the requests",
         order,
-        [b"/%d" % number for number in range(5)] + [b"/later"] * 5,
+        [b"/%d" % number for number in range(len(waiting))] + [b"/later"] * 5,
     )
 
 
 def missed_signal() -> None:
-    """A request that waits is served though no worker has seen the signal for it."""
-    held = Held(b"held")
-    with serving(
-        Endpoint(held_at(b"/held", held, by_target(b"one"))).port, workers=1, timeout=TIMEOUT
-    ) as switch:
-        with requests_that_wait(switch, held, 3) as waiting:
-            faults.take_posts(switch.process.pid)
+    """A request that waits is served though no event loop has seen the signal for it."""
+    signals: list[int] = []  # of which the first switch loses none
+    for _ in range(2):
+        held = Held(b"held")
+        switch, operator = opened(
+            Endpoint(held_at(b"/held", held, by_target(b"one"))).port,
+            timeout=TIMEOUT,
+            flags=FOUR_LOOPS,
+            prepare=partial(faults.refuse_posts, signals),
+        )
+        operator.close()
+        with requests_that_wait(switch, held, 8) as waiting:
             held.is_free.set()
             check(
-                "requests whose signal was lost",
+                f"requests that wait, of {len(signals)} signals lost",
                 [received(client) for client in waiting],
-                [answer(b"one")] * 3,
+                [answer(b"one")] * len(waiting),
             )
+        posts = processes.posts(switch.process.pid)
+        check(f"signals are posted, of {len(signals)} lost", posts > 0, not signals)
+        signals = list(processes.signals(switch.process.pid))
+        switch.stop()
 
 
 def leave_by(way: Callable[[socket.socket], None], *flags: str) -> None:
-    """Clients that have gone in this way keep no worker."""
+    """Clients that have gone in this way keep no seat."""
     held = Held(b"held")
     endpoint = Endpoint(held_at(b"/held", held, by_target(b"one")))
     with serving(endpoint.port, workers=2, timeout=TIMEOUT, flags=flags) as switch:
@@ -753,7 +797,7 @@ def leave_by(way: Callable[[socket.socket], None], *flags: str) -> None:
                 timed(switch.active).answer,
                 answer(b"one"),
             )
-            check_soon("a client that has gone frees its worker", time.monotonic() - start, POLITE)
+            check_soon("a client that has gone frees its seat", time.monotonic() - start, POLITE)
             check(
                 "the endpoint of a client that has gone sees its connection closed",
                 comes(lambda: held.closed == number, POLITE),
@@ -849,8 +893,15 @@ def stuck_uploads() -> None:
 
 
 def paused_uploads() -> None:
-    """Uploads that are paused because others wait for a worker are ended at their time."""
+    """Uploads that are paused because others wait for a seat are ended at their time."""
     held, timeout = Held(b"held"), 20
+    sent = list[socket.socket]()
+
+    def send(client: socket.socket) -> None:
+        with contextlib.suppress(OSError):
+            client.sendall(bytes(MEGABYTE))
+            sent.append(client)
+
     with serving(Endpoint(held).port, timeout=timeout) as switch, contextlib.ExitStack() as stack:
         uploads = [stack.enter_context(connect(switch.active)) for _ in range(300)]
         for client in uploads:
@@ -858,16 +909,16 @@ def paused_uploads() -> None:
             client.sendall(head_of(MEGABYTE))
         check("all are accepted", comes(lambda: connections_at(switch.active) >= 300), True)
         stack.enter_context(connect(switch.active)).sendall(request())
-        check("the worker waits for its endpoint", held.holds(1), True)
-        senders = {
-            client: threading.Thread(target=send_all, args=(client, bytes(MEGABYTE)), daemon=True)
-            for client in uploads
-        }
-        for sender in senders.values():
-            sender.start()
-        time.sleep(2 * timeout)
-        stuck = [client for client, sender in senders.items() if sender.is_alive()]
-        check("some uploads were paused", len(stuck) > 0, True)
+        check("the request at the seat waits for its endpoint", held.holds(1), True)
+        for client in uploads:
+            threading.Thread(target=send, args=(client,), daemon=True).start()
+        time.sleep(timeout / 2)
+        paused = [client for client in uploads if client not in sent]
+        check("some uploads are paused", len(paused) > 0, True)
+        check("paused uploads are not ended before their time", any(map(has_ended, paused)), False)
+        time.sleep(timeout * 3 / 2)
+        stuck = [client for client in paused if client not in sent]
+        check("some uploads stay paused", len(stuck) > 0, True)
         check("paused uploads are ended at their time", all(map(has_ended, stuck)), True)
         held.is_free.set()
 
@@ -948,7 +999,7 @@ if __name__ == "__main__":
             room_is_noticed,
             memory_of_pending_requests,
             steady_clients,
-            all_workers_busy,
+            all_seats_taken,
             first_come_first_served,
             missed_signal,
             clients_that_close,

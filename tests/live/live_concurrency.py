@@ -1,7 +1,9 @@
-"""`bg_switch serve --concurrency` on loopback: hundreds of requests at a time, and workers that
+"""`bg_switch serve --concurrency` on loopback: hundreds of requests at a time, and event loops that
 wait."""
 import concurrent.futures
 import contextlib
+import os
+import pathlib
 import random
 import re
 import resource
@@ -11,17 +13,18 @@ import socket
 import subprocess
 import threading
 import time
-from collections.abc import Callable, Iterator
+from collections.abc import Callable, Iterator, Sequence
 
 from support import checks, clients, processes
 from support.checks import check, check_soon, check_within, comes
 from support.endpoints import Endpoint, Request
 from support.messages import BAD_GATEWAY, BY_HAND, UNAVAILABLE, answer, request, response
 from support.ports import connections_at, free_ports
+from support.random_orders import RandomOrders
 from support.processes import descriptors, resident_memory, threads
 from support.switch import Switch
 
-# How long a worker's thread may keep waiting if it has ended its work, in seconds.
+# How long a request may stay open whose client has gone, in seconds.
 SOON = 10
 # For how many seconds endpoints may be silent: a busy machine needs some until hundreds of requests
 # have come.
@@ -34,8 +37,18 @@ SEEN = 0.3
 QUIET = 3
 SEED = 52
 EACH_ORDER = 10  # requests at least, for each order beside them
-# The descriptors that a switch with a thousand workers needs, by its soft and its hard limit.
+# The descriptors that a switch needs with a thousand requests at a time, by its soft and its hard
+# limit.
 MANY = (8192, 8192)
+# The event loops of the active port in the parts that count threads, calls or memory, which would
+# else depend on the machine.
+LOOPS = 4
+LOOPS_GIVEN = ("--threads", str(LOOPS))
+# The most that the active port may have.
+MOST_LOOPS = 64
+# The threads of a switch without an access log beside those of its event loops: that of the operators.
+OTHER_THREADS = 1
+CPU_MAX = pathlib.Path("/sys/fs/cgroup/cpu.max")
 
 
 class Gate:
@@ -68,16 +81,21 @@ def held(port: int, count: int) -> Iterator[list[socket.socket]]:
 
 @contextlib.contextmanager
 def serving(
-    gate: Gate, descriptors: tuple[int, int], *words: str, preview: bool = True
+    gate: Gate,
+    descriptors: tuple[int, int],
+    *words: str,
+    preview: bool = True,
+    prepare: Callable[[], object] = lambda: None,
 ) -> Iterator[Switch]:
     """A switch with these words in place of `--workers`, that serves the endpoint. `descriptors`
-    are its soft and its hard limit."""
+    are its soft and its hard limit. `prepare` is called in its process before it starts."""
     switch = Switch(
         BY_HAND,
         instead_of_workers=words,
         preview=preview,
         descriptors=descriptors,
         timeout=TIMEOUT,
+        prepare=prepare,
     )
     try:
         check("opened", switch.answer_to(f"open one {gate.endpoint.port}"), "ok 0")
@@ -176,14 +194,14 @@ def traced(process: int) -> Iterator[Callable[[float], int]]:
         reader.join()
 
 
-def calls_of_idle_workers() -> None:
-    """An idle switch with 1,000 workers makes at most ten system calls a second, all threads
-    together."""
+def calls_of_idle_loops() -> None:
+    """An idle switch for 1,000 requests at a time makes at most ten system calls a second, all
+    threads together."""
     if shutil.which("strace") is None:
-        print("live_concurrency: no strace, so the system calls of idle workers were not counted")
+        print("live_concurrency: no strace, so the system calls of idle loops were not counted")
         return
     gate = Gate()
-    with serving(gate, MANY, "--concurrency", "1000") as switch:
+    with serving(gate, MANY, "--concurrency", "1000", *LOOPS_GIVEN) as switch:
         check("a request", clients.asked(switch.active, request()), answer(b"ok"))
         with traced(switch.process.pid) as count:
             check("each thread waits again", comes(lambda: count(QUIET) <= 10 * QUIET), True)
@@ -194,19 +212,57 @@ def calls_of_idle_workers() -> None:
         check("a request after it", clients.asked(switch.active, request()), answer(b"ok"))
 
 
-def memory_of_idle_workers() -> None:
-    """An idle worker takes at most 64 KiB of memory."""
+def threads_and_memory() -> None:
+    """There is a thread for each event loop and a few others, however many requests may be served
+    at a time. While none is, each of them takes at most 64 KiB of memory."""
     gate = Gate()
     sizes = []
     for count in ("1", "1000"):
-        with serving(gate, MANY, "--concurrency", count, preview=False) as switch:
+        with serving(gate, MANY, "--concurrency", count, *LOOPS_GIVEN, preview=False) as switch:
+            process = switch.process.pid
             check("a request", clients.asked(switch.active, request()), answer(b"ok"))
-            check("its threads", comes(lambda: threads(switch.process.pid) >= int(count)), True)
-            sizes.append(resident_memory(switch.process.pid))
-    check_within("KiB of an idle worker", (sizes[1] - sizes[0]) / 999, 64)
+            check("its threads", comes(lambda: threads(process) == LOOPS + OTHER_THREADS), True)
+            sizes.append(resident_memory(process))
+    check_within("KiB of a request at a time that is not there", (sizes[1] - sizes[0]) / 999, 64)
 
 
-def descriptors_of_many_workers() -> None:
+def number_of_loops() -> None:
+    """The words say how many event loops the active port has, each in a thread of its own. Without
+    them it has as many as the program has processors. The preview port has one."""
+    own = sorted(os.sched_getaffinity(0))
+    check_loops(own, 1, "--threads", "1")
+    check_loops(own, 7, "--threads=7")
+    check_loops(own[:1], MOST_LOOPS, "--threads", str(MOST_LOOPS))
+    check_loops(own[:1], 1)
+    check_loops(own, min(len(own), quota(), MOST_LOOPS))
+
+
+def check_loops(processors: Sequence[int], loops: int, *words: str) -> None:
+    """Checks the number of threads of a switch with these words, which runs on these processors."""
+    name = " ".join(words) or f"{len(processors)} processors"
+    with serving(
+        Gate(),
+        MANY,
+        "--concurrency",
+        "8",
+        *words,
+        prepare=lambda: os.sched_setaffinity(0, processors),
+    ) as switch:
+        expected, process = loops + 1 + OTHER_THREADS, switch.process.pid
+        check(f"{name}: a request", clients.asked(switch.active, request()), answer(b"ok"))
+        comes(lambda: threads(process) == expected)
+        check(f"{name}: threads", threads(process), expected)
+
+
+def quota() -> int:
+    """How many processors a container leaves to its programs (`cpu.max` of cgroups)."""
+    with contextlib.suppress(OSError, ValueError):
+        limit, period = CPU_MAX.read_text(encoding="ascii").split()
+        return max(int(limit) // int(period), 1)
+    return MOST_LOOPS
+
+
+def descriptors_of_many_requests() -> None:
     """The switch raises its soft limit of descriptors to the hard one, and says if that is too
     little."""
     gate = Gate()
@@ -222,13 +278,13 @@ def descriptors_of_many_workers() -> None:
 class Soak:
     """Clients of many kinds, operators and endpoints that crash, by a seed."""
 
-    def __init__(self, requests: int, workers: int) -> None:
+    def __init__(self, requests: int, concurrency: int) -> None:
         self.rng = random.Random(SEED)
         self.requests = requests
         self.endpoints = [Endpoint(self.answer, port) for port in free_ports(2)]
         self.switch = Switch(
             BY_HAND,
-            instead_of_workers=("--concurrency", str(workers)),
+            instead_of_workers=("--concurrency", str(concurrency)),
             descriptors=MANY,
             timeout=TIMEOUT,
         )
@@ -265,36 +321,10 @@ class Soak:
 
     def operate(self) -> None:
         """Orders at random, none of which takes the last endpoint for long."""
-        rng = random.Random(SEED + 1)
-        first, second = (endpoint.port for endpoint in self.endpoints)
-        lines = [
-            f"deploy two {second}",
-            "available 2 1",
-            "promote",
-            "promote full",
-            "abort",
-            "retry",
-            "available 1 1",
-            f"deploy one {first}",
-            "tick 1",
-            "report",
-            "compact",
-            "verdict pre successful",
-            "available 1 0",
-            "available 1 1",
-            "available 2 1",
-        ]
-        moment, count = 1, 0
-        while not self.over.wait(0.02):
-            # a slow machine does not make more orders of the same requests
-            if self.begun < count * EACH_ORDER:
-                continue
-            count += 1
-            line = rng.choice(lines)
-            if line == "tick 1":
-                moment += rng.randrange(3)
-                line = f"tick {moment}"
-            self.switch.answer_to(line)
+        first, second = ((endpoint.port,) for endpoint in self.endpoints)
+        orders = RandomOrders(self.switch, first, second, SEED + 1)
+        # a slow machine does not make more orders of the same requests
+        orders.play(self.over, lambda: self.begun // EACH_ORDER)
 
     def crash_endpoints(self) -> None:
         rng = random.Random(SEED + 2)
@@ -371,7 +401,7 @@ class Soak:
 
 
 def requests_beside_crashes() -> None:
-    """3,000 requests over 200 workers, with random orders, endpoints that crash, and clients that
+    """3,000 requests, 200 at a time, with random orders, endpoints that crash, and clients that
     go."""
     Soak(3_000, 200).run(64)
 
@@ -389,9 +419,10 @@ if __name__ == "__main__":
             hundreds_at_a_time,
             most_at_a_time,
             a_slow_route_beside_a_fast_one,
-            calls_of_idle_workers,
-            memory_of_idle_workers,
-            descriptors_of_many_workers,
+            calls_of_idle_loops,
+            threads_and_memory,
+            number_of_loops,
+            descriptors_of_many_requests,
             requests_beside_crashes,
         ],
         by_hand=[three_hundred_thousand],

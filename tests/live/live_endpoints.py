@@ -56,8 +56,8 @@ def check_gateway(name: str, got: Timed, least: float, most: float) -> None:
 
 
 def connects_that_hang() -> None:
-    """A connect to an endpoint whose backlog is full takes 5 seconds at most, and its worker is
-    free again."""
+    """A connect to an endpoint whose backlog is full takes 5 seconds at most, and its seat is free
+    again."""
     with full_backlog() as port, serving(port, workers=3) as switch:
         for got in at_once([partial(timed, switch.active)] * 6):
             check_gateway("a connect that hangs", got, CONNECT - 0.5, 2 * CONNECT + SLACK)
@@ -376,8 +376,9 @@ def most_at_once(asked: Sequence[Sent]) -> int:
 
 def check_sick(name: str, all_sent: Sequence[Sent], timeout: int) -> None:
     """Checks that only requests failed that were at an endpoint that is silent, and that the others
-    were prompt. Its share is half of the workers. While a busy machine lets the other one be at its
-    own share too, it may get more, and requests wait for workers, so they are not counted there."""
+    were prompt. Its share is half of the concurrency. While a busy machine lets the other one be at
+    its own share too, it may get more, and requests wait for seats, so they are not counted there.
+    """
     bad = failed(all_sent)
     check(f"{name}: some requests were at it", bool(bad), True)
     check(
@@ -387,7 +388,7 @@ def check_sick(name: str, all_sent: Sequence[Sent], timeout: int) -> None:
     )
     if not is_busy():
         check_within(
-            f"{name}: workers that wait for it, which leaves some to the other one",
+            f"{name}: requests that wait for it, which leaves seats to the other one",
             most_at_once(bad),
             CONCURRENCY * 3 // 4,
         )
@@ -403,8 +404,8 @@ def check_sick(name: str, all_sent: Sequence[Sent], timeout: int) -> None:
 
 
 def stopped() -> None:
-    """An endpoint that is stopped accepts connections by its backlog. It takes half of the workers
-    at most."""
+    """An endpoint that is stopped accepts connections by its backlog. It takes half of the
+    concurrency at most."""
     both, pace = two_processes(), tempo()
     with serving_two([one.port for one in both], timeout=pace.timeout) as switch:
         all_sent = traffic(switch.active, pace.rate, both[0].stop)

@@ -11,7 +11,6 @@ import signal
 import socket
 import subprocess
 import tempfile
-import threading
 import time
 from collections.abc import Iterator, Sequence
 from functools import partial
@@ -19,25 +18,28 @@ from functools import partial
 from support import TOP, checks, processes
 from support.checks import check, comes
 from support.clients import asked, at_once, connect, received, reset, timed
-from support.endpoints import (
-    END_OF_HEAD,
-    LONGEST,
-    Endpoint,
-    Held,
-    Request,
-    by_target,
-    full_backlog,
-    read_request,
-    reset_at_once,
+from support.endpoints import Endpoint, by_target, full_backlog, reset_at_once
+from support.kept import (
+    CLOSES_AFTERWARDS,
+    DIES,
+    HOLDS,
+    HOST_FIELD,
+    LARGE,
+    ONE_READ,
+    RESETS,
+    SENDS_LATER,
+    SENDS_MORE,
+    SENDS_MORE_UNREAD,
+    SENDS_MUCH,
+    TO_THE_END,
+    KeptClient,
+    KeptEndpoint,
+    echo,
+    is_last,
+    last,
 )
 from support.messages import BAD_GATEWAY, BAD_REQUEST, CONTINUE, answer, request, response
-from support.ports import (
-    connections_at,
-    free_port,
-    has_delivered,
-    is_refused,
-    unread_at,
-)
+from support.ports import connections_at, free_port, is_refused, unread_at
 from support.switch import LISTENING
 
 # isort: split; `support` tells where the tools' package is
@@ -67,20 +69,7 @@ ACCEPTS_HTML = b"Accept: text/html\r\n"
 PAGE = b"<!DOCTYPE html>\n<title>502 Bad Gateway</title>\n<h1>502 Bad Gateway</h1>\n"
 WATCHED = 2.0  # seconds for which the loop's processor time is watched while no descriptor is free
 MOST_BUSY = 0.5  # of these that the processor may be busy
-CLOSES = b"Connection: close\r\n"
-HOST_FIELD = b"Host: x\r\n"
-LARGE = 300_000
-READ = 16_384  # bytes that the loop reads at once
-# What an endpoint does at these targets. It answers all others with the target and the body.
-RESETS, TO_THE_END, SENDS_MUCH = b"/resets", b"/to-the-end", b"/sends-much"
-CLOSES_AFTERWARDS, DIES, HOLDS = b"/closes-afterwards", b"/dies", b"/holds"
-SENDS_MORE, SENDS_MORE_UNREAD, SENDS_LATER = b"/sends-more", b"/sends-more-unread", b"/sends-later"
 HTTP = b"HTTP/1.1 200 OK\r\n"
-UNASKED = response(b"nobody asked for this")
-# A response that one read of the loop takes whole, without the bytes behind it. Its length has five
-# digits.
-HEAD = len(response(bytes(10_000))) - 10_000
-ONE_READ = response(b"x" * (READ - HEAD))
 # Clients whose uploads, of which a part has come, make a round of the loop long. A round has at most
 # 256 events.
 BUSY = 200
@@ -89,85 +78,6 @@ UPLOAD = (
     + b"1\r\na\r\n" * 5_000
 )
 ROUNDS = 10  # that are tried
-
-
-class KeptEndpoint(Endpoint):
-    """An endpoint that keeps each connection until a request says that it is the last one."""
-
-    def __init__(self) -> None:
-        self.connections = 0
-        self.requests: list[Request] = []
-        self.held = Held(b"held")
-        self.may_send_later = threading.Event()
-        self.sent_later = threading.Event()
-        super().__init__(self.answer_by_target)
-
-    def serve(self, connection: socket.socket) -> None:
-        with self.lock:
-            self.connections += 1
-        with connection, contextlib.suppress(OSError):
-            connection.settimeout(LONGEST)
-            while (asked_for := read_request(connection)) is not None:
-                self.note(asked_for)
-                self.answer(asked_for, connection)
-                if is_last(asked_for):
-                    return
-
-    def note(self, asked_for: Request) -> None:
-        with self.lock:
-            self.requests.append(asked_for)
-
-    def answer_by_target(self, asked_for: Request, connection: socket.socket) -> None:
-        target = asked_for.target
-        if target == RESETS:
-            reset_at_once(asked_for, connection)
-        elif target == TO_THE_END:
-            connection.sendall(b"HTTP/1.1 200 OK\r\n\r\nall")
-            connection.close()
-        elif target == SENDS_MUCH:
-            connection.sendall(response(b"x" * LARGE))
-        elif target == CLOSES_AFTERWARDS:
-            connection.sendall(response(target))
-            connection.close()
-        elif target == DIES:
-            connection.sendall(response(target))
-            self.swallow(connection)
-        elif target == SENDS_MORE:
-            connection.sendall(response(target) + UNASKED)
-        elif target == SENDS_MORE_UNREAD:
-            connection.sendall(ONE_READ + UNASKED)
-        elif target == SENDS_LATER:
-            connection.sendall(response(target))
-            self.may_send_later.wait(LONGEST)
-            connection.sendall(UNASKED)
-            self.sent_later.set()
-        elif target == HOLDS:
-            self.held(asked_for, connection)
-        else:
-            connection.sendall(response(echo(target, asked_for.body)))
-
-    def swallow(self, connection: socket.socket) -> None:
-        """Reads one more request, and closes the connection without an answer."""
-        if (swallowed := read_request(connection)) is not None:
-            self.note(swallowed)
-        connection.close()
-
-    def has_sent_later(self) -> bool:
-        """Whether unasked bytes have come to the system of the loop, at a time that comes soon."""
-        return self.sent_later.wait(LONGEST) and comes(lambda: has_delivered(self.port))
-
-    def targets(self) -> list[bytes]:
-        """The targets of all requests, in the order in which they came."""
-        with self.lock:
-            return [one.target for one in self.requests]
-
-
-def is_last(asked_for: Request) -> bool:
-    return asked_for.value(b"Connection") == b"close"
-
-
-def echo(target: bytes, body: bytes = b"") -> bytes:
-    return target + b" " + body
 
 
 class EventLoop:
@@ -257,51 +167,6 @@ def running(
         event_loop.begin_shutdown()
         event_loop.endpoint.held.is_free.set()
     event_loop.check_end(f"{mode}: a shutdown ends the program")
-
-
-def last(text: bytes) -> bytes:
-    """A request that says that it is the last one of its connection."""
-    return text.replace(HOST_FIELD, HOST_FIELD + CLOSES, 1)
-
-
-class KeptClient:
-    """A client that sends several requests on one connection."""
-
-    def __init__(self, port: int) -> None:
-        self.connection = connect(port)
-        self.input = self.connection.makefile("rb")
-
-    def __enter__(self) -> "KeptClient":
-        return self
-
-    def __exit__(self, *_: object) -> None:
-        self.input.close()
-        self.connection.close()
-
-    def send(self, text: bytes) -> None:
-        self.connection.sendall(text)
-
-    def answer(self) -> bytes:
-        """The next answer, whose body comes by length; what came of it if the connection ends
-        before."""
-        head = b""
-        while not head.endswith(END_OF_HEAD):
-            line = self.input.readline()
-            if not line:
-                return head
-            head += line
-        lengths = [line for line in head.split(b"\r\n") if line.startswith(b"Content-Length:")]
-        return head + self.input.read(int(lengths[0].partition(b":")[2]) if lengths else 0)
-
-    def answer_to(self, text: bytes) -> bytes:
-        self.send(text)
-        return self.answer()
-
-    def rest(self) -> bytes:
-        """All that comes until the connection ends."""
-        with contextlib.suppress(ConnectionError):
-            return self.input.read()
-        return b""
 
 
 def single_requests() -> None:

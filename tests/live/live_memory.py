@@ -4,6 +4,7 @@ bin/bg_switch sets: without them these parts fail. By hand: the table of docs/OP
 most that the switch of examples/production can take."""
 import concurrent.futures
 import contextlib
+import os
 import random
 import re
 import selectors
@@ -32,8 +33,9 @@ MOST_OF_UPLOADS, MOST_KEPT, SOON = BOUND * 3 // 2, 64, 10
 # Of `UPLOADS` uploads at least `ANSWERED` are answered: the switch may drop a client that is too
 # slow on a busy machine.
 UPLOADS, ANSWERED = 1000, 900
-# The workers of the unit, and clients that send and get messages of mixed sizes, `EXCHANGES` each.
-WORKERS, CLIENTS, EXCHANGES = 255, 40, 25
+# The concurrency of the unit, and clients that send and get messages of mixed sizes, `EXCHANGES`
+# each.
+CONCURRENCY, CLIENTS, EXCHANGES = 255, 40, 25
 SEED = 64
 LARGEST_RESPONSE = 4194304
 # For how many seconds the responses go to clients that read nothing.
@@ -43,7 +45,7 @@ BY_CONCURRENCY = (10, 32, 200, 1000)
 
 @contextlib.contextmanager
 def serving(endpoint: int, concurrency: int) -> Iterator[Switch]:
-    """A switch that serves the endpoint, with `concurrency` workers at the active port."""
+    """A switch that serves the endpoint, with so many requests of the active port at a time."""
     switch = Switch(
         BY_HAND,
         instead_of_workers=("--concurrency", str(concurrency)),
@@ -169,9 +171,9 @@ def soak(port: int, at_once: int, each: int) -> None:
 
 
 def mixed_sizes() -> None:
-    """After messages of all sizes, by many workers, the memory is given back; and the unit's limit
+    """After messages of all sizes, by many clients, the memory is given back; and the unit's limit
     is far above what was taken."""
-    with serving(EndpointProcess("one", free_port()).port, WORKERS) as switch:
+    with serving(EndpointProcess("one", free_port()).port, CONCURRENCY) as switch:
         soak(switch.active, CLIENTS, EXCHANGES)
         check_within(
             "MiB of messages of mixed sizes, beside a quarter of the limit of the unit",
@@ -189,22 +191,23 @@ def memory_of_unit() -> int:
 
 
 def table() -> None:
-    """The memory of docs/OPERATING.md, by the number of workers."""
+    """The memory of docs/OPERATING.md, by the requests at a time."""
     limit_descriptors(16000)
     print(
-        "workers, and MiB: idle, all busy with small messages, at most in a soak of mixed sizes, kept after it"
+        "requests at a time, and MiB: idle, all there with small messages, at most in a soak of mixed sizes, kept after it"
     )
     for concurrency in BY_CONCURRENCY:
         held = Held(b"held")
         with serving(
             Endpoint(held_at(b"/held", held, by_target(b"one"))).port, concurrency
         ) as switch:
-            check("its threads", comes(lambda: threads(switch.process.pid) > concurrency), True)
+            loops = len(os.sched_getaffinity(0)) + 1
+            check("its threads", comes(lambda: threads(switch.process.pid) > loops), True)
             idle = resident(switch)
             with contextlib.ExitStack() as stack:
                 for _ in range(concurrency):
                     stack.enter_context(clients.connect(switch.active)).sendall(request(b"/held"))
-                check("all workers are busy", held.holds(concurrency), True)
+                check("as many requests as may be are there", held.holds(concurrency), True)
                 busy = resident(switch)
                 held.is_free.set()
             soak(switch.active, min(2 * concurrency, 100), 20)
@@ -235,15 +238,15 @@ class Stalling:
 
 
 def most_of_the_unit() -> None:
-    """With the concurrency of the unit, each worker has the largest request and response, as many
-    uploads come as there is room for, and then the responses go to clients that read nothing: the
-    memory stays below the limit of the unit.
+    """With the concurrency of the unit, as many requests as may be are the largest with the largest
+    responses, as many uploads come as there is room for, and then the responses go to clients that
+    read nothing: the memory stays below the limit of the unit.
     """
     limit_descriptors(16000)
     stalling = Stalling()
-    with serving(Endpoint(stalling).port, WORKERS) as switch, contextlib.ExitStack() as stack:
+    with serving(Endpoint(stalling).port, CONCURRENCY) as switch, contextlib.ExitStack() as stack:
         uploads = []
-        for port, workers in ((switch.active, WORKERS), (switch.preview, WORKERS // 8)):
+        for port in (switch.active, switch.preview):
             for _ in range(1000):
                 client = stack.enter_context(clients.connect(port, clients.SMALL_BUFFER))
                 uploads.append(
@@ -254,10 +257,12 @@ def most_of_the_unit() -> None:
         for upload in uploads:
             upload.start()
         check(
-            "all workers are busy", comes(lambda: stalling.pending >= WORKERS + WORKERS // 8), True
+            "as many requests as may be are there",
+            comes(lambda: stalling.pending >= CONCURRENCY + CONCURRENCY // 8),
+            True,
         )
         print(
-            f"MiB while all workers have the largest messages: {resident(switch):.0f}", flush=True
+            f"MiB while all of them have the largest messages: {resident(switch):.0f}", flush=True
         )
         stalling.is_free.set()
         time.sleep(DRAINED)

@@ -29,7 +29,7 @@ NAME, PREVIEW_NAME, UNKNOWN_NAME = "web.example", "preview.web.example", "other.
 # The ports and the control socket that the example has.
 ACTIVE, PREVIEW, CONTROL = 8080, 8081, "/run/bg-switch/control"
 SOCKET = ("--control-socket-mode", "660", "--control-socket-group", "bg-operators")
-CONCURRENCY = ("--concurrency", "255", "--redispatch")
+CONCURRENCY = ("--concurrency", "255", "--keep-alive", "--redispatch")
 DESCRIPTORS = 8192
 SOON = 60
 # A user without rights, who runs the commands of the stop if this script is run by root.

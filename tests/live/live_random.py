@@ -23,7 +23,7 @@ from support.messages import (
     request,
 )
 from support.ports import connections_at
-from support.processes import descriptors, resident_memory
+from support.processes import descriptors, resident_memory, sockets
 from support.rule.book import RuleBook
 from support.rule.entries import Service
 from support.rule.revisions import available, template
@@ -35,6 +35,9 @@ SEED = 30
 CLIENTS = 8
 # How many exchanges make the first mark and the second, and how many come in each step.
 FIRST_MARK, EACH_STEP = 104, 1000
+# How many connections of each worker there are: those of ten thousand exchanges, and of the last
+# clients of each time that they come.
+COUNT = 1270
 # How much more memory, in KiB, the program may have after ten thousand exchanges than after a
 # hundred, when not each worker has had its largest message, and than after a thousand.
 MOST_GROWTH_FROM_HUNDRED = 2048
@@ -53,7 +56,8 @@ REFUSED = [
 
 class ClientRequest(NamedTuple):
     """What a client sends at a port, whether it resets the connection then and hears nothing, what
-    it is answered else, and whether its request enters."""
+    it is answered else, and whether its request enters. One whose client resets the connection may
+    be found gone before it enters."""
 
     port: int
     text: bytes
@@ -68,6 +72,9 @@ class ClientRequest(NamedTuple):
         client.sendall(self.text)
         clients.reset(client)
         return True
+
+    def enters_surely(self) -> bool:
+        return self.enters and not self.resets
 
 
 class Step(NamedTuple):
@@ -116,34 +123,42 @@ def random_client_request(rng: random.Random, port: int, name: bytes | None) -> 
 
 
 class RandomRun:
-    """A switch with eight workers, its operator and three endpoints, and how many requests have
-    entered."""
+    """A switch for seven requests at a time and one, its operator and three endpoints; how many
+    requests have entered, and how many have surely and at most."""
 
-    def __init__(self, count: int) -> None:
+    def __init__(self) -> None:
         self.rng = random.Random(SEED)
-        self.switch = Switch(BY_HAND, workers=7, count=count)
+        self.switch = Switch(BY_HAND, workers=7, count=COUNT)
         self.operator = self.switch.operator()
         self.endpoints = [Endpoint(by_target(name)) for name in (b"one", b"two", b"three")]
-        self.entered = 0
+        self.entered = self.least = self.most = 0
+        # of its ports and of the operator
+        self.operator.check("tick 0", "refused NotOpen")
+        self.sockets = sockets(self.switch.process.pid)
+
+    def served(self) -> int:
+        return sum(endpoint.served for endpoint in self.endpoints)
 
     def has_settled(self) -> bool:
-        """Whether each request that entered has reached an endpoint and left."""
-        served = sum(endpoint.served for endpoint in self.endpoints)
-        return served == self.entered and not any(self.operator.open_requests())
+        """Whether each request that entered has left, and no socket of a client or an endpoint is
+        open."""
+        is_quiet = sockets(self.switch.process.pid) == self.sockets
+        return is_quiet and not any(self.operator.open_requests())
 
     def settled_report(self) -> str:
         """The report once it has settled; requests whose clients are gone may still be under
         way."""
-        check("all that entered have reached an endpoint and left", comes(self.has_settled), True)
+        check("all that entered have left", comes(self.has_settled), True)
         return self.operator.report()
 
     def send(self, step: Step) -> None:
         for line, expected in step.lines.items():
             self.operator.check(line, expected)
 
-    def send_requests(self, count: int, step: Step) -> int:
+    def send_requests(self, count: int, step: Step) -> None:
         """`count` requests at once with the active and the preview port; each eighth is one with
-        the preview port. Gives how many entered."""
+        the preview port. Then one more with each port: it is accepted after all that came before.
+        """
         switch = self.switch
         active, preview = (switch.active, step.active), (switch.preview, step.preview)
         ports = [preview if place % 8 == 0 else active for place in range(count)]
@@ -158,14 +173,35 @@ class RandomRun:
                 [one for one, as_expected in zip(requests, results) if not as_expected][:3],
                 [],
             )
-        entered = sum(one.enters for one in requests)
-        self.entered += entered
+        self.least += sum(one.enters_surely() for one in requests)
+        self.most += sum(one.enters for one in requests)
+        for port, name in (active, preview):
+            self.send_last(port, name)
         self.settled_report()
-        return entered
 
-    def compact(self, entered: int) -> None:
-        """A check that the entries of `entered` requests are dropped from the history."""
-        self.operator.check("compact", f"compacted {2 * entered}")
+    def send_last(self, port: int, name: bytes | None) -> None:
+        self.switch.take(port)
+        expected = UNAVAILABLE if name is None else answer(name)
+        check("a request after those at random", clients.asked(port, request()), expected)
+        self.least += name is not None
+        self.most += name is not None
+
+    def compact(self) -> None:
+        """A check that the entries of all requests that have entered since the last time, and no
+        others, are dropped from the history: two for each."""
+        word, dropped = self.operator.answer_to("compact").split()
+        check("compact", (word, int(dropped) % 2), ("compacted", 0))
+        self.entered += int(dropped) // 2
+        check(
+            "those that surely enter have entered, and those alone that may",
+            self.least <= self.entered <= self.most,
+            True,
+        )
+        check(
+            "those that surely enter have reached an endpoint, and those alone that have entered",
+            self.least <= self.served() <= self.entered,
+            True,
+        )
 
     def has_no_client(self) -> bool:
         return connections_at(self.switch.active) + connections_at(self.switch.preview) == 0
@@ -216,11 +252,11 @@ def first_marks(run: RandomRun, step: Step) -> tuple[Footprint, Footprint]:
     """The first step; gives what the program has after the first hundred exchanges, and after the
     first thousand."""
     run.send(step)
-    entered = run.send_requests(FIRST_MARK, step)
+    run.send_requests(FIRST_MARK, step)
     hundred = run.footprint()
-    entered += run.send_requests(EACH_STEP - FIRST_MARK, step)
+    run.send_requests(EACH_STEP - FIRST_MARK, step)
     thousand = run.footprint()
-    run.compact(entered)
+    run.compact()
     return hundred, thousand
 
 
@@ -238,12 +274,13 @@ def check_footprint(end: Footprint, hundred: Footprint, thousand: Footprint) -> 
 
 def ten_thousand_requests() -> None:
     """Of the history each thousand is dropped."""
-    run, book = RandomRun(count=1251), RuleBook(strategy_of(BY_HAND))
+    run, book = RandomRun(), RuleBook(strategy_of(BY_HAND))
     first, *others = steps_of(book, *(endpoint.port for endpoint in run.endpoints))
     hundred, thousand = first_marks(run, first)
     for step in others:
         run.send(step)
-        run.compact(run.send_requests(EACH_STEP, step))
+        run.send_requests(EACH_STEP, step)
+        run.compact()
     check_footprint(run.footprint(), hundred, thousand)
     told = run.settled_report()
     run.operator.send_quit()

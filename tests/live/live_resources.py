@@ -4,6 +4,7 @@ import concurrent.futures
 import contextlib
 import pathlib
 import resource
+import signal
 import time
 
 from support import checks, clients
@@ -11,7 +12,7 @@ from support.checks import check, check_within, comes
 from support.endpoints import Endpoint, by_target, in_pieces
 from support.messages import BAD_GATEWAY, BY_HAND, NO_PREVIEW, answer, request, response
 from support.ports import is_open, is_refused
-from support.processes import DescriptorLimit
+from support.processes import DescriptorLimit, pause
 from support.switch import Switch, opened, serving
 
 # The C library gives each thread a stack of the limit, and of this size there is none.
@@ -22,6 +23,7 @@ REQUEST, RESPONSE, ANSWER = request(), response(b"ok"), answer(b"ok")
 SEEN = 0.3
 # For how many seconds an idle switch is looked at.
 IDLE = 5
+FOUR_LOOPS = ("--threads", "4")
 
 
 def connections_used_up() -> None:
@@ -48,13 +50,15 @@ def connections_used_up() -> None:
 
 
 def a_client_too_many() -> None:
-    """A client that was still waiting as the port is closed doesn't hang."""
+    """A client that was still waiting for an accept as the port is closed doesn't hang."""
     switch, operator = opened(Endpoint(in_pieces([b"", RESPONSE], 0.5)).port, count=2)
     with contextlib.ExitStack() as stack:
+        pause(switch.process.pid)
         pending = [stack.enter_context(clients.connect(switch.active)) for _ in range(3)]
         switch.take(switch.active, 2)
         for client in pending:
             client.sendall(REQUEST)
+        switch.process.send_signal(signal.SIGCONT)
         got = [clients.received(client) for client in pending]
     check("clients, one too many", got, [ANSWER, ANSWER, b""])
     switch.check_end_after(operator, "the end after a client too many", 4)
@@ -77,7 +81,10 @@ def check_no_dial(name: str, switch: Switch, limit: DescriptorLimit, before: int
 def without_descriptors() -> None:
     """No file descriptor is free: no endpoint is reached; an accept that fails is tried again for
     nearly a second, and counts as one of the connections after that."""
-    switch, operator = opened(Endpoint(by_target(b"one")).port, NO_PREVIEW, count=8, preview=False)
+    switch, operator = opened(
+        Endpoint(by_target(b"one")).port, NO_PREVIEW, count=8, preview=False, flags=FOUR_LOOPS
+    )
+    check("all event loops have begun", switch.has_loops(4), True)
     before = switch.count_descriptors()
     check("descriptors for all", switch.get(switch.active), (200, b"one"))
     limit = DescriptorLimit(switch.process.pid)
@@ -127,10 +134,10 @@ def count_waits(process: int) -> int:
     )
 
 
-def idle_workers() -> None:
-    """Idle workers don't look for work: all threads of an idle switch together wait at most ten
+def idle_loops() -> None:
+    """Idle event loops don't look for work: all threads of an idle switch together wait at most ten
     times a second."""
-    with serving(Endpoint(by_target(b"one")).port, workers=7) as switch:
+    with serving(Endpoint(by_target(b"one")).port, workers=7, flags=FOUR_LOOPS) as switch:
         check("an answer before", clients.timed(switch.active).answer, answer(b"one"))
         time.sleep(2)
         before, start = count_waits(switch.process.pid), time.monotonic()
@@ -141,8 +148,8 @@ def idle_workers() -> None:
 
 
 def without_threads() -> None:
-    """No thread can be had: the operator is answered up to `quit`, and then the seats are worked in
-    turn."""
+    """No thread can be had: the operator is answered up to `quit`, and then the event loops serve
+    their clients in turn."""
     hard = resource.getrlimit(resource.RLIMIT_STACK)[1]
     if hard != resource.RLIM_INFINITY and hard < NO_STACK:
         print(
@@ -178,7 +185,7 @@ if __name__ == "__main__":
         a_client_too_many,
         without_descriptors,
         descriptors_of_operators,
-        idle_workers,
+        idle_loops,
         without_threads,
     ]
     checks.run("live_resources", PARTS, at_once=4)

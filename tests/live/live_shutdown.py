@@ -21,7 +21,7 @@ from support.ports import connections_at, is_open, is_refused, unread_at
 from support.stderr_lines import (
     accepts_fail,
     check_told_once,
-    fewer_workers,
+    fewer_event_loops,
     no_event_loop,
     told,
     used_up,
@@ -41,6 +41,7 @@ BIG = b"x" * 4000000
 STACK = 512 << 20
 # Below a stack, and above what the C library reserves for the heaps of threads.
 SPARE = 400 << 20
+ONE_LOOP, FOUR_LOOPS = ("--threads", "1"), ("--threads", "4")
 REPORT = """moment 0
 phase steady
 active 1
@@ -98,8 +99,8 @@ class EndlessSwitch:
 
 
 def graceful() -> None:
-    """Requests that are served, that arrive, and that wait for a worker are answered; pending
-    answers are written."""
+    """Requests that are served, that arrive, and that wait for a seat are answered; pending answers
+    are written."""
     with contextlib.ExitStack() as stack:
         endless = EndlessSwitch(stack, 3)
         switch = endless.switch
@@ -140,15 +141,15 @@ def graceful() -> None:
             [answer(b"held")] * 3,
         )
         check(
-            "a request that waits for a worker at quit is answered",
+            "a request that waits for a seat at quit is answered",
             received(arriving[1]),
             answer(b"one"),
         )
         check_ends_soon("a graceful shutdown", switch, 12)
 
 
-def pending_for_workers() -> None:
-    """All workers are busy at quit: requests that were accepted before are answered by them."""
+def waiting_for_a_seat() -> None:
+    """No seat is free at quit: requests that were accepted before are answered."""
     with contextlib.ExitStack() as stack:
         endless = EndlessSwitch(stack, 1)
         switch = endless.switch
@@ -159,29 +160,33 @@ def pending_for_workers() -> None:
         for client in arriving:
             client.sendall(b"\n")
         endless.operator.send_quit()
-        check_ports_closed("a shutdown while all workers are busy", switch)
+        check_ports_closed("a shutdown while no seat is free", switch)
         time.sleep(1.5)
         endless.held.is_free.set()
         check(
-            "requests that wait for a worker at quit are answered",
+            "requests that wait for a seat at quit are answered",
             [received(client) for client in arriving],
             [answer(b"one")] * 5,
         )
-        check("the request of the busy worker", received(served[0]), answer(b"held"))
-        check_ends_soon("a shutdown while all workers are busy", switch, 12)
+        check("the request at the seat", received(served[0]), answer(b"held"))
+        check_ends_soon("a shutdown while no seat is free", switch, 12)
 
 
 def backlog_at_quit() -> None:
-    """Requests that came whole while all workers were busy, and wait in the system for an accept,
-    are answered."""
+    """Requests that came whole while no seat was free, and wait in the system for an accept, are
+    answered."""
     held = Held(b"held")
     switch, operator = opened(Endpoint(held).port, workers=2, timeout=TIMEOUT)
-    clients = [connect(switch.active) for _ in range(22)]
+    clients = [connect(switch.active) for _ in range(2)]
     for client in clients:
         client.sendall(request())
-    check("the workers wait for their endpoint", held.holds(2), True)
-    time.sleep(0.5)
+    check("requests at both seats wait for their endpoint", held.holds(2), True)
+    processes.pause(switch.process.pid)
+    clients += [connect(switch.active) for _ in range(20)]
+    for client in clients[2:]:
+        client.sendall(request())
     operator.send_quit()
+    switch.process.send_signal(signal.SIGCONT)
     check_ports_closed("a shutdown with clients in the backlog", switch)
     held.is_free.set()
     check(
@@ -292,24 +297,40 @@ def watches_refused() -> None:
     """If the system refuses to watch connections of the backlog at quit, they are ended, and the
     shutdown with them."""
     held = Held(b"held")
-    probe, operator = opened(Endpoint(held).port)
+    probe, operator = opened(Endpoint(held).port, flags=ONE_LOOP)
+    check("both ports have an event loop", probe.has_loops(2), True)
     last = processes.descriptors(probe.process.pid)[-1]
     operator.close()
     probe.stop()
     # a client and its endpoint have the next descriptors
     switch, operator = opened(
-        Endpoint(held).port, timeout=TIMEOUT, prepare=partial(faults.refuse_watches, last + 3)
+        Endpoint(held).port,
+        timeout=TIMEOUT,
+        flags=ONE_LOOP,
+        prepare=partial(faults.refuse_watches, last + 3),
     )
+    check("both ports have one here, too", switch.has_loops(2), True)
     with connect(switch.active) as served:
         served.sendall(request())
-        check("the worker waits for its endpoint", held.holds(1), True)
+        check("the request at the seat waits for its endpoint", held.holds(1), True)
+        processes.pause(switch.process.pid)
         clients = [connect(switch.active) for _ in range(20)]
+        # a client whose request has come whole is not watched before it is answered
         for client in clients:
-            client.sendall(request())
+            client.sendall(request()[:-1])
         operator.send_quit()
+        switch.process.send_signal(signal.SIGCONT)
         check_ports_closed("a shutdown where watches are refused", switch)
+        check(
+            "clients that have to be watched are let go",
+            comes(lambda: connections_at(switch.active) < 10),
+            True,
+        )
+        for client in clients:
+            with contextlib.suppress(OSError):
+                client.sendall(b"\n")
         held.is_free.set()
-        check("the request of the busy worker", received(served), answer(b"held"))
+        check("the request at the seat", received(served), answer(b"held"))
         ends = Counter(received(client) for client in clients)
     # a few get descriptors that were closed at the quit, and are watched
     check(
@@ -345,7 +366,7 @@ def quit_of_the_opener() -> None:
 
 
 def pending_at_the_end() -> None:
-    """Sixty seconds after quit, requests that wait for a worker are dropped: one response's timeout
+    """Sixty seconds after quit, requests that wait for a seat are dropped: one response's timeout
     later all is over."""
     timeout = 15
     switch, operator = opened(Endpoint(lambda *_: time.sleep(150)).port, timeout=timeout)
@@ -360,7 +381,7 @@ def pending_at_the_end() -> None:
     start = time.monotonic()
     switch.wait()
     check_soon(
-        "a shutdown with requests that wait for a worker",
+        "a shutdown with requests that wait for a seat",
         time.monotonic() - start,
         60 + timeout + SOON,
     )
@@ -456,14 +477,14 @@ def connections_used_up() -> None:
 
 @contextlib.contextmanager
 def few_threads(count: int) -> Iterator[tuple[Switch, Operator]]:
-    """A switch with four workers and one, which gets `count` threads beside the first."""
+    """A switch with four event loops and one, which gets `count` threads beside the first."""
 
     def large_stacks() -> None:
         resource.setrlimit(
             resource.RLIMIT_STACK, (STACK, resource.getrlimit(resource.RLIMIT_STACK)[1])
         )
 
-    switch = Switch(ROLLOUT, workers=4, prepare=large_stacks, timeout=TIMEOUT)
+    switch = Switch(ROLLOUT, workers=4, prepare=large_stacks, timeout=TIMEOUT, flags=FOUR_LOOPS)
     check("listening", switch.first, LISTENING)
     lines = (
         pathlib.Path(f"/proc/{switch.process.pid}/status").read_text(encoding="ascii").splitlines()
@@ -480,19 +501,18 @@ def few_threads(count: int) -> Iterator[tuple[Switch, Operator]]:
 
 
 def too_few_threads() -> None:
-    """Fewer workers than ordered are told once; those that have begun serve clients."""
+    """Fewer event loops than ordered are told once; those that have begun serve clients."""
     with few_threads(4) as (switch, _):
-        check("answers of fewer workers", set(polite(switch.active, 3).answers), {answer(b"one")})
-        check_told_once("fewer workers are told", switch, fewer_workers("active"))
-        begun, requested = map(int, told(switch, fewer_workers("active"))[0].groups())
-        check("the numbers of workers", (0 < begun < requested, requested), (True, 4))
+        check("answers of fewer loops", set(polite(switch.active, 3).answers), {answer(b"one")})
+        check_told_once("fewer event loops are told", switch, fewer_event_loops("active"))
+        begun, requested = map(int, told(switch, fewer_event_loops("active"))[0].groups())
+        check("the numbers of event loops", (0 < begun < requested, requested), (True, 4))
 
 
 def no_threads() -> None:
     """If no thread is to be had, that is told, and `quit` ends the program all the same."""
     with few_threads(0) as (switch, operator):
         for port in ("active", "preview"):
-            check_told_once(f"no worker at the {port} port is told", switch, fewer_workers(port))
             check_told_once(
                 f"no event loop at the {port} port is told", switch, no_event_loop(port)
             )
@@ -502,7 +522,10 @@ def no_threads() -> None:
 def accepts_that_fail() -> None:
     """Accepts that fail for want of descriptors are told once for each port, and tried again until
     they succeed."""
-    switch, operator = opened(Endpoint(by_target(b"one")).port, workers=2, timeout=TIMEOUT)
+    switch, operator = opened(
+        Endpoint(by_target(b"one")).port, workers=2, timeout=TIMEOUT, flags=FOUR_LOOPS
+    )
+    check("all event loops have begun", switch.has_loops(4 + 1), True)
     limit = processes.DescriptorLimit(switch.process.pid)
     limit.leave(0)
     clients = [connect(port) for port in (switch.active, switch.preview)]
@@ -541,7 +564,7 @@ if __name__ == "__main__":
         "live_shutdown",
         (
             graceful,
-            pending_for_workers,
+            waiting_for_a_seat,
             backlog_at_quit,
             sent_before_quit,
             sent_within_the_grace,

@@ -20,6 +20,7 @@ ENDLESS = [b"HTTP/1.1 200 OK\r\nContent-Length: 1000\r\n\r\n", *[b"x"] * 1000]
 # whole in time take half of it at most, as far as the machine is free.
 TIMEOUT = 8
 SOON = 6
+FOUR_LOOPS = ("--threads", "4")
 # For how many seconds it is seen that requests aren't given up: longer than the turns of a second
 # in which a silent endpoint is read.
 SEEN = 2.5
@@ -32,10 +33,12 @@ def ends_in_time(seconds: float, later: LaterEnd) -> bool:
 
 
 def seven_slow_clients() -> None:
-    """Seven clients that send a byte now and then, at seven workers, and a polite one."""
+    """Seven clients that send a byte now and then, as many as requests may be served at a time, and
+    a polite one."""
     switch, operator = opened(
-        Endpoint(in_pieces([RESPONSE])).port, workers=7, count=2, timeout=TIMEOUT
+        Endpoint(in_pieces([RESPONSE])).port, workers=7, count=2, timeout=TIMEOUT, flags=FOUR_LOOPS
     )
+    check("all event loops have begun", switch.has_loops(4 + 1), True)
     endless = [b"GET / HTTP/1.1\r\n", b"A: ", *[b"a"] * 1000]
     switch.take(switch.active, 7)
     before, later = switch.count_descriptors(), LaterEnd(2 * TIMEOUT)

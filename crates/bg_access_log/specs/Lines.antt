@@ -1,9 +1,9 @@
 -- The line of a connection: an object of JSON with a line feed behind it.
-use Rattle.std.specs.Prelude.{◌≡◌, ℕ, List, [], ◌∷◌, ◌++◌, OnOk, Option, Some, None, Result, codes, decimal}
+use Rattle.std.specs.Prelude.{◌≡◌, ℕ, Bool, List, [], ◌∷◌, ◌++◌, OnOk, Option, Some, None, Result, codes, decimal}
 use Rattle.std.specs.Cow.{cow_str_bytes}
 use Rattle.std.specs.Option.{option_map}
 use Rattle.json.specs.Print.{print}
-use Rattle.json.specs.Token.{Token, begin_object, end_object, key, null, number, string}
+use Rattle.json.specs.Token.{Token, begin_object, boolean, end_object, key, null, number, string}
 use Rattle.json.specs.Written.{Written}
 use Rattle.bg_access_log.specs.declared.log_entry.LogEntry.{LogEntry}
 use Rattle.bg_access_log.specs.declared.lost_lines.LostLines.{LostLines}
@@ -30,6 +30,11 @@ number_member name n = key name ∷ number_value n ∷ []
 abbrev pub optional_member : List ℕ → Option ℕ → List Token
 optional_member name None = []
 optional_member name (Some n) = number_member name (Some n)
+
+-- a member that is left out if there is neither true nor false
+abbrev pub optional_flag : List ℕ → Option Bool → List Token
+optional_flag name None = []
+optional_flag name (Some flag) = key name ∷ boolean flag ∷ []
 
 -- when the connection ended, and its request
 abbrev pub request_members : LogEntry → List Token
@@ -59,6 +64,8 @@ count_members e =
     ++ optional_member (codes "slot_port") e.slot_port
     ++ optional_member (codes "tries") e.tries
     ++ optional_member (codes "idle_connections") e.idle_connections
+    ++ optional_member (codes "connection_request") e.connection_request
+    ++ optional_flag (codes "upstream_reused") e.upstream_reused
 
 -- the object
 abbrev pub object : LogEntry → List Token

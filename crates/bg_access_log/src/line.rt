@@ -1,7 +1,7 @@
 //! Members of a line of the log.
 ghost use Rattle.std.specs.Prelude.{◌≡◌};
 ghost use Rattle.std.specs.Option.{option_map};
-ghost use Rattle.bg_access_log.specs.Lines.{Adds, number_member, optional_member, text_member};
+ghost use Rattle.bg_access_log.specs.Lines.{Adds, number_member, optional_flag, optional_member, text_member};
 
 use json::Writer;
 use std::alloc::AllocError;
@@ -30,6 +30,23 @@ pub(crate) fn add_number(
     match number {
         Some(number) => line.u64(number),
         None => line.null(),
+    }
+}
+
+/// Writes a member whose value is true or false. Writes nothing if there is none.
+pub(crate) fn add_optional_flag(
+    line: &mut Writer,
+    name: &str,
+    flag: Option<bool>,
+) -> Result<(), AllocError>
+    ensures { Adds result line.old line.new (optional_flag name.now flag) }
+{
+    match flag {
+        Some(flag) => {
+            line.key(name)?;
+            line.boolean(flag)
+        }
+        None => Ok(()),
     }
 }
 

@@ -4,7 +4,7 @@ ghost use Rattle.std.specs.Cow.{cow_str_bytes};
 ghost use Rattle.std.specs.Option.{option_map};
 ghost use Rattle.bg_access_log.specs.Lines.{Adds, count_members, end_members, line_text, object, request_members};
 
-use crate::line::{add_number, add_optional, add_text};
+use crate::line::{add_number, add_optional, add_optional_flag, add_text};
 use crate::time_text::{TimeText, text_of};
 use json::Writer;
 use std::alloc::{AllocError, Global};
@@ -14,7 +14,7 @@ use std::borrow::CowStr;
 const USUAL_LENGTH: usize = 512;
 
 /// What is logged of a connection. The line has these keys in this order. The value of a key that is
-/// `None` is null; `slot_port`, `tries` and `idle_connections` are left out then.
+/// `None` is null; those behind `upstream_ms` are left out then.
 #[derive(Drop)]
 pub struct LogEntry<'a> {
     /// When the connection ended, as `AccessLog::time` gives it.
@@ -51,6 +51,11 @@ pub struct LogEntry<'a> {
     /// The number of connections that ended without having sent a byte, since the last line that told of some. They have
     /// no lines of their own. The program gives it only if there were any.
     pub idle_connections: Option<u64>,
+    /// The number of the request among those of its connection, from 1 on. The program gives it only with `--keep-alive`.
+    pub connection_request: Option<u64>,
+    /// Whether the connection to the endpoint had carried a request before. The program gives it only with `--keep-alive`, and
+    /// if there was a connection.
+    pub upstream_reused: Option<bool>,
 }
 
 impl LogEntry<'_> {
@@ -108,7 +113,9 @@ impl LogEntry<'_> {
         add_number(line, "upstream_ms", self.upstream_ms)?;
         add_optional(line, "slot_port", as_number(self.slot_port))?;
         add_optional(line, "tries", as_wide(self.tries))?;
-        add_optional(line, "idle_connections", self.idle_connections)
+        add_optional(line, "idle_connections", self.idle_connections)?;
+        add_optional(line, "connection_request", self.connection_request)?;
+        add_optional_flag(line, "upstream_reused", self.upstream_reused)
     }
 }
 

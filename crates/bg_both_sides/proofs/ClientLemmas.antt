@@ -5,7 +5,7 @@ use Rattle.bg_http.specs.Statuses.{request_status}
 use Rattle.bg_http.specs.declared.persistence.Persistence.{Persistence}
 use Rattle.bg_http.specs.declared.persistence.Persistence.TheVariants.{Close}
 use Rattle.bg_http.specs.declared.refusal.RefusalPage.{RefusalPage}
-use Rattle.bg_port.specs.Outgoing.{Outgoing, with_written}
+use Rattle.bg_client_side.specs.Outgoing.{Outgoing, with_written}
 use Rattle.bg_client_side.specs.Clients.{Client, Continues, ContinuesIf, Feeds, FeedsIf, Finishes, ReadsOn, Writes, WritesOn, WritesRest, answered, answering, at, begun_at, closing, discarded_at, ended, failed_at, left, looked, next, with_bytes}
 use Rattle.bg_client_side.specs.Facts.{later}
 use Rattle.bg_client_side.specs.Stages.{as_answering, awaits_answer, has_timeout, is_idle, is_inside, owes_continue, reads, takes_bytes}

@@ -6,7 +6,7 @@ use Rattle.bg_client_side.specs.Clients.{Client}
 use Rattle.bg_client_side.specs.Stages.{waiting_request}
 use Rattle.bg_client_side.specs.declared.facts.ClientSettings.{ClientSettings}
 use Rattle.bg_endpoint_side.specs.Dialing.{Dialing, Forwarded, may_go_elsewhere}
-use Rattle.bg_endpoint_side.specs.Forwarding.{Receives, looked, unread, with_end, wrote}
+use Rattle.bg_endpoint_side.specs.Forwarding.{looked, unread, with_end, wrote}
 use Rattle.bg_endpoint_side.specs.Outcomes.{health_of, of_giving_up, refused}
 use Rattle.bg_endpoint_side.specs.declared.forwarded_request.Step.{Step}
 use Rattle.bg_endpoint_side.specs.declared.forwarded_request.Step.TheVariants as step

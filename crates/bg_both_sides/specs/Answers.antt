@@ -10,7 +10,7 @@ use Rattle.bg_http.specs.declared.request.Request.{Request}
 use Rattle.bg_http.specs.declared.request_fault.RequestFault.{RequestFault}
 use Rattle.bg_http.specs.declared.response.Response.{Response}
 use Rattle.bg_http.specs.declared.response_fault.ResponseFault.TheVariants as response_fault
-use Rattle.bg_port.specs.Outgoing.{Outgoing}
+use Rattle.bg_client_side.specs.Outgoing.{Outgoing}
 use Rattle.bg_client_side.specs.Clients.{Client, answered, failed_at, stays_after}
 use Rattle.bg_endpoint_side.specs.Outcomes.{fault_status}
 use Rattle.bg_endpoint_side.specs.declared.outcome.ForwardFault.{ForwardFault}

@@ -1,5 +1,5 @@
 -- A client's connection together with the request that it has at an endpoint.
-use Rattle.std.specs.Prelude.{◌≡◌, ℕ, Bool, true, false, List, [], Option, Some, None, nat_le}
+use Rattle.std.specs.Prelude.{◌≡◌, ⊤, ℕ, Bool, true, false, List, [], Option, Some, None, nat_le}
 use Rattle.bg_http.specs.Persistences.{keeps}
 use Rattle.bg_http.specs.Texts.{request_text}
 use Rattle.bg_http.specs.declared.request.Request.{Request}
@@ -68,6 +68,12 @@ IsDialed request dialing = IsSentAs request dialing.request dialing.terms dialin
 abbrev pub IsForwarded : Request → Forwarded → Type 0
 IsForwarded request forwarded =
     IsSentAs request forwarded.request forwarded.state.terms (whole forwarded.text)
+
+-- the response is read as the one to the request that is dialled for, or forwarded
+abbrev pub IsReadAsItself : EndpointSide → Type 0
+IsReadAsItself (side.Dialing request dialing) = request ≡ dialing.request
+IsReadAsItself (side.Forwarding request forwarded) = request ≡ forwarded.request
+IsReadAsItself other = ⊤
 
 -- exactly if the client's connection has a request inside, it is there; and it is sent as it is
 abbrev pub IsSound : Client → EndpointSide → Type 0

@@ -4,6 +4,7 @@ mod clients;
 mod elsewhere;
 mod endpoints;
 mod kept;
+mod large_bodies;
 mod pages;
 
 use crate::both_sides::BothSides;
@@ -196,7 +197,7 @@ impl World {
     }
 
     fn endpoint_took(&mut self, count: usize, now: u64) -> Result<(), AllocError> {
-        let rest = self.sides.rest_to_endpoint();
+        let rest = self.sides.piece_to_endpoint();
         let count = count.min(rest.len());
         self.to_endpoint.extend_from_slice(&rest[..count])?;
         self.sides.endpoint_wrote(count, now);

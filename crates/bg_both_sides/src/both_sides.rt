@@ -2,6 +2,7 @@
 ghost use Rattle.std.specs.Prelude.{◌≡◌};
 ghost use Rattle.std.specs.Option.{option_copied};
 ghost use Rattle.bg_client_side.specs.Clients.{accepted};
+ghost use Rattle.bg_endpoint_side.specs.OutgoingTexts.{IsFirstPiece};
 ghost use Rattle.bg_both_sides.specs.Sides.{goes_elsewhere, has_connection, is_dial_late, request_of, to_endpoint};
 ghost use Rattle.bg_both_sides.specs.declared.endpoint_side.EndpointSide.TheVariants as side;
 
@@ -70,12 +71,12 @@ impl BothSides {
         self.endpoint.request()
     }
 
-    /// What is to be written to the endpoint now: what is left of the text of the request, or nothing, if the endpoint reads
-    /// no more of it.
-    pub fn rest_to_endpoint(&self) -> &[u8]
-        ensures { result.now ≡ to_endpoint self.now.endpoint }
+    /// A piece of what is to be written to the endpoint now: the next bytes of the text of the request, or nothing, if all of
+    /// it was written, or if the endpoint reads no more of it.
+    pub fn piece_to_endpoint(&self) -> &[u8]
+        ensures { IsFirstPiece (to_endpoint self.now.endpoint) result.now }
     {
-        self.endpoint.rest()
+        self.endpoint.piece()
     }
 
     /// Whether another endpoint may be dialled for the request, if its dial gives no connection: nothing of it was written,

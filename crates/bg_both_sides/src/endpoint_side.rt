@@ -3,7 +3,8 @@ ghost use Rattle.std.specs.Prelude.{◌≡◌, IfErr, IfOk, None, OnErr, Option}
 ghost use Rattle.bg_endpoint_side.specs.Forwarding.{Ends, Receives, failed, wrote};
 ghost use Rattle.bg_both_sides.specs.Answers.{Reply};
 ghost use Rattle.bg_both_sides.specs.EndpointEvents.{AtDialing, AtForwarded, Dials, GivesUp, IsOnce, Looks, dial_failed, on_forwarded};
-ghost use Rattle.bg_both_sides.specs.Sides.{as_dialing, as_entered, has_connection, request_of, to_endpoint};
+ghost use Rattle.bg_endpoint_side.specs.OutgoingTexts.{IsFirstPiece};
+ghost use Rattle.bg_both_sides.specs.Sides.{IsReadAsItself, as_dialing, as_entered, has_connection, request_of, to_endpoint};
 ghost use Rattle.bg_both_sides.specs.declared.endpoint_side.EndpointSide.TheVariants as side;
 ghost use Rattle.std.specs.Option.{option_copied};
 
@@ -77,12 +78,13 @@ impl EndpointSide {
         }
     }
 
-    /// What is to be written to the endpoint now.
-    pub(crate) fn rest(&self) -> &[u8]
-        ensures { result.now ≡ to_endpoint self.now }
+    /// A piece of what is to be written to the endpoint now.
+    pub(crate) fn piece(&self) -> &[u8]
+        requires { IsReadAsItself self.now }
+        ensures { IsFirstPiece (to_endpoint self.now) result.now }
     {
         match self {
-            EndpointSide::Forwarding(_, forwarded) => forwarded.rest(),
+            EndpointSide::Forwarding(request, forwarded) => forwarded.piece(request),
             _ => &[],
         }
     }
@@ -96,6 +98,7 @@ impl EndpointSide {
 
     /// The same after the request is dialled for, and whether it is.
     pub(crate) fn dial(self, alloc: Global, route: Route, now: u64) -> (EndpointSide, bool)
+        requires { IsReadAsItself self }
         ensures { Dials self route now result.1 result.0 }
     {
         match self {

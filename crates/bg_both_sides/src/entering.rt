@@ -11,7 +11,7 @@ use crate::answering::refuse;
 use crate::both_sides::BothSides;
 use crate::endpoint_side::EndpointSide;
 use crate::route::Route;
-use crate::texts::request_text;
+use crate::texts::request_front;
 use bg_endpoint_side::{DialingRequest, Terms, is_idempotent};
 use bg_http::Request;
 use std::alloc::Global;
@@ -94,7 +94,7 @@ pub(crate) fn dial_for(
 ) -> (EndpointSide, bool)
     ensures { DialsFor result.1 request route now result.0 }
 {
-    let Ok(text) = request_text(alloc, &request, route.port, route.persistence) else {
+    let Ok(front) = request_front(alloc, &request, route.port, route.persistence) else {
         return (EndpointSide::Entered(request), false);
     };
     let terms = Terms {
@@ -102,7 +102,7 @@ pub(crate) fn dial_for(
         persistence: route.persistence,
         is_idempotent: is_idempotent(&request),
     };
-    let dialing = DialingRequest::new(alloc, &request, (text, terms), route.timeouts, now);
+    let dialing = DialingRequest::new(alloc, &request, (front, terms), route.timeouts, now);
     (EndpointSide::Dialing(request, dialing), true)
 }
 
@@ -115,6 +115,7 @@ pub(crate) fn dial_elsewhere(
     route: Route,
     now: u64,
 ) -> (EndpointSide, bool)
+    requires { request ≡ dialing.request }
     ensures { DialsElsewhere (may_go_elsewhere dialing now) result.1 request dialing route now result.0 }
 {
     if !dialing.may_go_elsewhere(now) {
@@ -125,7 +126,7 @@ pub(crate) fn dial_elsewhere(
         persistence,
         ..
     } = route;
-    let Ok(text) = request_text(alloc, &request, port, persistence) else {
+    let Ok(front) = request_front(alloc, &request, port, persistence) else {
         return (EndpointSide::Dialing(request, dialing), false);
     };
     let terms = Terms {
@@ -134,7 +135,7 @@ pub(crate) fn dial_elsewhere(
         ..dialing.terms()
     };
     (
-        EndpointSide::Dialing(request, dialing.dial_elsewhere((text, terms), now)),
+        EndpointSide::Dialing(request, dialing.dial_elsewhere((front, terms), now)),
         true,
     )
 }

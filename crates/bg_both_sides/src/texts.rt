@@ -1,28 +1,44 @@
 //! The texts that are written to the two connections.
-ghost use Rattle.std.specs.Prelude.{◌≡◌, IfOk, IsTrue};
+ghost use Rattle.std.specs.Prelude.{◌≡◌, ◌++◌, IfOk, IsTrue};
 ghost use Rattle.bg_http.specs.Persistences.{keeps};
 ghost use Rattle.bg_http.specs.RefusalPages.{refused_text};
 ghost use Rattle.bg_http.specs.Statuses.{is_refusal};
 ghost use Rattle.bg_http.specs.Texts as spec;
+ghost use Rattle.bg_endpoint_side.specs.OutgoingTexts.{uncopied_body as uncopied_of};
 
+use bg_endpoint_side::uncopied_body;
 use bg_http::{
-    Persistence, RefusalPage, Request, Response, write_refusal_with, write_request, write_response,
+    Persistence, RefusalPage, Request, Response, write_refusal_with, write_request,
+    write_request_head, write_response,
 };
 use std::alloc::Global;
 use std::io;
 
-/// The text of a request as it is forwarded. The only error is an allocation failure.
-pub(crate) fn request_text(
+/// The number of bytes that most heads do not exceed. A text begins with room for so many, since it would else grow line by
+/// line.
+const USUAL_HEAD: usize = 512;
+
+/// The text of a request as it is forwarded, up to the body that is not copied. The only error is an allocation failure.
+pub(crate) fn request_front(
     alloc: Global,
     request: &Request,
     port: u16,
     persistence: Persistence,
 ) -> io::Result<Vec<u8>>
-    ensures { IfOk result (λ text. text.items ≡ spec.request_text (keeps persistence) request.now port) }
+    ensures { IfOk result (λ front. front.items ++ uncopied_of request.now
+        ≡ spec.request_text (keeps persistence) request.now port) }
 {
-    let mut text = Vec::new(alloc);
-    write_request(request, port, persistence, &mut text)?;
-    Ok(text)
+    let copied = match &request.body {
+        Some(body) if uncopied_body(request).is_empty() => body.get().len(),
+        _ => 0,
+    };
+    let mut front = Vec::with_capacity(alloc, copied.saturating_add(USUAL_HEAD))?;
+    if uncopied_body(request).is_empty() {
+        write_request(request, port, persistence, &mut front)?;
+    } else {
+        write_request_head(request, port, persistence, &mut front)?;
+    }
+    Ok(front)
 }
 
 /// The text of a response as it is forwarded. The only error is an allocation failure.
@@ -35,7 +51,8 @@ pub(crate) fn response_text(
     ensures { IfOk result (λ text.
         text.items ≡ spec.response_text (keeps persistence) request.now response.now) }
 {
-    let mut text = Vec::new(alloc);
+    let usual = response.body.get().len().saturating_add(USUAL_HEAD);
+    let mut text = Vec::with_capacity(alloc, usual)?;
     write_response(request, response, persistence, &mut text)?;
     Ok(text)
 }

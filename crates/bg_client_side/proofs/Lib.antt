@@ -1,4 +1,5 @@
 pub mod LeftLemmas
+pub mod OutgoingLemmas
 pub mod ReadSequences
 pub mod ReadSteps
 pub mod ReadingLemmas

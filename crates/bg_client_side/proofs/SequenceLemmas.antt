@@ -4,7 +4,7 @@ use Rattle.bg_http.specs.Persistences.{keeps}
 use Rattle.bg_http.specs.declared.persistence.Persistence.{Persistence}
 use Rattle.bg_http.specs.declared.request.Request.{Request}
 use Rattle.bg_http_read.specs.Sequences.{AreRequestsOf}
-use Rattle.bg_port.specs.Outgoing.{Outgoing, with_written}
+use Rattle.bg_client_side.specs.Outgoing.{Outgoing, with_written}
 use Rattle.bg_client_side.proofs.ReadSequences.{SequenceLaws, Has, read_has, kept_has, left_has, waiting_read, nothing_read, leaves_has, reading_goes_on, owing_goes_on, begun_since}
 use Rattle.bg_client_side.proofs.SoundLemmas.{both}
 use Rattle.bg_client_side.specs.Clients.{Client, ContinuesIf, FeedsIf, Finishes, WritesOn, WritesRest, answered, answering, at, at_until, begun_at, discarded_at, failed_at, left, next, taken}

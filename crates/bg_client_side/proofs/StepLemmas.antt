@@ -2,7 +2,7 @@
 use Rattle.std.proofs.Common.{◌≡◌, ◌∙◌, ℕ, ◌≤◌, Bool, true, false, cond, ◌&&◌, nat_le, nat_lt, List, [], ◌++◌, inr, refl, sym, ap, subst, arith, append-nil, Option}
 use Rattle.bg_http.specs.declared.persistence.Persistence.{Persistence}
 use Rattle.bg_http.specs.declared.request.Request.{Request}
-use Rattle.bg_port.specs.Outgoing.{Outgoing}
+use Rattle.bg_client_side.specs.Outgoing.{Outgoing}
 use Rattle.bg_client_side.proofs.ReadSteps.{feeds_step, continues_step}
 use Rattle.bg_client_side.proofs.Steps.{Step, stage_step, no_later_than_left, left_step, quiet_step, leaves_if}
 use Rattle.bg_client_side.proofs.WriteSteps.{writes_step}

@@ -1,7 +1,7 @@
 -- What a call by which an answer was written makes of a connection.
 use Rattle.std.proofs.Common.{◌≡◌, ◌∙◌, ℕ, ◌≤◌, Bool, true, false, cond, List, [], ◌∷◌, ◌++◌, length, drop, inl, inr, refl, sym, ap, subst, arith, append-nil, Option, Some, None}
 use Rattle.bg_http.specs.declared.request.Request.{Request}
-use Rattle.bg_port.specs.Outgoing.{with_written}
+use Rattle.bg_client_side.specs.Outgoing.{with_written}
 use Rattle.bg_client_side.proofs.LeftLemmas.{front_of_none}
 use Rattle.bg_client_side.proofs.ReadSteps.{reads_early, is_read}
 use Rattle.bg_client_side.proofs.Steps.{Step, no_later_than_left, quiet_step}

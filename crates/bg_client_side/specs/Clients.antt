@@ -6,7 +6,7 @@ use Rattle.bg_http.specs.declared.request.Request.{Request}
 use Rattle.bg_http_read.specs.RefusedHeads.{TellsHead}
 use Rattle.bg_http_read.specs.RequestStates.{IsReadThen, IsRefusedAsked, LacksRequest, OwesContinue, is_of_stream}
 use Rattle.bg_http_read.specs.declared.refused_head.RefusedHead.{RefusedHead}
-use Rattle.bg_port.specs.Outgoing.{Outgoing, with_written}
+use Rattle.bg_client_side.specs.Outgoing.{Outgoing, with_written}
 use Rattle.bg_client_side.specs.Facts.{asks_to_keep, keeps_after, later, next_facts}
 use Rattle.bg_client_side.specs.Stages.{as_answering, awaits_answer, has_timeout, is_idle, owes_continue, reads, takes_bytes, was_whole}
 use Rattle.bg_client_side.specs.declared.facts.ClientFacts.{ClientFacts}

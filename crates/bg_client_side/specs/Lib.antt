@@ -1,6 +1,7 @@
 pub mod Clients
 pub mod Facts
 pub mod Laws
+pub mod Outgoing
 pub mod Runs
 pub mod Seating
 pub mod SeatRuns

@@ -6,12 +6,12 @@ ghost use Rattle.bg_client_side.specs.Stages.{awaits_answer, was_whole, waiting_
 
 use crate::client_connection::ClientConnection;
 use crate::facts::later;
+use crate::outgoing::OutgoingResponse;
 use crate::reading::Fed;
 use crate::stage::{
     ANSWER_MILLIS, Answering, LINGERING_CLOSE_MILLIS, Lingering, STILL_MILLIS, Stage,
 };
 use bg_http::{Persistence, Request};
-use bg_port::OutgoingResponse;
 use std::mem;
 
 impl ClientConnection {

@@ -1,10 +1,11 @@
 //! A connection of a client that is kept over several requests.
-ghost use Rattle.std.specs.Prelude.{◌≡◌, ◌&&◌, not};
+ghost use Rattle.std.specs.Prelude.{◌≡◌, ◌&&◌, ◌||◌, not, IfSome, IsTrue, None};
 ghost use Rattle.std.specs.Option.{option_copied, option_map};
 ghost use Rattle.bg_http.specs.Persistences.{keeps};
+ghost use Rattle.bg_http_read.specs.ArrivingHeads.{BeginsWith};
 ghost use Rattle.bg_http_read.specs.RefusedHeads.{is_sound_head};
 ghost use Rattle.bg_client_side.specs.Clients.{accepted, stays_after};
-ghost use Rattle.bg_client_side.specs.Stages.{has_left, is_idle, is_inside, owes_continue, takes_bytes, to_write, was_whole};
+ghost use Rattle.bg_client_side.specs.Stages.{has_left, is_idle, is_inside, owes_continue, reads, takes_bytes, to_write, was_whole};
 
 use crate::facts::{ClientFacts, ClientSettings, later};
 use crate::stage::Stage;
@@ -145,6 +146,15 @@ impl ClientConnection {
         ensures { option_copied result ≡ option_map (λ refused. refused.head) self.now.refused }
     {
         self.stream.refused_head()
+    }
+
+    /// The head of a request that is not read whole: the bytes that came since the end of the last request begin with
+    /// it. `None` if no complete head was parsed since then, and after a fault.
+    pub fn arriving_head(&self) -> Option<&RequestHead>
+        ensures begins { IfSome result (λ head. BeginsWith self.now.since head.now) }
+        ensures owed { IsTrue (reads self.now.stage || owes_continue self.now.stage) → IsTrue self.now.asked → ¬ (result ≡ None) }
+    {
+        self.stream.arriving_head()
     }
 
     /// Whether that head passes all rules of `judge_request`. So the fault is not in the head. False if there is none.

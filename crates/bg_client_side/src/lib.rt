@@ -9,6 +9,7 @@ mod client_connection;
 mod ending;
 mod facts;
 pub mod laws;
+mod outgoing;
 mod reading;
 pub mod seat_laws;
 mod seats;

@@ -1,13 +1,13 @@
 //! The stages of a connection.
 ghost use Rattle.std.specs.Prelude.{◌≡◌, IfErr, IfOk, None, OnErr};
-ghost use Rattle.bg_port.specs.Outgoing.{with_written};
+ghost use Rattle.bg_client_side.specs.Outgoing.{with_written};
 ghost use Rattle.bg_client_side.specs.Clients.{until_after};
 ghost use Rattle.bg_client_side.specs.Stages.{as_answering, awaits_answer, has_timeout, is_inside, reads, takes_bytes, waiting_request};
 ghost use Rattle.bg_client_side.specs.declared.stage.Stage.TheVariants as stage;
 
 use crate::facts::later;
+use crate::outgoing::OutgoingResponse;
 use bg_http::{Request, RequestFault};
-use bg_port::OutgoingResponse;
 
 /// The time, in milliseconds, for which a client may take nothing of an answer, and the timeout of the whole answer.
 pub(crate) const STILL_MILLIS: u64 = 30_000;

@@ -1,7 +1,7 @@
 -- The matches of the words that the program accepts.
 use Rattle.std.proofs.Common.{◌≡◌, ◌≢◌, inl, inr, arith, slice_index, List, [], ◌∷◌, refl, sym, ◌∙◌, ap, subst}
-use Rattle.std.specs.Prelude.{Bool, true, false, Option, Some, None, codes, option_map}
-use Rattle.clap.specs.Walk.{Row, Text, nothing_held, rows_after}
+use Rattle.std.specs.Prelude.{Bool, true, false, Option, Some, None, codes, is_some, option_map}
+use Rattle.clap.specs.Walk.{Row, Text, first_of, nothing_held, rows_after}
 use Rattle.clap.specs.Simple.{Shape, App, built, argument_words, subcommand_of}
 use Rattle.clap.specs.Faults.{fault_of, level_fault}
 use Rattle.clap.specs.Words.{HasMatchesOf, subcommand_name_of, is_simple, is_simple_and_free, subcommand_rows_of}
@@ -11,7 +11,7 @@ use Rattle.bg_command_line.specs.declared.invocation.Flags.{Flags}
 use Rattle.bg_command_line.specs.declared.invocation.Invocation.{Invocation}
 use Rattle.bg_command_line.specs.CommandLine.{IsInvocationOf, IsIn, is_in_conflict, IsKnown, HasWordsOfServe, program, check_app}
 use Rattle.bg_command_line.proofs.Entered.{Among, one_entered}
-use Rattle.bg_command_line.proofs.SubcommandRows.{built_sub, replay, replay_known, serve, serve_known}
+use Rattle.bg_command_line.proofs.SubcommandRows.{built_sub, journal, journal_known, replay, replay_known, serve, serve_known}
 
 differ : (xs ys : Text) → slice_index xs 0 ≢ slice_index ys 0 → xs ≡ ys → ⊥
 differ xs ys n e = n (ap (λ (t : Text). slice_index t 0) e)
@@ -25,27 +25,47 @@ check_is_no_replay e = differ (codes "check") (codes "replay") (omega arith) e
 check_is_no_serve : Not (codes "check") (codes "serve")
 check_is_no_serve e = differ (codes "check") (codes "serve") (omega arith) e
 
+check_is_no_journal : Not (codes "check") (codes "journal")
+check_is_no_journal e = differ (codes "check") (codes "journal") (omega arith) e
+
+replay_is_no_journal : Not (codes "replay") (codes "journal")
+replay_is_no_journal e = differ (codes "replay") (codes "journal") (omega arith) e
+
+journal_is_no_serve : Not (codes "journal") (codes "serve")
+journal_is_no_serve e = differ (codes "journal") (codes "serve") (omega arith) e
+
 replay_is_no_serve : Not (codes "replay") (codes "serve")
 replay_is_no_serve e = differ (codes "replay") (codes "serve") (omega arith) e
 
 check_known : (flags : Flags) (rows : List Row) → IsKnown flags (codes "check") rows
 check_known flags rows = record {
-  is_serve = λ n _. absurd (n refl);
+  is_serve = λ n _ _. absurd (n refl);
   seats = λ e. absurd (check_is_no_replay e);
+  file = λ e. absurd (check_is_no_journal e);
   words = λ e. absurd (check_is_no_serve e);
 }
 
 replay_is_known : (flags : Flags) (rows : List Row) → IsIn 1 8 (codes "seats") rows → IsKnown flags (codes "replay") rows
 replay_is_known flags rows h = record {
-  is_serve = λ _ n. absurd (n refl);
+  is_serve = λ _ n _. absurd (n refl);
   seats = λ _. h;
+  file = λ e. absurd (replay_is_no_journal e);
   words = λ e. absurd (replay_is_no_serve e);
+}
+
+journal_is_known : (flags : Flags) (rows : List Row) → is_some (first_of (codes "file") rows) ≡ true → IsKnown flags (codes "journal") rows
+journal_is_known flags rows h = record {
+  is_serve = λ _ _ n. absurd (n refl);
+  seats = λ e. absurd (replay_is_no_journal (sym e));
+  file = λ _. h;
+  words = λ e. absurd (journal_is_no_serve e);
 }
 
 serve_is_known : (flags : Flags) (rows : List Row) → HasWordsOfServe flags rows → IsKnown flags (codes "serve") rows
 serve_is_known flags rows h = record {
-  is_serve = λ _ _. refl;
+  is_serve = λ _ _ _. refl;
   seats = λ e. absurd (replay_is_no_serve (sym e));
+  file = λ e. absurd (journal_is_no_serve (sym e));
   words = λ _. h;
 }
 
@@ -55,14 +75,17 @@ check = built_sub check_app.top
 abbrev Knows : Flags → List Text → Shape → Type 0
 Knows flags rest s = level_fault s [] nothing_held rest false [] ≡ [] → IsKnown flags s.name (rows_after s.rules [] rest)
 
-known_of : (flags : Flags) (s : Shape) (rest : List Text) → Among s (check ∷ replay ∷ serve flags ∷ []) → Knows flags rest s
+known_of : (flags : Flags) (s : Shape) (rest : List Text) → Among s (check ∷ replay ∷ journal ∷ serve flags ∷ []) → Knows flags rest s
 known_of flags s rest among = elim among [
   | inl is ↦ subst (Knows flags rest) is (λ e. check_known flags (rows_after check.rules [] rest))
   | inr m ↦ elim m [
     | inl is ↦ subst (Knows flags rest) is (λ e. replay_is_known flags (rows_after replay.rules [] rest) (replay_known rest e))
     | inr l ↦ elim l [
-      | inl is ↦ subst (Knows flags rest) is (λ e. serve_is_known flags (rows_after (serve flags).rules [] rest) (serve_known flags rest e))
-      | inr never ↦ absurd never
+      | inl is ↦ subst (Knows flags rest) is (λ e. journal_is_known flags (rows_after journal.rules [] rest) (journal_known rest e))
+      | inr n ↦ elim n [
+        | inl is ↦ subst (Knows flags rest) is (λ e. serve_is_known flags (rows_after (serve flags).rules [] rest) (serve_known flags rest e))
+        | inr never ↦ absurd never
+      ]
     ]
   ]
 ]

@@ -17,15 +17,18 @@ pub subcommand_added : (old new sub : Command) (before inner : App) → AddsSubc
 subcommand_added old new sub before inner adds was is local =
     adds.shape local ∙ ap₂ with_subcommand was (ap (λ (a : App). a.top) is)
 
--- the command's subcommands are the previous ones and three more
-pub three_added : (old new first second third : Command) (before a b c : App)
-    → AddsInTurn AddsSubcommand old (first ∷ second ∷ third ∷ []) new → app_of old ≡ before
+-- the command's subcommands are the previous ones and four more
+pub four_added : (old new first second third fourth : Command) (before a b c d : App)
+    → AddsInTurn AddsSubcommand old (first ∷ second ∷ third ∷ fourth ∷ []) new → app_of old ≡ before
     → app_of first ≡ a → (out-Command first).has_globals ≡ false
     → app_of second ≡ b → (out-Command second).has_globals ≡ false
     → app_of third ≡ c → (out-Command third).has_globals ≡ false
-    → app_of new ≡ with_subcommand (with_subcommand (with_subcommand before a.top) b.top) c.top
-three_added old new first second third before a b c adds was first_is first_local second_is second_local third_is third_local =
+    → app_of fourth ≡ d → (out-Command fourth).has_globals ≡ false
+    → app_of new ≡ with_subcommand (with_subcommand (with_subcommand (with_subcommand before a.top) b.top) c.top) d.top
+four_added old new first second third fourth before a b c d adds was first_is first_local second_is second_local third_is third_local
+    fourth_is fourth_local =
     let with_first = subcommand_added old adds.0 first before a adds.1 was first_is first_local in
     let with_second = subcommand_added adds.0 adds.2.0 second _ b adds.2.1 with_first second_is second_local in
     let with_third = subcommand_added adds.2.0 adds.2.2.0 third _ c adds.2.2.1 with_second third_is third_local in
-    ap app_of (sym adds.2.2.2) ∙ with_third
+    let with_fourth = subcommand_added adds.2.2.0 adds.2.2.2.0 fourth _ d adds.2.2.2.1 with_third fourth_is fourth_local in
+    ap app_of (sym adds.2.2.2.2) ∙ with_fourth

@@ -12,11 +12,11 @@ use Rattle.clap.specs.Kinds.{check_kinds}
 use Rattle.clap.specs.Faults.{level_fault, walk_fault, settle_fault, defaults_fault}
 use Rattle.clap.specs.declared.builder.value_parser.ValueParser.TheVariants as value_parser
 use Rattle.clap.proofs.ValueTestLemmas.{accepts-Accepts}
-use Rattle.bg_command_line.specs.CommandLine.{IsIn, HasWordsOfServe, program, replay_app, serve_app, number_rule, required_rule, count_rule, flag_rule, forever_rule, rule_required_if, text_rule, text_rule_required_if}
+use Rattle.bg_command_line.specs.CommandLine.{IsIn, HasWordsOfServe, journal_app, program, replay_app, serve_app, number_rule, required_rule, count_rule, flag_rule, forever_rule, rule_required_if, text_rule, text_rule_required_if, word_rule_required_if}
 use Rattle.bg_command_line.specs.declared.invocation.Flags.{Flags}
 use Rattle.bg_command_line.proofs.WordsTaken.{none_else}
 use Rattle.bg_command_line.proofs.ValuesAccepted.{AreGood, has_none, first_accepted}
-use Rattle.bg_command_line.proofs.ArgumentRows.{Keeps, Each, held, number_keeps, required_keeps, required_if_keeps, text_keeps, count_keeps, flag_keeps, help_keeps, DefaultKeeps, no_default_keeps, flag_default_keeps, help_default_keeps, leaf_good}
+use Rattle.bg_command_line.proofs.ArgumentRows.{Keeps, Each, held, number_keeps, required_keeps, required_if_keeps, text_keeps, word_keeps, count_keeps, flag_keeps, help_keeps, DefaultKeeps, no_default_keeps, flag_default_keeps, help_default_keeps, leaf_good}
 
 abbrev pub built_sub : Shape → Shape
 built_sub s = built_leaf (inherited (with_leaf_noted (marked_built (program (record { forever = false; concurrency = false; socket = false })).top)) s)
@@ -47,40 +47,75 @@ replay_known words e =
 abbrev pub serve : Flags → Shape
 serve flags = built_sub (serve_app flags).top
 
-client_and_count_keep : (flags : Flags) → let c = (serve flags).rules in
-    Each (Keeps c) (held (flag_rule (codes "abort-on-close")) ∷ held (number_rule (codes "shutdown-grace") 60)
-    ∷ held (flag_rule (codes "error-pages")) ∷ held (count_rule flags.forever) ∷ held (forever_rule flags.forever) ∷ held help_rule ∷ [])
-client_and_count_keep flags = let c = (serve flags).rules in (
+-- the last rules of `serve`, from a group on
+abbrev kept_and_count : Flags → List Rule
+kept_and_count flags =
+    held (flag_rule (codes "keep-alive")) ∷ held (number_rule (codes "keep-alive-timeout") 3600)
+    ∷ held (number_rule (codes "keep-alive-requests") 1000000)
+    ∷ held (number_rule (codes "endpoint-keep-alive-timeout") 3600) ∷ held (text_rule (codes "journal"))
+    ∷ held (count_rule flags.forever) ∷ held (forever_rule flags.forever) ∷ held help_rule ∷ []
+
+abbrev client_and_later : Flags → List Rule
+client_and_later flags =
+    held (flag_rule (codes "abort-on-close")) ∷ held (number_rule (codes "shutdown-grace") 60)
+    ∷ held (flag_rule (codes "error-pages")) ∷ kept_and_count flags
+
+abbrev endpoint_and_later : Flags → List Rule
+endpoint_and_later flags =
+    held (flag_rule (codes "redispatch")) ∷ held (number_rule (codes "endpoint-limit") 1023) ∷ client_and_later flags
+
+abbrev worker_and_later : Flags → List Rule
+worker_and_later flags =
+    held (rule_required_if (not flags.concurrency) (codes "workers") 7)
+    ∷ held (rule_required_if flags.concurrency (codes "concurrency") 1023)
+    ∷ held (number_rule (codes "preview-concurrency") 1023) ∷ held (number_rule (codes "threads") 64)
+    ∷ endpoint_and_later flags
+
+kept_and_count_keep : (flags : Flags) → Each (Keeps (serve flags).rules) (kept_and_count flags)
+kept_and_count_keep flags = let c = (serve flags).rules in (
+  flag_keeps c false (codes "keep-alive") refl,
+  (
+    number_keeps c (codes "keep-alive-timeout") 3600 refl,
+    (
+      number_keeps c (codes "keep-alive-requests") 1000000 refl,
+      (
+        number_keeps c (codes "endpoint-keep-alive-timeout") 3600 refl,
+        (
+          text_keeps c false (codes "journal") refl,
+          (count_keeps c flags.forever refl, (flag_keeps c flags.forever (codes "forever") refl, (help_keeps c, tt))),
+        ),
+      ),
+    ),
+  ),
+)
+
+client_and_later_keep : (flags : Flags) → Each (Keeps (serve flags).rules) (client_and_later flags)
+client_and_later_keep flags = let c = (serve flags).rules in (
   flag_keeps c false (codes "abort-on-close") refl,
   (
     number_keeps c (codes "shutdown-grace") 60 refl,
     (
       flag_keeps c false (codes "error-pages") refl,
-      (count_keeps c flags.forever refl, (flag_keeps c flags.forever (codes "forever") refl, (help_keeps c, tt))),
+      kept_and_count_keep flags,
     ),
   ),
 )
 
-endpoint_and_later_keep : (flags : Flags) → let c = (serve flags).rules in
-    Each (Keeps c) (held (flag_rule (codes "redispatch")) ∷ held (number_rule (codes "endpoint-limit") 1023)
-    ∷ held (flag_rule (codes "abort-on-close")) ∷ held (number_rule (codes "shutdown-grace") 60)
-    ∷ held (flag_rule (codes "error-pages")) ∷ held (count_rule flags.forever) ∷ held (forever_rule flags.forever) ∷ held help_rule ∷ [])
+endpoint_and_later_keep : (flags : Flags) → Each (Keeps (serve flags).rules) (endpoint_and_later flags)
 endpoint_and_later_keep flags = let c = (serve flags).rules in (
   flag_keeps c false (codes "redispatch") refl,
-  (number_keeps c (codes "endpoint-limit") 1023 refl, client_and_count_keep flags),
+  (number_keeps c (codes "endpoint-limit") 1023 refl, client_and_later_keep flags),
 )
 
-worker_and_later_keep : (flags : Flags) → let c = (serve flags).rules in
-    Each (Keeps c) (held (rule_required_if (not flags.concurrency) (codes "workers") 7)
-    ∷ held (rule_required_if flags.concurrency (codes "concurrency") 1023) ∷ held (number_rule (codes "preview-concurrency") 1023)
-    ∷ held (flag_rule (codes "redispatch")) ∷ held (number_rule (codes "endpoint-limit") 1023)
-    ∷ held (flag_rule (codes "abort-on-close")) ∷ held (number_rule (codes "shutdown-grace") 60)
-    ∷ held (flag_rule (codes "error-pages")) ∷ held (count_rule flags.forever) ∷ held (forever_rule flags.forever) ∷ held help_rule ∷ [])
+worker_and_later_keep : (flags : Flags) → Each (Keeps (serve flags).rules) (worker_and_later flags)
 worker_and_later_keep flags = let c = (serve flags).rules in (
   required_if_keeps c (not flags.concurrency) (codes "workers") 7 refl,
   (
     required_if_keeps c flags.concurrency (codes "concurrency") 1023 refl,
-    (number_keeps c (codes "preview-concurrency") 1023 refl, endpoint_and_later_keep flags),
+    (
+      number_keeps c (codes "preview-concurrency") 1023 refl,
+      (number_keeps c (codes "threads") 64 refl, endpoint_and_later_keep flags),
+    ),
   ),
 )
 
@@ -102,45 +137,53 @@ serve_keeps flags = let c = (serve flags).rules in (
   ),
 )
 
-client_and_count_defaults : (flags : Flags) → let c = (serve flags).rules in
-    Each (DefaultKeeps c) (held (flag_rule (codes "abort-on-close")) ∷ held (number_rule (codes "shutdown-grace") 60)
-    ∷ held (flag_rule (codes "error-pages")) ∷ held (count_rule flags.forever) ∷ held (forever_rule flags.forever) ∷ held help_rule ∷ [])
-client_and_count_defaults flags = let c = (serve flags).rules in (
-  flag_default_keeps c false (codes "abort-on-close") refl,
+kept_and_count_defaults : (flags : Flags) → Each (DefaultKeeps (serve flags).rules) (kept_and_count flags)
+kept_and_count_defaults flags = let c = (serve flags).rules in (
+  flag_default_keeps c false (codes "keep-alive") refl,
   (
-    no_default_keeps c (held (number_rule (codes "shutdown-grace") 60)) refl,
+    no_default_keeps c (held (number_rule (codes "keep-alive-timeout") 3600)) refl,
     (
-      flag_default_keeps c false (codes "error-pages") refl,
+      no_default_keeps c (held (number_rule (codes "keep-alive-requests") 1000000)) refl,
       (
-        no_default_keeps c (held (count_rule flags.forever)) refl,
-        (flag_default_keeps c flags.forever (codes "forever") refl, (help_default_keeps c, tt)),
+        no_default_keeps c (held (number_rule (codes "endpoint-keep-alive-timeout") 3600)) refl,
+        (
+          no_default_keeps c (held (text_rule (codes "journal"))) refl,
+          (
+            no_default_keeps c (held (count_rule flags.forever)) refl,
+            (flag_default_keeps c flags.forever (codes "forever") refl, (help_default_keeps c, tt)),
+          ),
+        ),
       ),
     ),
   ),
 )
 
-endpoint_and_later_defaults : (flags : Flags) → let c = (serve flags).rules in
-    Each (DefaultKeeps c) (held (flag_rule (codes "redispatch")) ∷ held (number_rule (codes "endpoint-limit") 1023)
-    ∷ held (flag_rule (codes "abort-on-close")) ∷ held (number_rule (codes "shutdown-grace") 60)
-    ∷ held (flag_rule (codes "error-pages")) ∷ held (count_rule flags.forever) ∷ held (forever_rule flags.forever) ∷ held help_rule ∷ [])
-endpoint_and_later_defaults flags = let c = (serve flags).rules in (
-  flag_default_keeps c false (codes "redispatch") refl,
-  (no_default_keeps c (held (number_rule (codes "endpoint-limit") 1023)) refl, client_and_count_defaults flags),
+client_and_later_defaults : (flags : Flags) → Each (DefaultKeeps (serve flags).rules) (client_and_later flags)
+client_and_later_defaults flags = let c = (serve flags).rules in (
+  flag_default_keeps c false (codes "abort-on-close") refl,
+  (
+    no_default_keeps c (held (number_rule (codes "shutdown-grace") 60)) refl,
+    (
+      flag_default_keeps c false (codes "error-pages") refl,
+      kept_and_count_defaults flags,
+    ),
+  ),
 )
 
-worker_and_later_defaults : (flags : Flags) → let c = (serve flags).rules in
-    Each (DefaultKeeps c) (held (rule_required_if (not flags.concurrency) (codes "workers") 7)
-    ∷ held (rule_required_if flags.concurrency (codes "concurrency") 1023) ∷ held (number_rule (codes "preview-concurrency") 1023)
-    ∷ held (flag_rule (codes "redispatch")) ∷ held (number_rule (codes "endpoint-limit") 1023)
-    ∷ held (flag_rule (codes "abort-on-close")) ∷ held (number_rule (codes "shutdown-grace") 60)
-    ∷ held (flag_rule (codes "error-pages")) ∷ held (count_rule flags.forever) ∷ held (forever_rule flags.forever) ∷ held help_rule ∷ [])
+endpoint_and_later_defaults : (flags : Flags) → Each (DefaultKeeps (serve flags).rules) (endpoint_and_later flags)
+endpoint_and_later_defaults flags = let c = (serve flags).rules in (
+  flag_default_keeps c false (codes "redispatch") refl,
+  (no_default_keeps c (held (number_rule (codes "endpoint-limit") 1023)) refl, client_and_later_defaults flags),
+)
+
+worker_and_later_defaults : (flags : Flags) → Each (DefaultKeeps (serve flags).rules) (worker_and_later flags)
 worker_and_later_defaults flags = let c = (serve flags).rules in (
   no_default_keeps c (held (rule_required_if (not flags.concurrency) (codes "workers") 7)) refl,
   (
     no_default_keeps c (held (rule_required_if flags.concurrency (codes "concurrency") 1023)) refl,
     (
       no_default_keeps c (held (number_rule (codes "preview-concurrency") 1023)) refl,
-      endpoint_and_later_defaults flags,
+      (no_default_keeps c (held (number_rule (codes "threads") 64)) refl, endpoint_and_later_defaults flags),
     ),
   ),
 )
@@ -238,8 +281,28 @@ serve_known flags words e =
       concurrency = in_range c (held (rule_required_if flags.concurrency (codes "concurrency") 1023)) (codes "concurrency") 1023 rows refl refl refl good;
       concurrency_given = λ many. given_has c (codes "concurrency") rows good (concurrency.0 many);
       preview_concurrency = in_range c (held (number_rule (codes "preview-concurrency") 1023)) (codes "preview-concurrency") 1023 rows refl refl refl good;
+      threads = in_range c (held (number_rule (codes "threads") 64)) (codes "threads") 64 rows refl refl refl good;
       endpoint_limit = in_range c (held (number_rule (codes "endpoint-limit") 1023)) (codes "endpoint-limit") 1023 rows refl refl refl good;
       shutdown_grace = in_range c (held (number_rule (codes "shutdown-grace") 60)) (codes "shutdown-grace") 60 rows refl refl refl good;
+      keep_alive_timeout = in_range c (held (number_rule (codes "keep-alive-timeout") 3600)) (codes "keep-alive-timeout") 3600 rows refl refl refl good;
+      keep_alive_requests = in_range c (held (number_rule (codes "keep-alive-requests") 1000000)) (codes "keep-alive-requests") 1000000 rows refl refl refl good;
+      endpoint_keep_alive_timeout = in_range c (held (number_rule (codes "endpoint-keep-alive-timeout") 3600)) (codes "endpoint-keep-alive-timeout") 3600 rows refl refl refl good;
       count = in_range c (held (count_rule flags.forever)) (codes "count") 1000000 rows refl refl refl good;
       count_given = λ limited. given_has c (codes "count") rows good (count.0 (not_true flags.forever limited));
     }
+
+abbrev pub journal : Shape
+journal = built_sub journal_app.top
+
+journal_keeps : Each (Keeps journal.rules) journal.rules
+journal_keeps = (word_keeps journal.rules true (codes "file") refl, (help_keeps journal.rules, tt))
+
+-- the file is given
+pub journal_known : (words : List Text) → level_fault journal [] nothing_held words false [] ≡ []
+    → is_some (first_of (codes "file") (rows_after journal.rules [] words)) ≡ true
+journal_known words e =
+    let rows = rows_after journal.rules [] words in
+    let good : AreGood journal.rules rows = leaf_good journal words refl journal_keeps
+    (no_default_keeps journal.rules (held (word_rule_required_if true (codes "file"))) refl, (help_default_keeps journal.rules, tt)) e in
+    let given = first_given (is_given (codes "file") rows) _ (all_given journal words refl e) in
+    given_has journal.rules (codes "file") rows good given.0

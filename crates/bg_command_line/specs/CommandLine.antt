@@ -18,7 +18,8 @@ use Rattle.bg_command_line.specs.declared.invocation.Connections.TheVariants.{Co
 use Rattle.bg_command_line.specs.declared.invocation.ControlSocket.{ControlSocket}
 use Rattle.bg_command_line.specs.declared.invocation.Flags.{Flags}
 use Rattle.bg_command_line.specs.declared.invocation.Invocation.{Invocation}
-use Rattle.bg_command_line.specs.declared.invocation.Invocation.TheVariants.{Check, Replay, Serve}
+use Rattle.bg_command_line.specs.declared.invocation.Invocation.TheVariants.{Check, Journal, Replay, Serve}
+use Rattle.bg_command_line.specs.declared.invocation.KeepAlive.{KeepAlive}
 use Rattle.bg_command_line.specs.declared.invocation.ServeSettings.{ServeSettings}
 use Rattle.bg_command_line.specs.declared.invocation.InvocationFault.{InvocationFault}
 use Rattle.bg_command_line.specs.declared.invocation.InvocationFault.TheVariants.{Words, OutOfMemory}
@@ -55,15 +56,27 @@ text_rule name = record (new_rule name) {
   parser = Some value_parser.NonEmptyString;
 }
 
+-- the word NAME, a text that is not empty
+abbrev pub word_rule : Text → Rule
+word_rule name = record (new_rule name) {
+  value_names = 1;
+  parser = Some value_parser.NonEmptyString;
+}
+
+-- the word NAME, which is required if `required` says so
+abbrev pub word_rule_required_if : Bool → Text → Rule
+word_rule_required_if required name = record (word_rule name) { required = required }
+
 -- `--NAME TEXT`, which is required if `required` says so
 abbrev pub text_rule_required_if : Bool → Text → Rule
 text_rule_required_if required name = record (text_rule name) { required = required }
 
--- the flag `--NAME`, `--NAME N` with N from 1 to the number, or `--NAME TEXT`
+-- the flag `--NAME`, `--NAME N` with N from 1 to the number, `--NAME TEXT`, or the word NAME
 abbrev pub rule_of_kind : OptionValue → Bool → Text → Rule
 rule_of_kind option_value.Nothing required name = flag_rule_required_if required name
 rule_of_kind (option_value.UpTo most) required name = rule_required_if required name most
 rule_of_kind (option_value.Text value) required name = text_rule_required_if required name
+rule_of_kind (option_value.Word value) required name = word_rule_required_if required name
 
 -- the rule of an option
 abbrev pub option_rule : CommandOption → Rule
@@ -76,6 +89,10 @@ check_app = new_app (codes "check")
 -- `replay [--seats N]`
 abbrev pub replay_app : App
 replay_app = with_rule (new_app (codes "replay")) (number_rule (codes "seats") 8)
+
+-- `journal FILE`
+abbrev pub journal_app : App
+journal_app = with_rule (new_app (codes "journal")) (word_rule_required_if true (codes "file"))
 
 -- `--active P [--preview P]`
 abbrev pub with_port_rules : App → App
@@ -98,13 +115,14 @@ count_rule forever = record (number_rule (codes "count") 1000000) { required = n
 abbrev pub forever_rule : Bool → Rule
 forever_rule forever = flag_rule_required_if forever (codes "forever")
 
--- `--workers N`, `--concurrency N` and `[--preview-concurrency M]`; of the first two the second is required if
--- `concurrency` holds, else the first
+-- `--workers N`, `--concurrency N`, `[--preview-concurrency M]` and `[--threads N]`; of the first two the second is
+-- required if `concurrency` holds, else the first
 abbrev pub with_worker_rules : Bool → App → App
-with_worker_rules concurrency a = with_rule (with_rule (with_rule a
+with_worker_rules concurrency a = with_rule (with_rule (with_rule (with_rule a
     (rule_required_if (not concurrency) (codes "workers") 7))
     (rule_required_if concurrency (codes "concurrency") 1023))
-    (number_rule (codes "preview-concurrency") 1023)
+    (number_rule (codes "preview-concurrency") 1023))
+    (number_rule (codes "threads") 64)
 
 -- `[--redispatch] [--endpoint-limit M]`
 abbrev pub with_endpoint_rules : App → App
@@ -117,16 +135,30 @@ with_client_rules a = with_rule (with_rule (with_rule a (flag_rule (codes "abort
     (number_rule (codes "shutdown-grace") 60))
     (flag_rule (codes "error-pages"))
 
+-- `[--keep-alive] [--keep-alive-timeout S] [--keep-alive-requests N] [--endpoint-keep-alive-timeout S]`
+abbrev pub with_keep_alive_rules : App → App
+with_keep_alive_rules a = with_rule (with_rule (with_rule (with_rule a (flag_rule (codes "keep-alive")))
+    (number_rule (codes "keep-alive-timeout") 3600))
+    (number_rule (codes "keep-alive-requests") 1000000))
+    (number_rule (codes "endpoint-keep-alive-timeout") 3600)
+
+-- `[--journal FILE]`
+abbrev pub with_journal_rule : App → App
+with_journal_rule a = with_rule a (text_rule (codes "journal"))
+
 -- `--count K` and `--forever`; the second is required if `forever` holds, else the first
 abbrev pub with_connection_rules : Bool → App → App
 with_connection_rules forever a = with_rule (with_rule a (count_rule forever)) (forever_rule forever)
 
 -- `serve --active P [--preview P] [--control-socket-mode MODE] [--control-socket-group GROUP] [--preview-concurrency M]
--- [--redispatch] [--endpoint-limit M] [--abort-on-close] [--shutdown-grace S] [--error-pages]`, with `--control P` or
--- `--control-socket PATH` or both, `--workers N` or `--concurrency N`, and `--count K` or `--forever`; the flags say which of each two is required
+-- [--threads N] [--redispatch] [--endpoint-limit M] [--abort-on-close] [--shutdown-grace S] [--error-pages] [--keep-alive]
+-- [--keep-alive-timeout S] [--keep-alive-requests N] [--endpoint-keep-alive-timeout S] [--journal FILE]`, with `--control P`
+-- or `--control-socket PATH` or both, `--workers N` or `--concurrency N`, and `--count K` or `--forever`; the flags say which of
+-- each two is required
 abbrev pub serve_app : Flags → App
-serve_app flags = with_connection_rules flags.forever (with_client_rules (with_endpoint_rules
-    (with_worker_rules flags.concurrency (with_control_rules flags.socket (with_port_rules (new_app (codes "serve")))))))
+serve_app flags = with_connection_rules flags.forever (with_journal_rule (with_keep_alive_rules (with_client_rules
+    (with_endpoint_rules (with_worker_rules flags.concurrency (with_control_rules flags.socket
+    (with_port_rules (new_app (codes "serve")))))))))
 
 -- `bg_switch`, which has a version and requires a subcommand; there is no subcommand `help`
 abbrev pub top_app : App
@@ -141,8 +173,8 @@ top_app = record {
 
 -- the whole command line, for words with these flags
 abbrev pub program : Flags → App
-program flags = with_subcommand (with_subcommand (with_subcommand top_app check_app.top)
-    replay_app.top) (serve_app flags).top
+program flags = with_subcommand (with_subcommand (with_subcommand (with_subcommand top_app check_app.top)
+    replay_app.top) journal_app.top) (serve_app flags).top
 
 -- one of the words after the program's name is this one
 abbrev pub has_word : Text → List Text → Bool
@@ -232,6 +264,20 @@ IsControlSocket rows (Some socket) = (first_of (codes "control-socket") rows ≡
     × IsMode rows socket.mode
     × (option_map (λ group. group.now) socket.group ≡ first_of (codes "control-socket-group") rows)
 
+-- how connections are kept: for as long as the arguments say, or for 75 seconds, 1,000 requests, and 60 seconds at an endpoint
+pub record AreKept (rows : List Row) (kept : KeepAlive) : Type 0 where
+  pub seconds_are : kept.seconds ≡ unwrap_or (number_of (codes "keep-alive-timeout") rows) 75
+  pub seconds_range : IsBetween 1 3600 kept.seconds
+  pub requests_are : kept.requests ≡ unwrap_or (number_of (codes "keep-alive-requests") rows) 1000
+  pub requests_range : IsBetween 1 1000000 kept.requests
+  pub endpoint_seconds_are : kept.endpoint_seconds ≡ unwrap_or (number_of (codes "endpoint-keep-alive-timeout") rows) 60
+  pub endpoint_seconds_range : IsBetween 1 3600 kept.endpoint_seconds
+
+-- connections are kept if `--keep-alive` is given, and only then
+abbrev pub IsKeepAlive : List Row → Option KeepAlive → Type 0
+IsKeepAlive rows None = has_flag (codes "keep-alive") rows ≡ false
+IsKeepAlive rows (Some kept) = (has_flag (codes "keep-alive") rows ≡ true) × AreKept rows kept
+
 -- the arguments of `serve`
 pub record IsServe (flags : Flags) (rows : List Row) (settings : ServeSettings) : Type 0 where
   pub active_is : IsGiven 1 65535 (codes "active") rows settings.active
@@ -246,6 +292,8 @@ pub record IsServe (flags : Flags) (rows : List Row) (settings : ServeSettings) 
   pub preview_workers_are : settings.preview_workers ≡ unwrap_or (number_of (codes "preview-concurrency") rows)
       (default_preview_workers flags.concurrency settings.workers)
   pub preview_workers_range : IsBetween 1 1023 settings.preview_workers
+  pub threads_are : settings.threads ≡ number_of (codes "threads") rows
+  pub threads_range : IfSome settings.threads (IsBetween 1 64)
   pub redispatch_is : settings.redispatch ≡ has_flag (codes "redispatch") rows
   pub endpoint_limit_is : settings.endpoint_limit ≡ number_of (codes "endpoint-limit") rows
   pub endpoint_limit_range : IfSome settings.endpoint_limit (IsBetween 1 1023)
@@ -253,6 +301,8 @@ pub record IsServe (flags : Flags) (rows : List Row) (settings : ServeSettings) 
   pub shutdown_grace_is : settings.shutdown_grace ≡ unwrap_or (number_of (codes "shutdown-grace") rows) 1
   pub shutdown_grace_range : IsBetween 1 60 settings.shutdown_grace
   pub error_pages_is : settings.error_pages ≡ has_flag (codes "error-pages") rows
+  pub keep_alive_is : IsKeepAlive rows settings.keep_alive
+  pub journal_is : option_map (λ path. path.now) settings.journal ≡ first_of (codes "journal") rows
   pub connections_are : AreConnections flags.forever rows settings.connections
 
 -- the invocation is the subcommand of this name with these matches; 4 seats if no number is given
@@ -260,6 +310,8 @@ abbrev pub IsInvocationOf : Flags → Text → List Row → Invocation → Type 
 IsInvocationOf flags name rows Check = name ≡ codes "check"
 IsInvocationOf flags name rows (Replay seats) = (name ≡ codes "replay")
     × (seats ≡ unwrap_or (number_of (codes "seats") rows) 4) × IsBetween 1 8 seats
+IsInvocationOf flags name rows (Journal path) =
+    (name ≡ codes "journal") × (first_of (codes "file") rows ≡ Some path.now)
 IsInvocationOf flags name rows (Serve settings) = (name ≡ codes "serve") × IsServe flags rows settings
 
 -- the words are accepted, and the invocation is the subcommand of their matches
@@ -315,13 +367,18 @@ pub record HasWordsOfServe (flags : Flags) (rows : List Row) : Type 0 where
   pub concurrency_given
       : flags.concurrency ≡ true → is_some (first_of (codes "concurrency") rows) ≡ true
   pub preview_concurrency : IsIn 1 1023 (codes "preview-concurrency") rows
+  pub threads : IsIn 1 64 (codes "threads") rows
   pub endpoint_limit : IsIn 1 1023 (codes "endpoint-limit") rows
   pub shutdown_grace : IsIn 1 60 (codes "shutdown-grace") rows
+  pub keep_alive_timeout : IsIn 1 3600 (codes "keep-alive-timeout") rows
+  pub keep_alive_requests : IsIn 1 1000000 (codes "keep-alive-requests") rows
+  pub endpoint_keep_alive_timeout : IsIn 1 3600 (codes "endpoint-keep-alive-timeout") rows
   pub count : IsIn 1 1000000 (codes "count") rows
   pub count_given : flags.forever ≡ false → is_some (first_of (codes "count") rows) ≡ true
 
 -- what the name of an accepted subcommand says about its matches
 pub record IsKnown (flags : Flags) (name : Text) (rows : List Row) : Type 0 where
-  pub is_serve : name ≢ codes "check" → name ≢ codes "replay" → name ≡ codes "serve"
+  pub is_serve : name ≢ codes "check" → name ≢ codes "replay" → name ≢ codes "journal" → name ≡ codes "serve"
   pub seats : name ≡ codes "replay" → IsIn 1 8 (codes "seats") rows
+  pub file : name ≡ codes "journal" → is_some (first_of (codes "file") rows) ≡ true
   pub words : name ≡ codes "serve" → HasWordsOfServe flags rows

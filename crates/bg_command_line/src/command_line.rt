@@ -2,7 +2,7 @@
 ghost use Rattle.std.specs.Prelude.{◌≡◌, IfOk, false};
 ghost use Rattle.clap.specs.Words.{app_of, kind_of};
 ghost use Rattle.clap.specs.declared.builder.command.Command.TheViews.{out-Command as fields_of};
-ghost use Rattle.bg_command_line.specs.CommandLine.{check_app, program, replay_app, serve_app, top_app};
+ghost use Rattle.bg_command_line.specs.CommandLine.{check_app, journal_app, program, replay_app, serve_app, top_app};
 
 use crate::command_option::{CommandOption, OptionValue, with_options};
 use crate::invocation::Flags;
@@ -35,6 +35,10 @@ At a graceful shutdown, a client that has sent nothing is let go after --shutdow
 has come by then is answered.
 With --error-pages, an answer of the switch itself has a short body with its status and reason: HTML if the client
 accepts text/html, else text. Without it, such an answer has no body.
+With --keep-alive, connections of clients and to endpoints are kept for further requests. --keep-alive-timeout,
+--keep-alive-requests and --endpoint-keep-alive-timeout have no effect without it.
+With --journal, an order is in the file before it is answered, and a start with a file that has orders goes on
+where the last one ended.
 With --count, a line quit ends the operators' side, not the workers': the program ends once both are
 done. It then prints the report, and ends with status 0; 1 where the strategy has a fault or a port
 can't be bound.
@@ -44,7 +48,8 @@ connection on, and a response from the dial on, until it is whole: 1 to 3600; 60
 /// The notes in the help of the program.
 const NOTES: &str = "\
 check has no words of its own. replay takes --seats N: how many requests can be open at once, 1 to 8;
-4 where it isn't given. serve takes, on ports of 127.0.0.1:
+4 where it isn't given. journal takes FILE: the file of a journal that no process has open.
+serve takes, on ports of 127.0.0.1:
   --active P   port of clients whose requests go to the active revision, 1 to 65535; has to be given
   --preview P  that of the revision under preview, 1 to 65535; no such port where it isn't given
   --control P  port at which operators' lines are answered, 1 to 65535; has to be given,
@@ -63,6 +68,8 @@ check has no words of its own. replay takes --seats N: how many requests can be 
                how many requests the preview port forwards at a time, 1 to 1023; where it isn't given,
                1 with --workers, and with --concurrency an eighth of N, at least 1; it has no effect
                without --preview
+  --threads N  how many event loops serve the clients of the active port, each in a thread of its own,
+               1 to 64; as many as the machine has processors where it isn't given
   --redispatch another endpoint of the same revision is asked if one can't be connected to
   --endpoint-limit M
                how many requests at a time an endpoint gets while another one of its revision is free,
@@ -75,12 +82,25 @@ check has no words of its own. replay takes --seats N: how many requests can be 
                1 where it isn't given
   --error-pages
                an answer of the switch itself has a short body with its status and reason
+  --keep-alive connections of clients and to endpoints are kept for further requests
+  --keep-alive-timeout S
+               for how many seconds a client's connection is kept while no request comes, 1 to 3600; 75 where
+               it isn't given; it has no effect without --keep-alive
+  --keep-alive-requests N
+               how many requests a client's connection carries at most, 1 to 1000000; 1000 where it isn't
+               given; it has no effect without --keep-alive
+  --endpoint-keep-alive-timeout S
+               for how many seconds a connection to an endpoint is kept while no request needs it, 1 to 3600;
+               60 where it isn't given; it has no effect without --keep-alive
+  --journal FILE
+               the database that keeps each order of operators before it is answered, and from which a start
+               goes on; no such file where it isn't given
   --count K    how many connections each worker takes until it ends, 1 to 1000000; has to be given,
                unless --forever is; any connection counts, a health check too, and the port is
                closed after the last
   --forever    in the place of --count: the workers end at a graceful shutdown
 A line quit ends the operators' side of serve, and with --count not the workers'.
-The strategy comes on standard input, as `kubectl get rollout NAME -o json` writes it.
+The strategy comes on standard input of check, replay and serve, as `kubectl get rollout NAME -o json` writes it.
 Status: 0; 1 after a fault, and where the run ends early; 2 after words that are no order, and after
 this help.";
 
@@ -111,10 +131,28 @@ fn replay_command<'a>(alloc: Global) -> Result<Command<'a>, AllocError>
     with_options(alloc, named, &[seats])
 }
 
+/// `journal FILE`.
+fn journal_command<'a>(alloc: Global) -> Result<Command<'a>, AllocError>
+    ensures app { IfOk result (λ c. app_of c ≡ journal_app) }
+    ensures local { IfOk result (λ c. (fields_of c).has_globals ≡ false) }
+{
+    let named = Command::new(alloc, "journal").about(
+        "Judges a journal of serve, and writes the report of its end, or its first fault",
+    );
+    let file = CommandOption {
+        name: "file",
+        value: OptionValue::Word("FILE"),
+        required: true,
+        help: "The file of the journal; no process may have it open",
+    };
+    with_options(alloc, named, &[file])
+}
+
 /// `serve --active P [--preview P] [--control-socket-mode MODE] [--control-socket-group GROUP] [--preview-concurrency M]
-/// [--redispatch] [--endpoint-limit M] [--abort-on-close] [--shutdown-grace S] [--error-pages]`, with `--control P` or `--control-socket
-/// PATH` or both, `--workers N` or `--concurrency N`, and `--count K` or `--forever`. The flags say which of each two is
-/// required.
+/// [--threads N] [--redispatch] [--endpoint-limit M] [--abort-on-close] [--shutdown-grace S] [--error-pages] [--keep-alive]
+/// [--keep-alive-timeout S] [--keep-alive-requests N] [--endpoint-keep-alive-timeout S] [--journal FILE]`, with `--control P`
+/// or `--control-socket PATH` or both, `--workers N` or `--concurrency N`, and `--count K` or `--forever`. The flags say which
+/// of each two is required.
 fn serve_command<'a>(alloc: Global, flags: Flags) -> Result<Command<'a>, AllocError>
     ensures app { IfOk result (λ c. app_of c ≡ serve_app flags) }
     ensures local { IfOk result (λ c. (fields_of c).has_globals ≡ false) }
@@ -150,14 +188,15 @@ fn top_command<'a>(alloc: Global) -> Command<'a>
         .disable_help_subcommand(true)
 }
 
-/// `bg_switch check`, `bg_switch replay ..` and `bg_switch serve ..`; one of the three is required.
+/// `bg_switch check`, `bg_switch replay ..`, `bg_switch journal ..` and `bg_switch serve ..`; one of the four is required.
 /// The flags are those of the words.
 pub fn program_command<'a>(alloc: Global, flags: Flags) -> Result<Command<'a>, AllocError>
     ensures { IfOk result (λ c. app_of c ≡ program flags) }
 {
-    let mut subcommands = Vec::with_capacity(alloc, 3)?;
+    let mut subcommands = Vec::with_capacity(alloc, 4)?;
     subcommands.push(check_command(alloc))?;
     subcommands.push(replay_command(alloc)?)?;
+    subcommands.push(journal_command(alloc)?)?;
     subcommands.push(serve_command(alloc, flags)?)?;
     top_command(alloc).subcommands(subcommands)
 }

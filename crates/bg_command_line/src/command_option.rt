@@ -2,7 +2,7 @@
 ghost use Rattle.std.specs.Prelude.{◌≡◌, IfOk, false, fold, map};
 ghost use Rattle.clap.specs.Words.{app_of, rule_of, with_rule};
 ghost use Rattle.clap.specs.declared.builder.command.Command.TheViews.{out-Command as fields_of};
-ghost use Rattle.bg_command_line.specs.CommandLine.{flag_rule, number_rule, option_rule, text_rule};
+ghost use Rattle.bg_command_line.specs.CommandLine.{flag_rule, number_rule, option_rule, text_rule, word_rule};
 
 use clap::builder::ValueParser;
 use clap::{Arg, ArgAction, Command};
@@ -17,12 +17,15 @@ pub(crate) enum OptionValue<'a> {
     UpTo(u64),
     /// A text that is not empty. The help calls it by this word.
     Text(&'a str),
+    /// A text that is not empty, as a word of its own without `--NAME`: a positional argument. The help calls it by
+    /// this word.
+    Word(&'a str),
 }
 
 /// An option of a subcommand.
 #[derive(Clone, Copy)]
 pub(crate) struct CommandOption<'a> {
-    /// `NAME` in `--NAME`.
+    /// `NAME` in `--NAME`, or the name of a positional argument.
     pub(crate) name: &'a str,
     pub(crate) value: OptionValue<'a>,
     /// Whether the option has to be given.
@@ -52,6 +55,16 @@ fn text_argument<'a>(alloc: Global, name: &'a str, value: &'a str) -> Arg<'a>
         .value_parser(ValueParser::NonEmptyString)
 }
 
+/// The optional word `NAME`, a text that is not empty, which the help calls `value`.
+fn word_argument<'a>(alloc: Global, name: &'a str, value: &'a str) -> Arg<'a>
+    ensures rule { rule_of result ≡ word_rule name.entry.now }
+    ensures local { result.global ≡ false }
+{
+    Arg::new(alloc, name)
+        .value_name(value)
+        .value_parser(ValueParser::NonEmptyString)
+}
+
 /// The optional flag `--NAME`, which has no value.
 fn flag<'a>(alloc: Global, name: &'a str) -> Arg<'a>
     ensures rule { rule_of result ≡ flag_rule name.entry.now }
@@ -69,6 +82,7 @@ fn argument<'a>(alloc: Global, option: &CommandOption<'a>) -> Arg<'a>
         OptionValue::Nothing => flag(alloc, option.name),
         OptionValue::UpTo(most) => number_argument(alloc, option.name, most),
         OptionValue::Text(value) => text_argument(alloc, option.name, value),
+        OptionValue::Word(value) => word_argument(alloc, option.name, value),
     };
     argument.required(option.required).help(option.help)
 }

@@ -15,6 +15,8 @@ pub enum Invocation<'a> {
     Check,
     /// Answer the script after the strategy, with this many seats, 1 to 8.
     Replay { seats: u8 },
+    /// Judge the journal in the file of this path, and write the report of its end.
+    Journal { path: &'a str },
     /// Forward the requests of clients, controlled by the lines of operators.
     Serve(ServeSettings<'a>),
 }
@@ -50,8 +52,22 @@ pub struct ControlSocket<'a> {
     pub group: Option<&'a str>,
 }
 
+/// How long connections are kept for further requests (RFC 9112 section 9.3).
+#[derive(Clone, Copy, Debug, Drop, PartialEq, Eq)]
+pub struct KeepAlive {
+    /// For how many seconds a client's connection is kept while no request comes on it (nginx's `keepalive_timeout`,
+    /// HAProxy's `timeout http-keep-alive`), 1 to 3,600.
+    pub seconds: u16,
+    /// How many requests a client's connection carries at most (nginx's `keepalive_requests`), 1 to 1,000,000.
+    pub requests: u32,
+    /// For how many seconds a connection to an endpoint is kept while no request goes over it (nginx's
+    /// `keepalive_timeout` of an upstream, HAProxy's `pool-purge-delay`), 1 to 3,600.
+    pub endpoint_seconds: u16,
+}
+
 /// The ports at which `serve` takes connections, how many connections and requests each takes, how an endpoint
-/// is chosen, and how clients are treated that leave or are silent. Ports are from 1 to 65535.
+/// is chosen, how clients are treated that leave or are silent, how connections are kept, and where orders are
+/// kept. Ports are from 1 to 65535.
 #[derive(Clone, Copy, Debug, Drop, PartialEq, Eq)]
 pub struct ServeSettings<'a> {
     /// The port of the active service.
@@ -67,6 +83,9 @@ pub struct ServeSettings<'a> {
     /// The number of workers of the preview service, 1 to 1,023, by `--preview-concurrency`. If that is not given:
     /// 1 with `--workers`, and with `--concurrency` an eighth of its number, at least 1.
     pub preview_workers: u16,
+    /// The number of event loops that serve the clients of the active port, each in a thread of its own (nginx's
+    /// `worker_processes`, HAProxy's `nbthread`), 1 to 64; `None` stands for as many as the machine has processors.
+    pub threads: Option<u16>,
     /// Whether another endpoint of the revision is asked if one can't be connected to (HAProxy's `option
     /// redispatch`, nginx's `proxy_next_upstream error`).
     pub redispatch: bool,
@@ -82,6 +101,11 @@ pub struct ServeSettings<'a> {
     /// Whether an answer of the switch itself has a body with its status and reason (nginx's `error_page`, HAProxy's
     /// `errorfile`).
     pub error_pages: bool,
+    /// How connections of clients and to endpoints are kept for further requests; `None` stands for connections that
+    /// carry one request each.
+    pub keep_alive: Option<KeepAlive>,
+    /// The path of the journal, if there is one: the file that keeps the orders of operators.
+    pub journal: Option<&'a str>,
     /// The number of connections that each worker takes.
     pub connections: Connections,
 }

@@ -1,7 +1,7 @@
 //! The options of `serve`.
 ghost use Rattle.std.specs.Prelude.{◌≡◌, fold, map};
 ghost use Rattle.clap.specs.Words.{App, with_rule};
-ghost use Rattle.bg_command_line.specs.CommandLine.{option_rule, with_client_rules, with_connection_rules, with_endpoint_rules, with_control_rules, with_port_rules, with_worker_rules};
+ghost use Rattle.bg_command_line.specs.CommandLine.{option_rule, with_client_rules, with_connection_rules, with_endpoint_rules, with_control_rules, with_journal_rule, with_keep_alive_rules, with_port_rules, with_worker_rules};
 
 use crate::command_option::{CommandOption, OptionValue};
 use crate::invocation::Flags;
@@ -14,18 +14,28 @@ const GREATEST_MODE: u64 = 777;
 /// How many requests a port may forward at a time, or an endpoint get.
 const MOST_REQUESTS: u64 = 1_023;
 
+/// How many event loops the active port may have.
+const MOST_THREADS: u64 = 64;
+
 /// For how many seconds a shutdown may keep silent clients: it lasts for no longer itself.
 const MOST_GRACE: u64 = 60;
 
+/// For how many seconds an idle connection may be kept.
+const MOST_IDLE_SECONDS: u64 = 3_600;
+
+/// How many connections a worker may take, or how many requests a connection may carry.
+const MOST_COUNT: u64 = 1_000_000;
+
 /// The options of `serve`: `--active P [--preview P]`; `--control P`, `--control-socket PATH`, `[--control-socket-mode MODE]`
-/// and `[--control-socket-group GROUP]`; `--workers N`, `--concurrency N` and `[--preview-concurrency M]`; `[--redispatch]
-/// [--endpoint-limit M]`; `[--abort-on-close] [--shutdown-grace S] [--error-pages]`; `--count K` and `--forever`. The flags
-/// say which of `--control` and `--control-socket` is required, which of `--workers` and `--concurrency`, and which of
-/// `--count` and `--forever`.
-pub(crate) fn serve_options<'a>(flags: Flags) -> [CommandOption<'a>; 16]
+/// and `[--control-socket-group GROUP]`; `--workers N`, `--concurrency N`, `[--preview-concurrency M]` and `[--threads N]`;
+/// `[--redispatch] [--endpoint-limit M]`; `[--abort-on-close] [--shutdown-grace S] [--error-pages]`; `[--keep-alive]
+/// [--keep-alive-timeout S] [--keep-alive-requests N] [--endpoint-keep-alive-timeout S]`; `[--journal FILE]`; `--count K` and
+/// `--forever`. The flags say which of `--control` and `--control-socket` is required, which of `--workers` and
+/// `--concurrency`, and which of `--count` and `--forever`.
+pub(crate) fn serve_options<'a>(flags: Flags) -> [CommandOption<'a>; 22]
     ensures { (before : App) → fold with_rule before (map option_rule result) ≡ with_connection_rules flags.forever
-        (with_client_rules (with_endpoint_rules (with_worker_rules flags.concurrency
-        (with_control_rules flags.socket (with_port_rules before))))) }
+        (with_journal_rule (with_keep_alive_rules (with_client_rules (with_endpoint_rules (with_worker_rules flags.concurrency
+        (with_control_rules flags.socket (with_port_rules before))))))) }
 {
     [
         CommandOption {
@@ -83,6 +93,12 @@ pub(crate) fn serve_options<'a>(flags: Flags) -> [CommandOption<'a>; 16]
             help: "How many requests the preview port forwards at a time, 1 to 1023; where it isn't given, 1 with --workers, and an eighth of --concurrency, at least 1; has no effect without --preview",
         },
         CommandOption {
+            name: "threads",
+            value: OptionValue::UpTo(MOST_THREADS),
+            required: false,
+            help: "How many event loops serve the clients of the active port, each in a thread of its own, 1 to 64; as many as the machine has processors where it isn't given",
+        },
+        CommandOption {
             name: "redispatch",
             value: OptionValue::Nothing,
             required: false,
@@ -113,8 +129,38 @@ pub(crate) fn serve_options<'a>(flags: Flags) -> [CommandOption<'a>; 16]
             help: "A refusal has a short body with its status and reason: HTML if the client accepts it, else text",
         },
         CommandOption {
+            name: "keep-alive",
+            value: OptionValue::Nothing,
+            required: false,
+            help: "Connections of clients and to endpoints are kept for further requests",
+        },
+        CommandOption {
+            name: "keep-alive-timeout",
+            value: OptionValue::UpTo(MOST_IDLE_SECONDS),
+            required: false,
+            help: "For how many seconds a client's connection is kept while no request comes, 1 to 3600; 75 where it isn't given; has no effect without --keep-alive",
+        },
+        CommandOption {
+            name: "keep-alive-requests",
+            value: OptionValue::UpTo(MOST_COUNT),
+            required: false,
+            help: "How many requests a client's connection carries at most, 1 to 1000000; 1000 where it isn't given; has no effect without --keep-alive",
+        },
+        CommandOption {
+            name: "endpoint-keep-alive-timeout",
+            value: OptionValue::UpTo(MOST_IDLE_SECONDS),
+            required: false,
+            help: "For how many seconds a connection to an endpoint is kept while no request needs it, 1 to 3600; 60 where it isn't given; has no effect without --keep-alive",
+        },
+        CommandOption {
+            name: "journal",
+            value: OptionValue::Text("FILE"),
+            required: false,
+            help: "The database that keeps each order of operators before it is answered, and from which a start goes on; no such file where it isn't given",
+        },
+        CommandOption {
             name: "count",
-            value: OptionValue::UpTo(1_000_000),
+            value: OptionValue::UpTo(MOST_COUNT),
             required: !flags.forever,
             help: "How many connections each worker takes before it ends, 1 to 1000000; has to be given, unless --forever is",
         },

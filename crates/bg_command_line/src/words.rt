@@ -2,11 +2,16 @@
 ghost use Rattle.std.specs.Prelude.{◌≡◌, IfOk, IfErr, IfSome, map, codes, option_map, is_some, false, true, unwrap_or};
 ghost use Rattle.std.specs.List.{list_any};
 ghost use Rattle.clap.specs.Words.{IsUnsignedIn, first_of, found_of, rows_of};
-ghost use Rattle.bg_command_line.specs.CommandLine.{AreConnections, AreWorkers, HasWordsOfServe, IsBetween, IsConflict, IsFaultFrom, IsFaultIn, IsIn, IsKnown, IsInvocationIn, IsInvocationOf, IsControlSocket, IsMode, default_preview_workers, flags_of, has_flag, has_option, has_word, is_in_conflict, is_option, number, number_of};
+ghost use Rattle.bg_command_line.specs.CommandLine.{AreConnections, AreWorkers, HasWordsOfServe, IsBetween, IsConflict, IsFaultFrom, IsFaultIn, IsIn, IsKnown, IsInvocationIn, IsInvocationOf, IsControlSocket, IsKeepAlive, IsMode, default_preview_workers, flags_of, has_flag, has_option, has_word, is_in_conflict, is_option, number, number_of};
 
+use crate::arguments::{argument_text, has_flag, required_text};
 use crate::command_line::{conflict, program_command};
 use crate::invocation::{
-    Connections, ControlSocket, Flags, Invocation, InvocationFault, ServeSettings,
+    Connections, ControlSocket, Flags, Invocation, InvocationFault, KeepAlive, ServeSettings,
+};
+use crate::numbers::{
+    count_in, grace_in, idle_seconds_in, mode_in, port_in, requests_in, seats_in, threads_in,
+    workers_in,
 };
 use clap::error::ErrorKind;
 use clap::{ArgMatches, Error};
@@ -21,13 +26,24 @@ const DEFAULT_GRACE: u8 = 1;
 /// The mode of the file of the control socket if `--control-socket-mode` is not given: only its owner may open it.
 const DEFAULT_MODE: u16 = 600;
 
+/// For how many seconds an idle connection of a client is kept if `--keep-alive-timeout` is not given.
+const DEFAULT_KEPT_SECONDS: u16 = 75;
+
+/// For how many seconds an idle connection to an endpoint is kept if `--endpoint-keep-alive-timeout` is not given.
+const DEFAULT_ENDPOINT_KEPT_SECONDS: u16 = 60;
+
+/// How many requests a connection of a client carries if `--keep-alive-requests` is not given.
+const DEFAULT_KEPT_REQUESTS: u32 = 1_000;
+
 /// Reads the program's words. The first word is the program's name. The others are `check`; `replay
-/// [--seats N]` with N from 1 to 8, and 4 seats if no number is given; or `serve --active P [--preview
+/// [--seats N]` with N from 1 to 8, and 4 seats if no number is given; `journal FILE`; or `serve --active P [--preview
 /// P]` with `--control P` or `--control-socket PATH` or both, with ports from 1 to 65535, either `--workers N` with N from 1 to 7 or `--concurrency N`
 /// with N from 1 to 1023, and either `--count K` with K from 1 to 1,000,000 or `--forever`. `serve` also takes
-/// `--preview-concurrency M` and `--endpoint-limit M` with M from 1 to 1023, `--redispatch`, `--abort-on-close`,
-/// `--error-pages`, `--shutdown-grace S` with S from 1 to 60, `--control-socket-mode MODE` with MODE from 1 to 777, and
-/// `--control-socket-group GROUP`. A value may also follow its option after `=`, in the same word.
+/// `--preview-concurrency M` and `--endpoint-limit M` with M from 1 to 1023, `--threads N` with N from 1 to 64,
+/// `--redispatch`, `--abort-on-close`, `--error-pages`, `--shutdown-grace S` with S from 1 to 60, `--control-socket-mode
+/// MODE` with MODE from 1 to 777, `--control-socket-group GROUP`, `--keep-alive`, `--keep-alive-timeout S` and
+/// `--endpoint-keep-alive-timeout S` with S from 1 to 3,600, `--keep-alive-requests N` with N from 1 to 1,000,000, and
+/// `--journal FILE`. A value may also follow its option after `=`, in the same word.
 ///
 /// The error is `Words` only if `clap` refuses the words, if they ask for help or for the version, or if
 /// both `--count` and `--forever` are given, or both `--workers` and `--concurrency`. It is `OutOfMemory` if an
@@ -147,6 +163,10 @@ fn invocation_of<'a>(flags: Flags, name: &str, matches: &ArgMatches<'a>) -> Invo
         Invocation::Replay {
             seats: seats_of(matches),
         }
+    } else if name == "journal" {
+        Invocation::Journal {
+            path: required_text(matches, "file"),
+        }
     } else {
         serve_of(flags, matches)
     }
@@ -179,11 +199,14 @@ fn serve_of<'a>(flags: Flags, matches: &ArgMatches<'a>) -> Invocation<'a>
         control_socket: control_socket_of(matches),
         workers,
         preview_workers: preview_workers_of(flags.concurrency, workers, matches),
+        threads: threads_of(matches),
         redispatch: has_flag(matches, "redispatch"),
         endpoint_limit: endpoint_limit_of(matches),
         abort_on_close: has_flag(matches, "abort-on-close"),
         shutdown_grace: shutdown_grace_of(matches),
         error_pages: has_flag(matches, "error-pages"),
+        keep_alive: keep_alive_of(matches),
+        journal: argument_text(matches, "journal"),
         connections: connections_of(flags.forever, matches),
     })
 }
@@ -262,6 +285,17 @@ fn default_preview_workers(concurrency: bool, workers: u16) -> u16
     if concurrency { (workers / 8).max(1) } else { 1 }
 }
 
+fn threads_of(matches: &ArgMatches) -> Option<u16>
+    requires { IsIn 1 64 (codes "threads") (rows_of (found_of matches.now)) }
+    ensures value { result ≡ number_of (codes "threads") (rows_of (found_of matches.now)) }
+    ensures range { IfSome result (IsBetween 1 64) }
+{
+    match argument_text(matches, "threads") {
+        Some(text) => Some(threads_in(text)),
+        None => None,
+    }
+}
+
 fn endpoint_limit_of(matches: &ArgMatches) -> Option<u16>
     requires { IsIn 1 1023 (codes "endpoint-limit") (rows_of (found_of matches.now)) }
     ensures value { result ≡ number_of (codes "endpoint-limit") (rows_of (found_of matches.now)) }
@@ -285,6 +319,60 @@ fn shutdown_grace_of(matches: &ArgMatches) -> u8
     }
 }
 
+/// How connections are kept for further requests, if they are.
+fn keep_alive_of(matches: &ArgMatches) -> Option<KeepAlive>
+    requires timeout { IsIn 1 3600 (codes "keep-alive-timeout") (rows_of (found_of matches.now)) }
+    requires requests { IsIn 1 1000000 (codes "keep-alive-requests") (rows_of (found_of matches.now)) }
+    requires endpoint { IsIn 1 3600 (codes "endpoint-keep-alive-timeout") (rows_of (found_of matches.now)) }
+    ensures { IsKeepAlive (rows_of (found_of matches.now)) result }
+{
+    if has_flag(matches, "keep-alive") {
+        Some(KeepAlive {
+            seconds: kept_seconds_of(matches),
+            requests: kept_requests_of(matches),
+            endpoint_seconds: endpoint_kept_seconds_of(matches),
+        })
+    } else {
+        None
+    }
+}
+
+/// For how many seconds an idle connection of a client is kept.
+fn kept_seconds_of(matches: &ArgMatches) -> u16
+    requires { IsIn 1 3600 (codes "keep-alive-timeout") (rows_of (found_of matches.now)) }
+    ensures value { result ≡ unwrap_or (number_of (codes "keep-alive-timeout") (rows_of (found_of matches.now))) 75 }
+    ensures range { IsBetween 1 3600 result }
+{
+    match argument_text(matches, "keep-alive-timeout") {
+        Some(text) => idle_seconds_in(text),
+        None => DEFAULT_KEPT_SECONDS,
+    }
+}
+
+/// How many requests a connection of a client carries.
+fn kept_requests_of(matches: &ArgMatches) -> u32
+    requires { IsIn 1 1000000 (codes "keep-alive-requests") (rows_of (found_of matches.now)) }
+    ensures value { result ≡ unwrap_or (number_of (codes "keep-alive-requests") (rows_of (found_of matches.now))) 1000 }
+    ensures range { IsBetween 1 1000000 result }
+{
+    match argument_text(matches, "keep-alive-requests") {
+        Some(text) => count_in(text),
+        None => DEFAULT_KEPT_REQUESTS,
+    }
+}
+
+/// For how many seconds an idle connection to an endpoint is kept.
+fn endpoint_kept_seconds_of(matches: &ArgMatches) -> u16
+    requires { IsIn 1 3600 (codes "endpoint-keep-alive-timeout") (rows_of (found_of matches.now)) }
+    ensures value { result ≡ unwrap_or (number_of (codes "endpoint-keep-alive-timeout") (rows_of (found_of matches.now))) 60 }
+    ensures range { IsBetween 1 3600 result }
+{
+    match argument_text(matches, "endpoint-keep-alive-timeout") {
+        Some(text) => idle_seconds_in(text),
+        None => DEFAULT_ENDPOINT_KEPT_SECONDS,
+    }
+}
+
 fn connections_of(forever: bool, matches: &ArgMatches) -> Connections
     requires count { IsIn 1 1000000 (codes "count") (rows_of (found_of matches.now)) }
     requires given { forever ≡ false → is_some (first_of (codes "count") (rows_of (found_of matches.now))) ≡ true }
@@ -295,85 +383,4 @@ fn connections_of(forever: bool, matches: &ArgMatches) -> Connections
     } else {
         Connections::Count(count_in(required_text(matches, "count")))
     }
-}
-
-/// Whether a flag is given. `clap` gives it the value `true` or `false`.
-fn has_flag(matches: &ArgMatches, id: &str) -> bool
-    ensures { result ≡ has_flag id.now (rows_of (found_of matches.now)) }
-{
-    match argument_text(matches, id) {
-        Some(text) => text == "true",
-        None => false,
-    }
-}
-
-fn argument_text<'a>(matches: &ArgMatches<'a>, id: &str) -> Option<&'a str>
-    ensures { option_map (λ t. t.now) result ≡ first_of id.now (rows_of (found_of matches.now)) }
-{
-    matches.get_str(id)
-}
-
-/// The text of an argument that is required.
-fn required_text<'a>(matches: &ArgMatches<'a>, id: &str) -> &'a str
-    requires { is_some (first_of id.now (rows_of (found_of matches.now))) ≡ true }
-    ensures { first_of id.now (rows_of (found_of matches.now)) ≡ Some result.now }
-{
-    argument_text(matches, id).unwrap()
-}
-
-fn seats_in(text: &str) -> u8
-    requires { IsUnsignedIn 1 8 text.now }
-    ensures value { result ≡ number text.now }
-    ensures range { IsBetween 1 8 result }
-{
-    text.parse::<u8>().unwrap()
-}
-
-fn port_in(text: &str) -> u16
-    requires { IsUnsignedIn 1 65535 text.now }
-    ensures value { result ≡ number text.now }
-    ensures range { IsBetween 1 65535 result }
-{
-    text.parse::<u16>().unwrap()
-}
-
-fn mode_in(text: &str) -> u16
-    requires { IsUnsignedIn 1 777 text.now }
-    ensures value { result ≡ number text.now }
-    ensures range { IsBetween 1 777 result }
-{
-    text.parse::<u16>().unwrap()
-}
-
-fn workers_in(text: &str) -> u16
-    requires { IsUnsignedIn 1 7 text.now }
-    ensures value { result ≡ number text.now }
-    ensures range { IsBetween 1 7 result }
-{
-    text.parse::<u16>().unwrap()
-}
-
-/// A number of requests at a time.
-fn requests_in(text: &str) -> u16
-    requires { IsUnsignedIn 1 1023 text.now }
-    ensures value { result ≡ number text.now }
-    ensures range { IsBetween 1 1023 result }
-{
-    text.parse::<u16>().unwrap()
-}
-
-fn grace_in(text: &str) -> u8
-    requires { IsUnsignedIn 1 60 text.now }
-    ensures value { result ≡ number text.now }
-    ensures range { IsBetween 1 60 result }
-{
-    text.parse::<u8>().unwrap()
-}
-
-fn count_in(text: &str) -> u32
-    requires { IsUnsignedIn 1 1000000 text.now }
-    ensures value { result ≡ number text.now }
-    ensures range { IsBetween 1 1000000 result }
-{
-    text.parse::<u32>().unwrap()
 }

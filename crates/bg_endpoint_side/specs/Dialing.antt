@@ -2,7 +2,7 @@
 use Rattle.std.specs.Prelude.{ℕ, Bool, false, ◌&&◌, not, List, [], nat_lt}
 use Rattle.bg_http.specs.declared.request.Request.{Request}
 use Rattle.bg_endpoint_side.specs.Deadlines.{renewed}
-use Rattle.bg_endpoint_side.specs.OutgoingTexts.{Outgoing}
+use Rattle.bg_endpoint_side.specs.OutgoingTexts.{Outgoing, uncopied_body}
 use Rattle.bg_endpoint_side.specs.declared.connection_state.ConnectionState.{ConnectionState}
 use Rattle.bg_endpoint_side.specs.declared.deadlines.Deadlines.{Deadlines}
 use Rattle.bg_endpoint_side.specs.declared.terms.Terms.{Terms}
@@ -37,7 +37,7 @@ elsewhere dialing text terms now =
 abbrev pub begins_on : Bool → Dialing → ℕ → Forwarded
 begins_on is_kept dialing now = record {
   request = dialing.request;
-  text = record { sent = []; rest = dialing.text };
+  text = record { sent = []; rest = dialing.text; uncopied = uncopied_body dialing.request };
   came = [];
   state = record {
     terms = dialing.terms;

@@ -50,7 +50,7 @@ pub(crate) fn may_stay(
     ensures { result ≡ (is_empty text.now.rest && keeps state.terms.persistence && not state.is_ending
         && is_whole (option_copied version.left) && not (has_close response.now.fields)) }
 {
-    text.rest().is_empty()
+    text.is_sent()
         && state.terms.persistence == Persistence::Keep
         && !state.is_ending
         && version.is_whole()

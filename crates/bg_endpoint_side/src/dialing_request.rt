@@ -1,7 +1,8 @@
 //! A request that is dialled for.
-ghost use Rattle.std.specs.Prelude.{◌≡◌, ◌&&◌, IsTrue, false, nat_le, not, true};
+ghost use Rattle.std.specs.Prelude.{◌≡◌, ◌&&◌, ◌++◌, IsTrue, false, nat_le, not, true};
 ghost use Rattle.bg_endpoint_side.specs.Deadlines.{deadlines_from};
 ghost use Rattle.bg_endpoint_side.specs.Dialing.{begins_on, elsewhere, may_go_elsewhere};
+ghost use Rattle.bg_endpoint_side.specs.OutgoingTexts.{uncopied_body as uncopied_of};
 ghost use Rattle.bg_endpoint_side.specs.Outcomes.{health_of_dial, of_dial, of_giving_up, refused};
 ghost use Rattle.bg_endpoint_side.specs.declared.outcome.Health.TheVariants as health;
 
@@ -42,6 +43,7 @@ impl Drop for DialingRequest {
 impl Model for DialingRequest {
     ghost use Rattle.std.specs.Prelude.{◌≡◌, [], IsTrue};
     ghost use Rattle.bg_endpoint_side.specs.Dialing.{Dialing};
+    ghost use Rattle.bg_endpoint_side.specs.OutgoingTexts.{uncopied_body};
 
     ghost Value = { Dialing };
 
@@ -53,12 +55,13 @@ impl Model for DialingRequest {
       is_again = r.is_again;
     } };
 
-    ghost invariant = { λ r. IsTrue r.parser.is_open × (r.parser.seen ≡ []) × (r.text.sent ≡ []) };
+    ghost invariant = { λ r. IsTrue r.parser.is_open × (r.parser.seen ≡ []) × (r.text.sent ≡ [])
+        × (r.text.uncopied ≡ uncopied_body r.parser.request) };
 }
 
 impl DialingRequest {
-    /// A request that is dialled for from now on, in milliseconds from the start of the program. `text` is what is written
-    /// to its endpoint. Its response is read as the one to `request`.
+    /// A request that is dialled for from now on, in milliseconds from the start of the program. What is written to its
+    /// endpoint are the bytes of `outgoing` and then [`uncopied_body`]. Its response is read as the one to `request`.
     pub fn new(
         alloc: Global,
         request: &Request,
@@ -68,16 +71,16 @@ impl DialingRequest {
     ) -> DialingRequest
         ensures { result ≡ record {
           request = request.now;
-          text = outgoing.0.items;
+          text = outgoing.0.items ++ uncopied_of request.now;
           terms = outgoing.1;
           deadlines = deadlines_from timeouts now;
           is_again = false;
         } }
     {
-        let (text, terms) = outgoing;
+        let (front, terms) = outgoing;
         DialingRequest {
             parser: ResponseParser::new(alloc, request),
-            text: OutgoingText::new(text),
+            text: OutgoingText::new(front, request),
             terms,
             deadlines: Deadlines::new(timeouts, now),
             is_again: false,
@@ -152,23 +155,23 @@ impl DialingRequest {
         self.is_unsent() && now < self.deadlines.last
     }
 
-    /// The dial gave no connection, and another endpoint is dialled from now on: with this text, and under these terms. The
-    /// timeout of the response is that of all its dials together.
+    /// The dial gave no connection, and another endpoint is dialled from now on: with the text that begins with these bytes,
+    /// and under these terms. The timeout of the response is that of all its dials together.
     pub fn dial_elsewhere(self, outgoing: (Vec<u8>, Terms), now: u64) -> DialingRequest
         requires { IsTrue (not self.is_again) }
-        ensures { result ≡ elsewhere self outgoing.0.items outgoing.1 now }
+        ensures { result ≡ elsewhere self (outgoing.0.items ++ uncopied_of self.request) outgoing.1 now }
     {
         let DialingRequest {
             parser,
-            text: _,
+            text,
             terms: _,
             deadlines,
             is_again,
         } = self;
-        let (text, terms) = outgoing;
+        let (front, terms) = outgoing;
         DialingRequest {
             parser,
-            text: OutgoingText::new(text),
+            text: text.with_front(front),
             terms,
             deadlines: deadlines.renewed(DIAL_MILLIS, now),
             is_again,

@@ -1,9 +1,11 @@
 //! A request that is forwarded on a connection to its endpoint.
 ghost use Rattle.std.specs.Prelude.{◌≡◌, ◌&&◌, [], IsFalse, IsTrue, false, true};
+ghost use Rattle.bg_http.specs.Codings.{is_empty};
 ghost use Rattle.bg_endpoint_side.specs.Forwarding.{AnswersAtEnd, Ends, Receives, again, failed, is_again, is_sent};
 ghost use Rattle.bg_endpoint_side.specs.Forwarding.{late_health, looked, may_repeat, patience, renew_if, to_write};
 ghost use Rattle.bg_endpoint_side.specs.Forwarding.{unread, with_end, wrote};
 ghost use Rattle.bg_endpoint_side.specs.Outcomes.{health_of, of_giving_up, refused};
+ghost use Rattle.bg_endpoint_side.specs.OutgoingTexts.{IsFirstPiece, uncopied_body as uncopied_of};
 
 use crate::answering::{answered, has_bytes, has_come_with, health_of, may_stay};
 use crate::connection_state::ConnectionState;
@@ -12,11 +14,13 @@ use crate::dialing_request::DialingRequest;
 use crate::outcome::{ForwardFault, GivingUp, Health, Outcome};
 use crate::outgoing_text::OutgoingText;
 use crate::terms::Terms;
+use crate::uncopied::uncopied_body;
 use crate::version::VersionMatch;
+use bg_http::Request;
 use bg_http_read::ResponseParser;
 use std::marker::Model;
 
-/// A request that is forwarded on a connection to its endpoint. Its caller writes what [`Self::rest`] gives, and tells
+/// A request that is forwarded on a connection to its endpoint. Its caller writes what [`Self::piece`] gives, and tells
 /// what happened on the connection.
 pub struct ForwardedRequest {
     parser: ResponseParser,
@@ -45,6 +49,7 @@ impl Model for ForwardedRequest {
     ghost use Rattle.std.specs.Prelude.{◌≡◌, ◌&&◌, IsTrue, false, not};
     ghost use Rattle.bg_http.specs.Codings.{is_empty};
     ghost use Rattle.bg_endpoint_side.specs.Dialing.{Forwarded};
+    ghost use Rattle.bg_endpoint_side.specs.OutgoingTexts.{uncopied_body};
     ghost use Rattle.bg_endpoint_side.specs.Versions.{IsMatch};
 
     ghost Value = { Forwarded };
@@ -59,6 +64,7 @@ impl Model for ForwardedRequest {
     ghost invariant = { λ r. IsTrue r.parser.is_open
         × (r.has_come ≡ not (is_empty r.parser.seen))
         × IsMatch r.version r.parser.seen
+        × (r.text.uncopied ≡ uncopied_body r.parser.request)
         × ((r.state.is_kept && r.state.is_again) ≡ false) };
 }
 
@@ -81,6 +87,7 @@ impl ForwardedRequest {
     ) -> ForwardedRequest
         requires is_open { IsTrue parser.is_open }
         requires none { parser.seen ≡ [] }
+        requires uncopied { text.uncopied ≡ uncopied_of parser.request }
         requires once { (state.is_kept && state.is_again) ≡ false }
         ensures { result ≡ record { request = parser.request; text = text; came = []; state = state } }
     {
@@ -100,22 +107,31 @@ impl ForwardedRequest {
         self.state.terms
     }
 
-    /// What is to be written now: what is left of the text, or nothing, if the endpoint reads no more of it.
-    pub fn rest(&self) -> &[u8]
-        ensures { result.now ≡ to_write self.now }
+    /// A piece of what is to be written now: of what is left of the text, or of nothing, if the endpoint reads no more of it.
+    /// `request` is the request that is forwarded.
+    pub fn piece<'a>(&'a self, request: &'a Request) -> &'a [u8]
+        requires { request.now ≡ self.now.request }
+        ensures { IsFirstPiece (to_write self.now) result.now }
     {
         if self.state.is_unread {
             &[]
         } else {
-            self.text.rest()
+            self.text.piece(uncopied_body(request))
         }
+    }
+
+    /// Whether nothing is to be written now.
+    fn writes_nothing(&self) -> bool
+        ensures { result ≡ is_empty (to_write self.now) }
+    {
+        self.state.is_unread || self.text.is_sent()
     }
 
     /// Whether the whole text was written.
     pub fn is_sent(&self) -> bool
         ensures { result ≡ is_sent self.now }
     {
-        self.text.rest().is_empty()
+        self.text.is_sent()
     }
 
     /// So many bytes more of the text were written, at most the rest.
@@ -227,7 +243,7 @@ impl ForwardedRequest {
     fn patience(&self) -> u64
         ensures { result ≡ patience self.now }
     {
-        if self.rest().is_empty() {
+        if self.writes_nothing() {
             self.state.deadlines.idle
         } else {
             WRITE_MILLIS
@@ -285,7 +301,7 @@ impl ForwardedRequest {
     fn late_health(&self, now: u64) -> Health
         ensures { result ≡ late_health self.now now }
     {
-        let is_silent = now < self.state.deadlines.last && self.rest().is_empty();
+        let is_silent = now < self.state.deadlines.last && self.writes_nothing();
         if is_silent || !self.has_come {
             Health::Fails
         } else {

@@ -14,6 +14,7 @@ pub mod laws;
 mod outcome;
 mod outgoing_text;
 mod terms;
+mod uncopied;
 mod version;
 
 pub use deadlines::Timeouts;
@@ -22,3 +23,4 @@ pub use forwarded_request::{ForwardedRequest, Step};
 pub use kept_connections::{KeptConnection, KeptConnections};
 pub use outcome::{DialFault, ForwardFault, GivingUp, Health, Outcome};
 pub use terms::{Terms, is_idempotent};
+pub use uncopied::uncopied_body;

@@ -1,4 +1,3 @@
 pub mod Chosen
-pub mod InTurn
 pub mod Left
 pub mod WorkedChoices

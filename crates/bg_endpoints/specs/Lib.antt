@@ -1,4 +1,3 @@
-pub mod Addresses
 pub mod Choices
 pub mod Healths
 pub mod Lists

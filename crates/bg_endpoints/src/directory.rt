@@ -1,4 +1,4 @@
-//! The endpoints of the revisions, which the workers and the operators share.
+//! The endpoints of the revisions, which the event loops and the operators share.
 ghost use Rattle.std.specs.Prelude.{◌≡◌, ◌≢◌, [], true, IfSome, IfNone};
 ghost use Rattle.bg_endpoints.specs.Choices.{is_new};
 ghost use Rattle.bg_endpoints.specs.Routing.{IsChosen};
@@ -19,7 +19,6 @@ use std::time::{Clock, Instant};
 /// and waits for no peer.
 #[derive(Drop)]
 pub struct Directory {
-    pub(crate) alloc: Global,
     /// The moment from which marks count; `None` if the clock failed.
     start: Option<Instant>,
     table: Mutex<Table>,
@@ -29,7 +28,6 @@ impl Directory {
     /// A directory without lists. Until lists are set, each ticket's port is dialled, and no other port.
     pub fn new<R: Clock>(rt: &R, alloc: Global, share: Share) -> Directory {
         Directory {
-            alloc,
             start: Instant::now(rt).ok(),
             table: Mutex::new(Table::new(alloc, share)),
         }

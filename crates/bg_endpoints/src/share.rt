@@ -13,7 +13,7 @@ pub struct Share {
 
 impl Share {
     /// The share of each of so many endpoints: the given number; without one, twice an equal part of the
-    /// concurrency, but at most half of it, so that an endpoint that hangs leaves workers to the others. It is at
+    /// concurrency, but at most half of it, so that an endpoint that hangs leaves requests to the others. It is at
     /// least 1.
     pub(crate) fn of(self, endpoints: usize) -> u32
         ensures { result ≡ share_of self endpoints }

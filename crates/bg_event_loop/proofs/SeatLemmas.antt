@@ -1,11 +1,10 @@
 -- What calls at the gate make of the seats of a loop.
-use Rattle.std.proofs.Common.{◌≡◌, ◌∙◌, ℕ, zero, suc, ◌+◌, ◌*◌, ◌<◌, ◌≤◌, Bool, true, false, List, [], ◌∷◌, ◌++◌, length, map, take, drop, get_or, slice_get, slice_set, nat_lt, refl, sym, ap, subst, arith, Some}
+use Rattle.std.proofs.Common.{◌≡◌, ◌∙◌, ℕ, zero, suc, ◌+◌, ◌<◌, ◌≤◌, Bool, true, false, List, [], ◌∷◌, ◌++◌, length, map, take, drop, get_or, slice_get, slice_set, nat_lt, refl, sym, ap, subst, arith, Some}
 use Rattle.std.proofs.lemmas.Bool.{ltb-false}
 use Rattle.std.proofs.lemmas.List.{append-nil, drop_all, length-map, length-set, take_all}
 use Rattle.std.proofs.lemmas.Option.{slice_get_within}
 use Rattle.bg_event_loop.specs.Seats.{AllServed, AllUsed, Used, calls_inside, emptied, emptied_if, one_if}
 use Rattle.bg_forward.specs.Seats.{AllOut, Worked}
-use Rattle.bg_ledger.specs.Holdings.{after_leave}
 use Rattle.bg_ledger.specs.declared.holding.Holding.{Holding}
 
 -- a seat that did not change

@@ -1,5 +1,5 @@
 -- The ports that are dialled for a request, one after the other.
-use Rattle.std.proofs.Common.{◌≡◌, ◌∙◌, ℕ, ◌+◌, true, List, [], ◌∷◌, ◌++◌, length, refl, sym, ap, subst, append-nil, append_assoc, Option, IsNone, IsSome}
+use Rattle.std.proofs.Common.{◌≡◌, ℕ, ◌+◌, true, List, [], ◌∷◌, ◌++◌, length, refl, sym, ap, subst, append-nil, append_assoc, Option, IsNone, IsSome}
 use Rattle.bg_endpoints.specs.Choices.{is_new}
 use Rattle.bg_dial.specs.declared.dialled.Route.{Route}
 use Rattle.bg_endpoints.specs.Routing.{AreInTurnAfter, IsChosen, IsInTurn, IsNextPort}

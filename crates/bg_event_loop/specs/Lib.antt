@@ -1,3 +1,4 @@
+pub mod Addresses
 pub mod LivePorts
 pub mod Moments
 pub mod Outcomes

@@ -1,6 +1,5 @@
 -- How a request ended, for the log.
 use Rattle.std.specs.Prelude.{ℕ, Bool, true, false, Option, Some, None}
-use Rattle.bg_both_sides.specs.declared.endpoint_step.Given.{Given}
 use Rattle.bg_both_sides.specs.declared.endpoint_step.Given.TheVariants as given
 use Rattle.bg_endpoint_side.specs.declared.outcome.ForwardFault.{ForwardFault}
 use Rattle.bg_endpoint_side.specs.declared.outcome.ForwardFault.TheVariants as forward_fault

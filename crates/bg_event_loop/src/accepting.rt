@@ -21,8 +21,8 @@ const ACCEPTS_A_TURN: u32 = 2;
 /// The maximum number of clients of the backlog that a loop accepts at a shutdown.
 const MOST_OF_BACKLOG: u32 = 2_048;
 
-/// The time, in milliseconds, for which no client is accepted after an accept has failed, for example because no descriptor
-/// is free.
+/// The time, in milliseconds, for which no loop accepts a client after an accept has failed, for example because no descriptor
+/// is free. Each loop of the port tries again after as many times this as there are loops.
 const PAUSE_MILLIS: u64 = 100;
 
 /// The same, if the loop has no room.
@@ -48,6 +48,16 @@ impl<'a, P: EndpointPorts, L: RequestLog> EventLoop<'a, P, L> {
         }
     }
 
+    /// Watches the listener anew, if it is watched: an event comes if clients wait, also if their event went to another loop.
+    pub(crate) fn watch_listener_anew(&mut self) {
+        if self.watches_listener {
+            self.unwatch_listener();
+            if !self.watch_listener() {
+                self.pause_accepts(PAUSE_MILLIS);
+            }
+        }
+    }
+
     /// Accepts the clients that wait, as far as there is room.
     pub(crate) fn accept_some(&mut self) {
         for _ in 0..ACCEPTS_A_TURN {
@@ -69,7 +79,7 @@ impl<'a, P: EndpointPorts, L: RequestLog> EventLoop<'a, P, L> {
     /// Accepts a client. Gives whether one was accepted. Without room, or after a failure, no client is accepted for a while.
     fn accept_one(&mut self) -> bool {
         if !self.has_room() {
-            self.pause_accepts(FULL_PAUSE_MILLIS);
+            self.leave_backlog();
             return false;
         }
         match self.port.accept() {
@@ -79,7 +89,7 @@ impl<'a, P: EndpointPorts, L: RequestLog> EventLoop<'a, P, L> {
             }
             Accepted::Nothing => false,
             Accepted::Failed => {
-                self.pause_accepts(PAUSE_MILLIS);
+                self.pause_accepts(PAUSE_MILLIS.saturating_mul(self.settings.loads.loops));
                 false
             }
         }
@@ -95,6 +105,14 @@ impl<'a, P: EndpointPorts, L: RequestLog> EventLoop<'a, P, L> {
                 self.clients.remove(key);
             }
         }
+    }
+
+    /// Accepts no client for a while, since this loop has no room. Another one may have.
+    fn leave_backlog(&mut self) {
+        if self.watches_listener {
+            self.port.leave_backlog();
+        }
+        self.pause_accepts(FULL_PAUSE_MILLIS);
     }
 
     /// Accepts no client for so many milliseconds. The listener would be ready all the time.

@@ -2,6 +2,7 @@
 ghost use Rattle.std.specs.Prelude.{◌≡◌, ◌&&◌, ◌||◌, None, Some, if◌then◌else◌};
 ghost use Rattle.bg_endpoint_side.specs.declared.outcome.GivingUp.TheVariants as why;
 
+use crate::answer_progress::{AnswerProgress, LingeringClose};
 use crate::events::Told;
 use crate::readiness::Readiness;
 use crate::request_record::RequestRecord;
@@ -31,15 +32,9 @@ pub(crate) struct Client {
     pub(crate) record: RequestRecord,
     /// Whether the client has ended its input.
     pub(crate) has_ended: bool,
-    /// Whether a write to the client has failed.
-    pub(crate) has_write_failed: bool,
-    /// The number of bytes of the last answer that are not written, if it was logged as an answer.
-    pub(crate) unwritten: usize,
-    /// The number of bytes of the last answer.
-    pub(crate) answer_size: usize,
-    /// Whether its lingering close has begun, and the number of bytes that were discarded in it.
-    pub(crate) is_lingering: bool,
-    pub(crate) discarded: u64,
+    /// What was written of the last answer.
+    pub(crate) answer: AnswerProgress,
+    pub(crate) lingering: LingeringClose,
     /// Whether its request is paused: no byte of it is read.
     pub(crate) is_paused: bool,
 }
@@ -58,11 +53,8 @@ impl Drop for Client {
             given: _,
             record: _,
             has_ended: _,
-            has_write_failed: _,
-            unwritten: _,
-            answer_size: _,
-            is_lingering: _,
-            discarded: _,
+            answer: _,
+            lingering: _,
             is_paused: _,
         } = self;
     }
@@ -87,11 +79,8 @@ impl Client {
             given: None,
             record: RequestRecord::new(now),
             has_ended: false,
-            has_write_failed: false,
-            unwritten: 0,
-            answer_size: 0,
-            is_lingering: false,
-            discarded: 0,
+            answer: AnswerProgress::NONE,
+            lingering: LingeringClose::NOT_BEGUN,
             is_paused: false,
         }
     }
@@ -112,10 +101,18 @@ impl Client {
         }
     }
 
-    /// Notes an event of its socket.
+    /// Notes an event of its socket. If the connection is over, what came of a request before is still read.
     pub(crate) fn note(&mut self, told: Told) {
         self.ready.note(told);
-        if self.ready.reset {
+        if self.ready.reset && !self.is_due() {
+            self.sides.fail();
+        }
+    }
+
+    /// Ends the connection at the end of a shutdown. A request that is inside goes on: its own timeouts end it.
+    pub(crate) fn end_by_shutdown(&mut self) {
+        if !self.sides.client().is_inside() {
+            self.record.note_dropped();
             self.sides.fail();
         }
     }

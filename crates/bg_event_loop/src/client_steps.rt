@@ -65,7 +65,7 @@ impl Client {
     fn take_bytes(&mut self, bytes: &[u8], now: u64) -> Fed {
         let fed = self.sides.feed(bytes, now);
         if fed == Fed::NotReading {
-            self.discarded = self.discarded.saturating_add(bytes.len() as u64);
+            self.lingering.discarded = self.lingering.discarded.saturating_add(bytes.len() as u64);
             self.sides.discarded(bytes.len() as u64);
         } else {
             self.record.note_bytes(bytes.len(), now);
@@ -89,15 +89,15 @@ impl Client {
         let rest = self.sides.client().rest();
         let most = rest.len();
         let Some(count) = write(&self.stream, rest) else {
-            self.has_write_failed = true;
+            self.answer.has_failed = true;
             self.sides.fail();
             return Fed::NotReading;
         };
         self.ready.note_write(count, most);
-        self.unwritten = self.unwritten.saturating_sub(count);
+        self.answer.unwritten = self.answer.unwritten.saturating_sub(count);
         let fed = self.sides.wrote(count, now);
         if count >= most && fed == Fed::NotReading {
-            self.is_lingering = true;
+            self.lingering.has_begun = true;
             self.begin_lingering();
         }
         fed

@@ -28,7 +28,7 @@ impl Endpoint {
     }
 
     fn may_write(&self, sides: &BothSides) -> bool {
-        self.ready.output && !sides.rest_to_endpoint().is_empty()
+        self.ready.output && !sides.piece_to_endpoint().is_empty()
     }
 
     /// Writes what is left of the request, or reads its response.
@@ -48,7 +48,7 @@ impl Endpoint {
 
     /// Writes what the system takes of the request.
     fn send(&mut self, sides: &mut BothSides, now: u64) {
-        let rest = sides.rest_to_endpoint();
+        let rest = sides.piece_to_endpoint();
         let most = rest.len();
         match write(&self.stream, rest) {
             Some(count) => {

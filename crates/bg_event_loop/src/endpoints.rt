@@ -53,6 +53,11 @@ impl<'a, P: EndpointPorts> Endpoints<'a, P> {
         self.connections.get(key)
     }
 
+    /// Whether there is no connection.
+    pub(crate) fn is_empty(&self) -> bool {
+        self.connections.is_empty()
+    }
+
     /// The connection that the request of a client has or awaits.
     pub(crate) fn used_by(&mut self, client: &Client) -> Option<&mut Endpoint> {
         self.connections.get_mut(client.endpoint?)

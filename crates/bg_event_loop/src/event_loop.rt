@@ -8,9 +8,10 @@ use crate::outcome::Cause;
 use crate::request_log::RequestLog;
 use crate::settings::LoopSettings;
 use crate::slots::Slots;
+use crate::waiting::Waiting;
 use bg_client_side::{Fed, Seats};
 use bg_forward::Reason;
-use bg_load::Loads;
+use bg_load::{Loads, Totals};
 use bg_loop_port::LoopPort;
 use bg_sockets::EpollSet;
 use os::EpollEvent;
@@ -21,8 +22,12 @@ use std::io;
 /// The number of steps of a client in a row.
 const STEPS_A_TURN: u32 = 64;
 
-/// The number of bytes that one read asks for.
-const PIECE: usize = 16_384;
+/// The number of bytes that one read of an endpoint asks for.
+const PIECE: usize = 65_536;
+
+/// The number of bytes that one read of a client asks for: so many that a request is large, and may be paused before the next
+/// read.
+const CLIENT_PIECE: usize = 32_768;
 
 /// What a loop begins with.
 #[derive(Clone, Copy, Drop)]
@@ -31,6 +36,8 @@ pub(crate) struct LoopTerms {
     pub(crate) settings: LoopSettings,
     /// The number of its seats.
     pub(crate) seats: usize,
+    /// Its number among the loops of the port.
+    pub(crate) number: usize,
 }
 
 /// The connections of a loop.
@@ -41,8 +48,9 @@ pub(crate) struct EventLoop<'a, P, L> {
     pub(crate) set: &'a EpollSet,
     pub(crate) port: &'a LoopPort,
     pub(crate) clients: Slots<Client>,
-    /// What they take.
+    /// What they take, and what of that the port counts.
     pub(crate) loads: Loads,
+    pub(crate) shared: Totals,
     pub(crate) endpoints: Endpoints<'a, P>,
     /// Where the ends of requests are logged.
     pub(crate) log: &'a L,
@@ -54,8 +62,8 @@ pub(crate) struct EventLoop<'a, P, L> {
     pub(crate) piece: Vec<u8>,
     /// Whether the listener is watched.
     pub(crate) watches_listener: bool,
-    /// Whether the most requests are inside, over all loops. The signal of the port comes once one has left.
-    pub(crate) is_held_up: bool,
+    /// Since when its requests wait, and what the other loops know of that.
+    pub(crate) waiting: Waiting,
     /// The moment of the last events, in milliseconds from the start of the loop.
     pub(crate) now: u64,
     /// When clients are accepted again, if none are accepted now.
@@ -79,6 +87,7 @@ impl<'a, P: EndpointPorts, L: RequestLog> EventLoop<'a, P, L> {
             alloc,
             settings,
             seats,
+            number,
         } = terms;
         Ok(EventLoop {
             alloc,
@@ -87,13 +96,14 @@ impl<'a, P: EndpointPorts, L: RequestLog> EventLoop<'a, P, L> {
             port,
             clients: Slots::new(alloc),
             loads: Loads::new(alloc, settings.loads),
+            shared: Totals::NONE,
             endpoints: Endpoints::new(alloc, set, ports, settings.endpoints)?,
             log,
             queue: Seats::new(alloc, seats, settings.most_waiting)?,
             due: VecDeque::new(alloc),
             piece: vec![in alloc; 0; PIECE]?,
             watches_listener: false,
-            is_held_up: false,
+            waiting: Waiting::new(alloc, number),
             now: 0,
             accepts_at: None,
             closes_at: None,
@@ -106,7 +116,7 @@ impl<'a, P: EndpointPorts, L: RequestLog> EventLoop<'a, P, L> {
         let told = Told::of(event.events);
         match Source::of(event.data) {
             Source::Listener => self.accept_some(),
-            Source::Signal => self.is_held_up = false,
+            Source::Signal => self.note_signal(),
             Source::Client(key) => {
                 if let Some(client) = self.clients.get_mut(key) {
                     client.note(told);
@@ -121,6 +131,13 @@ impl<'a, P: EndpointPorts, L: RequestLog> EventLoop<'a, P, L> {
         }
     }
 
+    /// Notes the signal of the port. Whether a request may enter is looked at in each round anyway.
+    fn note_signal(&mut self) {
+        if self.port.is_backlog_left() {
+            self.watch_listener_anew();
+        }
+    }
+
     /// Has a client served. Without memory for that, it is served with the next look at timeouts.
     pub(crate) fn make_due(&mut self, key: usize) {
         let _ = self.due.push_back(key);
@@ -132,6 +149,10 @@ impl<'a, P: EndpointPorts, L: RequestLog> EventLoop<'a, P, L> {
         let seat = self.serve_inside(key, is_given_up);
         self.serve_client(key);
         self.observe(key);
+        if self.loads.is_large(key) {
+            // others may have to be paused before they are read
+            self.regulate();
+        }
         seat
     }
 
@@ -142,9 +163,22 @@ impl<'a, P: EndpointPorts, L: RequestLog> EventLoop<'a, P, L> {
                 self.rest(key);
                 return;
             }
+            if self.is_uploading(key) {
+                break;
+            }
         }
         // others have their turn
         self.make_due(key);
+    }
+
+    /// Whether more of a large request is to come.
+    fn is_uploading(&self, key: usize) -> bool {
+        match self.clients.get(key) {
+            Some(client) => {
+                client.record.bytes() >= CLIENT_PIECE as u64 && !client.record.is_whole()
+            }
+            None => false,
+        }
     }
 
     /// Makes a step of a client. Gives whether one was due.
@@ -155,20 +189,33 @@ impl<'a, P: EndpointPorts, L: RequestLog> EventLoop<'a, P, L> {
         if !client.is_due() {
             return false;
         }
-        let fed = client.step(self.piece.as_mut_slice(), self.now);
+        let fed = client.step(client_piece(self.piece.as_mut_slice()), self.now);
         self.note_fed(key, fed);
         true
     }
 
-    /// Ends a connection if no byte came on it. It is read once more before: its client may have sent meanwhile.
+    /// Makes a step of a connection from which a request may come: its client may have sent one meanwhile.
+    pub(crate) fn read_once_more(&mut self, key: usize) {
+        if let Some(client) = self.clients.get_mut(key) {
+            let fed = client.step(client_piece(self.piece.as_mut_slice()), self.now);
+            self.note_fed(key, fed);
+        }
+    }
+
+    /// Whether a connection is idle.
+    pub(crate) fn is_idle(&self, key: usize) -> bool {
+        match self.clients.get(key) {
+            Some(client) => client.sides.client().is_idle(),
+            None => false,
+        }
+    }
+
+    /// Ends a connection if no byte came on it. It is read once more before.
     pub(crate) fn end_if_silent(&mut self, key: usize) {
         if !self.is_silent(key) {
             return;
         }
-        if let Some(client) = self.clients.get_mut(key) {
-            let fed = client.step(self.piece.as_mut_slice(), self.now);
-            self.note_fed(key, fed);
-        }
+        self.read_once_more(key);
         if self.is_silent(key)
             && let Some(client) = self.clients.get_mut(key)
         {
@@ -193,15 +240,24 @@ impl<'a, P: EndpointPorts, L: RequestLog> EventLoop<'a, P, L> {
         match fed {
             Fed::Whole => {
                 client.record.note_whole(self.now);
-                if !self.queue.wait(key) {
-                    client.refuse_waiting(self.alloc, self.log, self.now);
-                    client.end_request(self.log, Cause::Refused(Reason::Memory), self.now);
+                if client.ready.reset {
+                    client.sides.fail();
+                } else if !self.begin_to_wait(key) {
+                    self.refuse_waiting(key);
                 }
             }
             Fed::Refused(fault) => {
                 client.end_request(self.log, Cause::Fault(fault), self.now);
             }
             Fed::NotReading | Fed::More | Fed::OwesContinue => {}
+        }
+    }
+
+    /// Refuses the request of a client, which is whole, with 503.
+    fn refuse_waiting(&mut self, key: usize) {
+        if let Some(client) = self.clients.get_mut(key) {
+            client.refuse_waiting(self.alloc, self.log, self.now);
+            client.end_request(self.log, Cause::Refused(Reason::Memory), self.now);
         }
     }
 
@@ -236,10 +292,16 @@ impl<'a, P: EndpointPorts, L: RequestLog> EventLoop<'a, P, L> {
             && client.sides.client().has_left()
         {
             client.end_connection(self.log, self.now);
-            self.port.note_unwritten(client.unwritten);
+            self.port.note_unwritten(client.answer.unwritten);
             self.queue.withdraw(key);
             self.loads.leave(key);
             self.clients.remove(key);
         }
     }
+}
+
+/// What a read of a client may fill.
+fn client_piece(piece: &mut [u8]) -> &mut [u8] {
+    let most = piece.len().min(CLIENT_PIECE);
+    &mut piece[..most]
 }

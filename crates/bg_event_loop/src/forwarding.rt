@@ -79,6 +79,7 @@ impl<P: EndpointPorts> Endpoints<'_, P> {
         };
         let is_taken = client.sides.connect(true, now);
         if is_taken {
+            client.record.note_connected(true);
             client.endpoint = Some(kept);
         } else {
             self.close(kept);
@@ -175,6 +176,7 @@ impl<P: EndpointPorts> Endpoints<'_, P> {
         match self.used_by(client) {
             Some(endpoint) if !endpoint.ready.reset => {
                 client.sides.connect(false, now);
+                client.record.note_connected(false);
             }
             _ => self.fail_dial(client, key, DialFault::Failed, now),
         }

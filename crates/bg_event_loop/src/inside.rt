@@ -9,26 +9,6 @@ use bg_client_side::{Entered, Fed};
 use bg_forward::Reason;
 
 impl<'a, P: EndpointPorts, L: RequestLog> EventLoop<'a, P, L> {
-    /// The client whose request enters next: it has waited longest, and the port admits a further request. `None` if no client
-    /// waits, no seat is free, or the most requests are inside.
-    pub(crate) fn next_to_enter(&mut self) -> Option<Entered> {
-        if self.queue.waiting() == 0 || self.queue.free() == 0 {
-            return None;
-        }
-        self.is_held_up = !self.port.admits();
-        if self.is_held_up {
-            return None;
-        }
-        self.queue.enter()
-    }
-
-    /// Notes that the request of a seat has left, if there is one.
-    pub(crate) fn note_left(&self, seat: Option<usize>) {
-        if seat.is_some() {
-            self.port.note_left();
-        }
-    }
-
     /// Begins to forward the request of a client, if it has a ticket. Otherwise the client is refused, and the seat is free,
     /// which is given.
     pub(crate) fn begin(

@@ -1,13 +1,13 @@
-//! An event loop that serves the clients of a port in one thread.
+//! The event loops that serve the clients of a port, each in one thread.
 //!
-//! It carries out what bg_both_sides says of each client and of its request, over sockets that never wait. Each loop
+//! A loop carries out what bg_both_sides says of each client and of its request, over sockets that never wait. Each loop
 //! has an epoll set, the clients that it accepted, its connections to endpoints, and seats of a book. No call waits but
-//! the one for events.
-//!
-//! The program serves clients by it if the environment asks for that, to compare the two ways; workers do so otherwise.
+//! the one for events. The loops of a port share its listener, the turns of its requests, and the bounds on what its
+//! connections take (bg_loop_port).
 #![tactic(auto)]
 
 mod accepting;
+mod answer_progress;
 mod book_ports;
 mod client;
 mod client_steps;
@@ -34,10 +34,11 @@ mod slots;
 mod sockets;
 mod sweeping;
 mod tries;
+mod waiting;
 
 pub use book_ports::BookPorts;
 pub use endpoint_ports::EndpointPorts;
 pub use loops::run_event_loops;
 pub use request_log::{EndedRequest, RequestLine, RequestLog};
 pub use running::{LoopContext, run_event_loop};
-pub use settings::{EndpointSettings, LoopSettings};
+pub use settings::{EndpointSettings, KeptSettings, LoopSettings};

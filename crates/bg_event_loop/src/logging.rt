@@ -7,6 +7,7 @@ use crate::request_log::{RequestLine, RequestLog};
 use crate::request_record::RequestEnd;
 use bg_both_sides::BothSides;
 use bg_client_side::Fed;
+use bg_http::RequestHead;
 use std::alloc::Global;
 
 impl Client {
@@ -24,11 +25,11 @@ impl Client {
     /// Writes what the client takes at once of the answer to a request that is over, and logs the request.
     pub(crate) fn end_request<L: RequestLog>(&mut self, log: &L, cause: Cause, now: u64) -> Fed {
         let size = self.sides.client().rest().len();
-        self.answer_size = size;
+        self.answer.size = size;
         let fed = self.write_first(now);
-        let is_written = size > 0 && !self.has_write_failed;
+        let is_written = size > 0 && !self.answer.has_failed;
         let response_bytes = if is_written { size as u64 } else { 0 };
-        self.unwritten = if is_written {
+        self.answer.unwritten = if is_written {
             self.sides.client().rest().len()
         } else {
             0
@@ -41,7 +42,7 @@ impl Client {
         let end = RequestEnd {
             outcome: Outcome::of(cause, is_written),
             route: self.route(),
-            refused: refused_line(&self.sides),
+            line: refused_line(&self.sides),
             is_head_sound: self.sides.client().is_refused_head_sound(),
             response_bytes,
             response_millis,
@@ -56,7 +57,7 @@ impl Client {
             let end = RequestEnd {
                 outcome: Outcome::unanswered(self.record.is_whole(), self.has_ended),
                 route: None,
-                refused: None,
+                line: arriving_line(&self.sides, self.has_ended),
                 is_head_sound: false,
                 response_bytes: 0,
                 response_millis: None,
@@ -68,11 +69,22 @@ impl Client {
     }
 }
 
+/// The method and the target of a request whose client has ended its input before it was whole, if its head was parsed.
+fn arriving_line(sides: &BothSides, has_ended: bool) -> Option<RequestLine<'_>> {
+    if !has_ended {
+        return None;
+    }
+    Some(line_of(sides.client().arriving_head()?))
+}
+
 /// The method and the target of what is no request, if its head was parsed.
 fn refused_line(sides: &BothSides) -> Option<RequestLine<'_>> {
-    let head = sides.client().refused_head()?;
-    Some(RequestLine {
+    Some(line_of(sides.client().refused_head()?))
+}
+
+fn line_of(head: &RequestHead) -> RequestLine<'_> {
+    RequestLine {
         method: head.method.get(),
         target: head.target.get(),
-    })
+    }
 }

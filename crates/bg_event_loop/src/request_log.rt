@@ -17,6 +17,10 @@ pub struct EndedRequest<'a> {
     pub line: Option<RequestLine<'a>>,
     /// Whether the request was refused although its head passes all rules.
     pub is_head_sound: bool,
+    /// The number of the request among those of its connection, from 1 on.
+    pub place: u64,
+    /// Whether the connection to its endpoint had carried a request before; `None` if there was no connection.
+    pub is_reused: Option<bool>,
     /// The number of bytes that came since the request before it on its connection was over.
     pub request_bytes: u64,
     /// The number of bytes of its answer. They may not be written yet. 0 if writing the answer failed at once.

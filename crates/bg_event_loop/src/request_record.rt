@@ -44,6 +44,8 @@ pub(crate) struct RequestRecord {
     /// What the request got when it entered, and when it did.
     ticket: Option<Ticket>,
     entered: u64,
+    /// Whether the connection to its endpoint had carried a request before, if it has one.
+    is_reused: Option<bool>,
 }
 
 impl Drop for RequestRecord {
@@ -57,6 +59,7 @@ impl Drop for RequestRecord {
             line: _,
             ticket: _,
             entered: _,
+            is_reused: _,
         } = self;
     }
 }
@@ -72,6 +75,7 @@ impl RequestRecord {
             line: None,
             ticket: None,
             entered: 0,
+            is_reused: None,
         }
     }
 
@@ -112,10 +116,20 @@ impl RequestRecord {
         self.is_whole = true;
     }
 
+    /// Notes that the request is not answered although its client stays. It is logged as one that was not read.
+    pub(crate) fn note_dropped(&mut self) {
+        self.is_whole = false;
+    }
+
     /// Notes what the request got as it entered.
     pub(crate) fn note_entered(&mut self, ticket: Ticket, now: u64) {
         self.ticket = Some(ticket);
         self.entered = now;
+    }
+
+    /// Notes that the request has a connection to its endpoint, which is a new one or has carried a request before.
+    pub(crate) fn note_connected(&mut self, is_reused: bool) {
+        self.is_reused = Some(is_reused);
     }
 
     /// Keeps the method and the target. Without memory, neither is logged.
@@ -138,7 +152,7 @@ impl RequestRecord {
                 method: line.method.as_slice(),
                 target: line.target.as_slice(),
             }),
-            None => ended.refused,
+            None => ended.line,
         };
         log.add(&EndedRequest {
             served: Served {
@@ -152,6 +166,8 @@ impl RequestRecord {
             },
             line,
             is_head_sound: ended.is_head_sound,
+            place: self.ended.saturating_add(1),
+            is_reused: self.is_reused,
             request_bytes: self.bytes,
             response_bytes: ended.response_bytes,
             duration_millis: now.saturating_sub(self.began),
@@ -173,8 +189,8 @@ pub(crate) struct RequestEnd<'a> {
     pub(crate) outcome: Outcome,
     /// What was dialled for the last request of the connection that entered.
     pub(crate) route: Option<Route>,
-    /// The method and the target of what is no request, if its head was parsed, and whether that head passes all rules.
-    pub(crate) refused: Option<RequestLine<'a>>,
+    /// The method and the target, if a head was parsed, and whether the head of what is no request passes all rules.
+    pub(crate) line: Option<RequestLine<'a>>,
     pub(crate) is_head_sound: bool,
     pub(crate) response_bytes: u64,
     pub(crate) response_millis: Option<u64>,

@@ -1,4 +1,4 @@
-//! How a loop keeps the bounds on its connections and its memory.
+//! How the loops of a port keep the bounds on their connections and their memory.
 
 use crate::client::Client;
 use crate::endpoint_ports::EndpointPorts;
@@ -12,17 +12,17 @@ impl Client {
     fn activity(&self) -> Activity {
         let connection = self.sides.client();
         let left = connection.rest().len();
-        let written = self.answer_size.saturating_sub(left) as u64;
+        let written = self.answer.size.saturating_sub(left) as u64;
         if connection.is_inside() {
             Activity::Inside
         } else if left > 0 {
             Activity::Answering {
-                weight: self.answer_size as u64,
+                weight: self.answer.size as u64,
                 written,
             }
-        } else if self.is_lingering {
+        } else if self.lingering.has_begun {
             Activity::Lingering {
-                moved: written.saturating_add(self.discarded),
+                moved: written.saturating_add(self.lingering.discarded),
             }
         } else if self.record.is_whole() {
             Activity::Waiting(self.record.bytes())
@@ -42,6 +42,14 @@ impl<'a, P: EndpointPorts, L: RequestLog> EventLoop<'a, P, L> {
         }
     }
 
+    /// Tells the port what the connections of this loop take, and notes what those of the other loops take.
+    fn share_loads(&mut self) {
+        let own = self.loads.totals();
+        self.port.note_load(self.shared, own);
+        self.shared = own;
+        self.loads.note_others(self.port.others(own));
+    }
+
     /// Closes a connection. If its request is inside, the request is given up.
     fn close(&mut self, key: usize) {
         if let Some(client) = self.clients.get_mut(key) {
@@ -49,15 +57,17 @@ impl<'a, P: EndpointPorts, L: RequestLog> EventLoop<'a, P, L> {
         }
         self.remove_if_left(key);
         self.make_due(key);
+        self.share_loads();
     }
 
     /// Whether a further connection may be accepted. A full loop makes room: it closes the connection that is idle for the
     /// longest time, or else one that makes too little progress.
     pub(crate) fn has_room(&mut self) -> bool {
+        self.share_loads();
         if !self.loads.is_full() {
             return true;
         }
-        let key = match self.loads.oldest_idle() {
+        let key = match self.oldest_idle() {
             Some(key) => key,
             None => match self.loads.slowest(self.among_whom(), self.now) {
                 Some(key) => key,
@@ -68,9 +78,24 @@ impl<'a, P: EndpointPorts, L: RequestLog> EventLoop<'a, P, L> {
         !self.loads.is_full()
     }
 
+    /// The connection that is idle for the longest time. Each that it asks for is read once more: one whose client has sent
+    /// a request meanwhile is idle no longer.
+    fn oldest_idle(&mut self) -> Option<usize> {
+        for _ in 0..self.clients.bound() {
+            let key = self.loads.oldest_idle()?;
+            self.read_once_more(key);
+            if self.is_idle(key) {
+                return Some(key);
+            }
+            self.observe(key);
+            self.make_due(key);
+        }
+        None
+    }
+
     /// The connections among which a slow one makes room: those that were answered, if responses take too much memory.
     fn among_whom(&self) -> Among {
-        if self.loads.totals().response_bytes / 2 > self.settings.loads.response_bytes {
+        if self.loads.is_full_of_responses() {
             Among::Responses
         } else {
             Among::All
@@ -90,11 +115,11 @@ impl<'a, P: EndpointPorts, L: RequestLog> EventLoop<'a, P, L> {
     /// none is slow.
     fn free_responses(&mut self) {
         let most = self.settings.loads.response_bytes;
-        if self.loads.totals().response_bytes <= most {
+        if !self.loads.responses_take_more_than(most) {
             return;
         }
         for _ in 0..self.clients.bound() {
-            if self.loads.totals().response_bytes <= most / 4 * 3 {
+            if !self.loads.responses_take_more_than(most / 4 * 3) {
                 return;
             }
             match self.loads.slowest(Among::Responses, self.now) {
@@ -140,6 +165,7 @@ impl<'a, P: EndpointPorts, L: RequestLog> EventLoop<'a, P, L> {
 
     /// Pauses and resumes large requests.
     pub(crate) fn regulate(&mut self) {
+        self.share_loads();
         for _ in 0..self.clients.bound() {
             let Some(key) = self.loads.regulate(self.now) else {
                 return;

@@ -14,7 +14,7 @@ use bg_book::laws as book_laws;
 use bg_forward::Gate;
 use bg_ledger::{Names, Seat};
 use bg_loop_port::LoopPort;
-use bg_sockets::{EpollSet, PortClock, Watched};
+use bg_sockets::{EpollSet, Watched};
 use libc::net::{EPOLLET, EPOLLIN};
 use os::EpollEvent;
 use std::alloc::Global;
@@ -73,23 +73,29 @@ fn serve_clients<N: Names, R: Clock + Wait, G: Gate<N>, P: EndpointPorts, L: Req
     ensures { AllUsed seats.old seats.new }
 {
     let set = EpollSet::new()?;
-    let clock = PortClock::start(rt)?;
     let terms = LoopTerms {
         alloc: context.alloc,
         settings: context.settings,
         seats: seats.len(),
+        number: context.port.take_number(),
     };
     let mut connections = EventLoop::new(terms, &set, context.port, context.ports, context.log)?;
+    // one buffer for all waits, since it is zeroed
+    let mut events = vec![in context.alloc; EpollEvent { events: 0, data: 0 }; MOST_EVENTS]?;
     watch_port(&mut connections)?;
     context.port.note_begun();
     let mut swept = 0;
     for _ in rt.forever() {
-        note_events(&clock, rt, &mut connections);
+        let wait = connections.longest_wait();
+        note_events(rt, &mut connections, events.as_mut_slice(), wait);
         if connections.now.saturating_sub(swept) >= SWEEP_MILLIS {
+            // a signal may have interrupted the wait, and what has come in time is not late
+            note_events(rt, &mut connections, events.as_mut_slice(), 0);
             swept = connections.now;
             connections.sweep();
         }
         serve_round(context, &mut connections, seats);
+        connections.pass_on();
         connections.regulate();
         connections.reuse_keys();
         if connections.is_over() {
@@ -115,17 +121,15 @@ fn watch_port<P: EndpointPorts, L: RequestLog>(
     }
 }
 
-/// Waits for events, and notes them.
+/// Waits for events for so many milliseconds at most, and notes as many as there is room for.
 fn note_events<R: Clock, P: EndpointPorts, L: RequestLog>(
-    clock: &PortClock,
     rt: &R,
     connections: &mut EventLoop<'_, P, L>,
+    events: &mut [EpollEvent],
+    millis: i32,
 ) {
-    let mut events = [EpollEvent { events: 0, data: 0 }; MOST_EVENTS];
-    let count = connections
-        .set
-        .wait(&mut events, connections.longest_wait());
-    connections.now = clock.now(rt);
+    let count = connections.set.wait(events, millis);
+    connections.now = connections.port.now(rt);
     for event in events.iter().take(count) {
         connections.note(event);
     }
@@ -181,7 +185,7 @@ fn serve_due<N: Names, G: Gate<N>, P: EndpointPorts, L: RequestLog>(
     }
 }
 
-/// Lets the requests enter that wait longest, as long as a seat is free and the port admits a further request.
+/// Lets the requests enter that wait longest, as long as a seat is free and the port has a place.
 fn admit<N: Names, G: Gate<N>, P: EndpointPorts, L: RequestLog>(
     context: &LoopContext<'_, G, P, L>,
     connections: &mut EventLoop<'_, P, L>,

@@ -1,5 +1,7 @@
 //! How the requests of seats enter and leave at the gate.
-ghost use Rattle.std.specs.Prelude.{◌≡◌, map};
+ghost use Rattle.std.specs.Prelude.{◌≡◌, ◌<◌, IfOk, Some, map, slice_get, true};
+ghost use Rattle.std.specs.Option.{ForSome};
+ghost use Rattle.bg_ledger.specs.declared.holding.Holding.{Holding};
 ghost use Rattle.bg_event_loop.specs.Seats.{AllUsed, emptied};
 
 use bg_book::{GoOn, Ticket};
@@ -15,7 +17,9 @@ pub(crate) fn enter_at<N: Names, G: Gate<N>>(
     seats: &mut [Seat<N>],
     number: usize,
 ) -> Result<Ticket, Reason>
-    ensures { AllUsed seats.old seats.new }
+    ensures used { AllUsed seats.old seats.new }
+    ensures gives { IfOk result (λ ticket. (seat : Holding) → slice_get seats.old number ≡ Some seat
+        → G.gives gate.now service seat ticket) }
 {
     if number >= seats.len() {
         return Err(Reason::Memory);
@@ -67,7 +71,9 @@ pub(crate) fn is_cut<N: Names, G: Gate<N>>(
     seats: &mut [Seat<N>],
     number: Option<usize>,
 ) -> bool
-    ensures { AllUsed seats.old seats.new }
+    ensures used { AllUsed seats.old seats.new }
+    ensures gives_up { result ≡ true → ForSome number (λ n. (seat : Holding) → slice_get seats.old n ≡ Some seat
+        → 0 < seat.number → G.gives_up gate.now seat) }
 {
     let Some(number) = number else {
         return false;

@@ -22,6 +22,19 @@ pub struct EndpointSettings {
     pub kept_millis: u64,
 }
 
+/// How long connections are kept for further requests. Times are milliseconds.
+#[derive(Clone, Copy, Drop)]
+pub struct KeptSettings {
+    /// The most requests of a client's connection. A connection has at least one.
+    pub most_requests: u64,
+    /// The time for which a client's connection may be idle.
+    pub client_millis: u64,
+    /// The most connections to endpoints that no request is on.
+    pub most_endpoints: usize,
+    /// The time for which no request may be on a connection to an endpoint.
+    pub endpoint_millis: u64,
+}
+
 /// The settings of an event loop.
 #[derive(Clone, Copy, Drop)]
 pub struct LoopSettings {
@@ -68,9 +81,10 @@ impl LoopSettings {
                 kept_millis: 60_000,
             },
             loads: LoadSettings {
+                loops: 1,
                 connections: 1_024,
                 request_bytes: 1 << 27,
-                response_bytes: 1 << 28,
+                response_bytes: 1 << 29,
             },
             most_waiting: 1_024,
             aborts_on_close: false,
@@ -93,21 +107,33 @@ impl LoopSettings {
     }
 
     /// The same with connections of both sides that are kept.
-    pub fn with_kept_connections(self) -> LoopSettings
+    pub fn with_kept_connections(self, kept: KeptSettings) -> LoopSettings
         ensures clients { keeps result.clients.persistence ≡ true }
         ensures endpoints { keeps result.endpoints.persistence ≡ true }
         ensures others { result ≡ record self {
-          clients = record self.clients { persistence = result.clients.persistence };
-          endpoints = record self.endpoints { persistence = result.endpoints.persistence };
+          clients = record self.clients {
+            persistence = result.clients.persistence;
+            most_requests = kept.most_requests;
+            idle_millis = kept.client_millis;
+          };
+          endpoints = record self.endpoints {
+            persistence = result.endpoints.persistence;
+            most_kept = kept.most_endpoints;
+            kept_millis = kept.endpoint_millis;
+          };
         } }
     {
         LoopSettings {
             clients: ClientSettings {
                 persistence: Persistence::Keep,
+                most_requests: kept.most_requests,
+                idle_millis: kept.client_millis,
                 ..self.clients
             },
             endpoints: EndpointSettings {
                 persistence: Persistence::Keep,
+                most_kept: kept.most_endpoints,
+                kept_millis: kept.endpoint_millis,
                 ..self.endpoints
             },
             ..self

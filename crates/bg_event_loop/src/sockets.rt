@@ -1,4 +1,6 @@
 //! Sockets that never wait.
+ghost use Rattle.std.specs.Prelude.{◌≡◌};
+ghost use Rattle.bg_event_loop.specs.Addresses.{loopback_address};
 
 use bg_endpoint_side::DialFault;
 use bg_sockets::{receive_now, send_now};
@@ -28,7 +30,7 @@ pub(crate) fn connect(port: u16) -> Result<DialledStream, DialFault> {
     }
     let stream = TcpStream::from(unsafe { OwnedFd::from_raw_fd(descriptor) });
     let is_complete = unsafe {
-        libc::net::connect(stream.as_raw_fd(), &loopback(port), ADDRESS_LENGTH)
+        libc::net::connect(stream.as_raw_fd(), &loopback_address(port), ADDRESS_LENGTH)
     } == 0;
     if is_complete || os::errno() == libc::EINPROGRESS {
         return Ok(DialledStream {
@@ -39,8 +41,10 @@ pub(crate) fn connect(port: u16) -> Result<DialledStream, DialFault> {
     Err(DialFault::Failed)
 }
 
-/// The address of a port of 127.0.0.1, as a sockaddr_in.
-fn loopback(port: u16) -> [u8; _SS_SIZE] {
+/// The address of a port of 127.0.0.1, as C's sockaddr_in.
+fn loopback_address(port: u16) -> [u8; _SS_SIZE]
+    ensures { result ≡ loopback_address port }
+{
     let [high, low] = port.to_be_bytes();
     let mut bytes = [0u8; _SS_SIZE];
     bytes[0] = AF_INET as u8;

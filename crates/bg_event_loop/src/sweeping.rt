@@ -8,17 +8,21 @@ use crate::request_log::RequestLog;
 /// The longest wait for events, in milliseconds.
 const LONGEST_WAIT_MILLIS: i32 = 500;
 
-/// The same while no client is accepted.
+/// The same while there are no connections. Nothing times out then, and an event ends the wait.
+const LONGEST_WAIT_ALONE_MILLIS: i32 = 5_000;
+
+/// The same while no client is accepted, or while a request is paused: other loops may make room.
 const LONGEST_WAIT_IN_PAUSE_MILLIS: i32 = 20;
 
 impl<'a, P: EndpointPorts, L: RequestLog> EventLoop<'a, P, L> {
     /// The longest wait for events: none if a client is to be served, or may enter.
     pub(crate) fn longest_wait(&self) -> i32 {
-        let may_enter = self.queue.waiting() > 0 && self.queue.free() > 0 && !self.is_held_up;
-        if !self.due.is_empty() || may_enter {
+        if !self.due.is_empty() || self.may_enter() {
             0
-        } else if self.accepts_at.is_some() {
+        } else if self.accepts_at.is_some() || self.loads.has_paused() {
             LONGEST_WAIT_IN_PAUSE_MILLIS
+        } else if self.clients.is_empty() && self.endpoints.is_empty() {
+            LONGEST_WAIT_ALONE_MILLIS
         } else {
             LONGEST_WAIT_MILLIS
         }
@@ -38,12 +42,15 @@ impl<'a, P: EndpointPorts, L: RequestLog> EventLoop<'a, P, L> {
     fn look(&mut self, key: usize) {
         let is_over = has_come(self.closes_at, self.now);
         let is_grace_over = has_come(self.grace_until, self.now);
+        if self.has_sent(key) {
+            self.read_once_more(key);
+        }
         let Some(client) = self.clients.get_mut(key) else {
             return;
         };
         client.sides.look(self.now);
         if is_over {
-            client.sides.fail();
+            client.end_by_shutdown();
         } else if is_grace_over {
             self.end_if_silent(key);
         }
@@ -64,10 +71,21 @@ impl<'a, P: EndpointPorts, L: RequestLog> EventLoop<'a, P, L> {
         self.grace_until = Some(self.now.saturating_add(self.settings.grace_millis));
         self.closes_at = Some(self.now.saturating_add(self.settings.closing_millis));
         for key in 0..self.clients.bound() {
+            if self.is_idle(key) {
+                self.read_once_more(key);
+            }
             if let Some(client) = self.clients.get_mut(key) {
                 client.sides.begin_closing();
                 self.make_due(key);
             }
+        }
+    }
+
+    /// Whether the client of an idle connection has sent something, as far as events have told.
+    fn has_sent(&self, key: usize) -> bool {
+        match self.clients.get(key) {
+            Some(client) => client.sides.client().is_idle() && client.is_due(),
+            None => false,
         }
     }
 

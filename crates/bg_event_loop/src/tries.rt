@@ -1,5 +1,5 @@
 //! The ports that are dialled for one request.
-ghost use Rattle.std.specs.Prelude.{◌≡◌, ◌+◌, ◌-◌, ◌^◌, [], Some, if◌then◌else◌, length, min};
+ghost use Rattle.std.specs.Prelude.{◌≡◌, ◌+◌, ◌-◌, ◌^◌, [], Some, false, if◌then◌else◌, length, min, unwrap_or};
 ghost use Rattle.bg_event_loop.specs.Tries.{TriesNext, tried};
 
 use crate::endpoint_ports::EndpointPorts;
@@ -83,7 +83,9 @@ impl Tries {
 
     /// The request is at the last port no longer, which took it so.
     pub(crate) fn leave<P: EndpointPorts>(&mut self, ports: &P, health: Health)
-        ensures { tried self.new ≡ tried self.old }
+        ensures tried { tried self.new ≡ tried self.old }
+        ensures fault { self.new.fault ≡ self.old.fault }
+        ensures counted { self.new.is_counted ≡ false }
     {
         if self.is_counted {
             self.is_counted = false;
@@ -92,7 +94,10 @@ impl Tries {
     }
 
     /// The dial of the last port failed.
-    pub(crate) fn end_dial<P: EndpointPorts>(&mut self, ports: &P, fault: DialFault) {
+    pub(crate) fn end_dial<P: EndpointPorts>(&mut self, ports: &P, fault: DialFault)
+        ensures tried { tried self.new ≡ tried self.old }
+        ensures fault { self.new.fault ≡ Some (unwrap_or self.old.fault fault) }
+    {
         self.leave(ports, health_of(fault));
         if self.fault.is_none() {
             self.fault = Some(fault);
@@ -100,7 +105,9 @@ impl Tries {
     }
 
     /// Why the first dial failed, if the last one failed by this fault.
-    pub(crate) fn first_fault(&self, last: DialFault) -> DialFault {
+    pub(crate) fn first_fault(&self, last: DialFault) -> DialFault
+        ensures { result ≡ unwrap_or self.now.fault last }
+    {
         self.fault.unwrap_or(last)
     }
 }

@@ -41,12 +41,16 @@ abbrev pub end_of_head : Bool → List ℕ
 end_of_head true = codes "\r\n"
 end_of_head false = codes "Connection: close\r\n\r\n"
 
--- a request as it is forwarded to the port, on a connection that is kept or not
-abbrev pub request_text : Bool → Request → ℕ → List ℕ
-request_text keeps request port =
+-- the head of a request as it is forwarded to the port, on a connection that is kept or not
+abbrev pub request_head_text : Bool → Request → ℕ → List ℕ
+request_head_text keeps request port =
     request_line request ++ host_line request port
     ++ flat_map field_line (kept_in_request request.fields)
-    ++ via_line request ++ size_line request.body ++ end_of_head keeps ++ bytes_of request.body
+    ++ via_line request ++ size_line request.body ++ end_of_head keeps
+
+-- a request as it is forwarded to the port, on a connection that is kept or not
+abbrev pub request_text : Bool → Request → ℕ → List ℕ
+request_text keeps request port = request_head_text keeps request port ++ bytes_of request.body
 
 -- the space before the reason is always there
 abbrev pub status_line : Response → List ℕ

@@ -46,4 +46,4 @@ pub use response_rules::{
     MOST_RESPONSE_BODY, ResponseFraming, asks_for_head, judge_response, length_told,
 };
 pub use stream::{Duplex, MOST_TURNS};
-pub use writers::{write_refusal, write_request, write_response};
+pub use writers::{write_refusal, write_request, write_request_head, write_response};

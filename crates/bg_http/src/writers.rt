@@ -40,13 +40,27 @@ pub fn write_request<W: Write>(
     ensures { OnOk result (Appends (W.contents writer.old) (W.contents writer.new)
         (spec.request_text (keeps persistence) request.now port)) }
 {
+    write_request_head(request, port, persistence, writer)?;
+    write_given(&request.body, writer)
+}
+
+/// Writes the head of a request as [`write_request`] does, up to the empty line before its body. On Ok it has written exactly
+/// this.
+pub fn write_request_head<W: Write>(
+    request: &Request,
+    port: u16,
+    persistence: Persistence,
+    writer: &mut W,
+) -> io::Result<()>
+    ensures { OnOk result (Appends (W.contents writer.old) (W.contents writer.new)
+        (spec.request_head_text (keeps persistence) request.now port)) }
+{
     write_request_line(request, writer)?;
     write_host(request, port, writer)?;
     write_request_fields(&request.fields, writer)?;
     write_via(request, writer)?;
     write_size(&request.body, writer)?;
-    write_end_of_head(persistence, writer)?;
-    write_given(&request.body, writer)
+    write_end_of_head(persistence, writer)
 }
 
 /// Ends a head, and says first that the connection is closed, unless it is kept.

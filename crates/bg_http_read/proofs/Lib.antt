@@ -1,6 +1,7 @@
 pub mod AnsweredHeads
 pub mod AnsweredRequests
 pub mod AnsweredRules
+pub mod ArrivingHeads
 pub mod BodyLoop
 pub mod BodyOrFault
 pub mod ChunkLines

@@ -1,5 +1,6 @@
 pub mod AnsweredRequests
 pub mod AnySize
+pub mod ArrivingHeads
 pub mod Bodies
 pub mod BodyFaults
 pub mod BodyFramings

@@ -1,4 +1,4 @@
-//! The request whose response is read. Only proofs read it.
+//! The value of a request. Only proofs read it.
 ghost use Rattle.std.specs.Prelude.{◌≡◌};
 ghost use Rattle.std.specs.Borrow.{ftrue};
 ghost use Rattle.bg_http.specs.declared.request.Request.{Request as RequestValue};
@@ -6,10 +6,10 @@ ghost use Rattle.bg_http.specs.declared.request.Request.{Request as RequestValue
 use bg_http::Request;
 use std::marker::Model;
 
-/// The request whose response is read. It exists only in proofs, and takes no memory.
+/// The value of a request. It exists only in proofs, and takes no memory.
 #[derive(Drop)]
-pub(crate) struct GhostRequest {
-    ghost value: { RequestValue },
+pub struct GhostRequest {
+    pub ghost value: { RequestValue },
 }
 
 impl Model for GhostRequest {
@@ -21,7 +21,7 @@ unsafe impl Send for GhostRequest {}
 
 impl GhostRequest {
     /// The value of a request. It does nothing at run time.
-    pub(crate) fn of(_request: &Request) -> GhostRequest
+    pub fn of(_request: &Request) -> GhostRequest
         ensures { result.value ≡ _request.now }
     {
         GhostRequest {}

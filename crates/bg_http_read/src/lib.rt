@@ -35,6 +35,7 @@ mod response_read;
 mod seen;
 mod trailers;
 
+pub use ghost_request::GhostRequest;
 pub use in_memory::request_in;
 pub use received_response::ReceivedResponse;
 pub use refused_head::RefusedHead;

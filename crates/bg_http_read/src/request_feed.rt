@@ -185,10 +185,10 @@ impl RequestFeed {
     }
 
     /// The head, if it is known.
-    pub(crate) fn refused_head(&self) -> Option<&RequestHead>
+    pub(crate) fn known_head(&self) -> Option<&RequestHead>
         ensures { option_copied result ≡ option_map (λ refused. refused.head) (known_head self.now.progress.stage) }
     {
-        self.progress.refused_head()
+        self.progress.known_head()
     }
 
     /// Whether the head is known, and passes all rules.

@@ -151,7 +151,7 @@ impl RequestProgress {
     }
 
     /// The head, if it is known.
-    pub(crate) fn refused_head(&self) -> Option<&RequestHead>
+    pub(crate) fn known_head(&self) -> Option<&RequestHead>
         ensures { option_copied result ≡ option_map (λ refused. refused.head) (known_head self.now.stage) }
     {
         match &self.stage {

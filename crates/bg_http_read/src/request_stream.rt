@@ -3,6 +3,7 @@ ghost use Rattle.std.specs.Prelude.{◌≡◌, ◌++◌, [], Bool, false, true, 
 ghost use Rattle.std.specs.Prelude.{IfNone, IfSome, None, Ok};
 ghost use Rattle.std.specs.Option.{option_copied, option_map};
 ghost use Rattle.bg_http.specs.declared.request_fault.RequestFault.TheVariants as request_fault;
+ghost use Rattle.bg_http_read.specs.ArrivingHeads.{BeginsWith};
 ghost use Rattle.bg_http_read.specs.RefusedHeads.{TellsHead, is_sound_head};
 ghost use Rattle.bg_http_read.specs.RequestStates.{FailsAsked, IfWhole, IsReadThen, IsRefusedAsked};
 ghost use Rattle.bg_http_read.specs.RequestStates.{LacksRequest, OnContinue, OnMore, OwesContinue};
@@ -119,7 +120,20 @@ impl RequestStream {
         if self.is_open {
             return None;
         }
-        self.feed.refused_head()
+        self.feed.known_head()
+    }
+
+    /// The head of a request that is not read whole: the bytes that came since the end of the last request begin with
+    /// it. `None` if no complete head was parsed since then, and after a fault.
+    pub fn arriving_head(&self) -> Option<&RequestHead>
+        ensures begins { IfSome result (λ head. BeginsWith self.now.since head.now) }
+        ensures owed { IsTrue self.now.is_open → IsTrue self.now.asked → ¬ (result ≡ None) }
+        ensures fault { IsFalse self.now.is_open → result ≡ None }
+    {
+        if !self.is_open {
+            return None;
+        }
+        self.feed.known_head()
     }
 
     /// Whether the head of the request that had a fault passes all rules of `judge_request`. So the fault is not in the

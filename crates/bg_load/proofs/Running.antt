@@ -7,7 +7,7 @@ use Rattle.bg_load.proofs.RegisterLemmas.{Places, at-other, at-same, grown_at, w
 use Rattle.bg_load.proofs.Settling.{turned_activity, turned_paused}
 use Rattle.bg_load.specs.Activities.{continues, is_large}
 use Rattle.bg_load.specs.Changes.{changed_from, grown, loaded, observed_from}
-use Rattle.bg_load.specs.Events.{accepting, leaving, looking, observing, regulating}
+use Rattle.bg_load.specs.Events.{accepting, leaving, looking, noting_others, observing, regulating}
 use Rattle.bg_load.specs.Events.{Event, IsPausedLarge, OnlyLargePaused, PauseStays, SmallGoOn, Steps}
 use Rattle.bg_load.specs.Loads.{begins, begun, continued, observed, turned}
 use Rattle.bg_load.specs.Pauses.{IsAsRuled, is_paused, is_to_pause, looked, older, pauses_of}
@@ -120,6 +120,7 @@ step_large (regulating key now) old new before step =
     (λ c is. turned_large (pauses_of (looked old)) old.places c now
     (subst (λ p. IsAsRuled (pauses_of (looked old)) old.places p → ⊥) is step.0)))
 step_large looking old new before step = subst OnlyLargePaused (sym step) before
+step_large (noting_others others) old new before step = subst OnlyLargePaused (sym step) before
 
 pub small_go_on : (events : List Event) (old new : Register) → SmallGoOn events old new
 small_go_on [] old new before runs = subst OnlyLargePaused (sym runs) before

@@ -7,9 +7,9 @@ use Rattle.bg_load.specs.Activities.{is_large}
 use Rattle.bg_load.specs.Changes.{changed_from}
 use Rattle.bg_load.specs.Loads.{turned}
 use Rattle.bg_load.specs.Pauses.{IsAsRuled, RegulatingSettles, differ, enough, is_older_large, is_to_pause, is_unruled, looked}
-use Rattle.bg_load.specs.Pauses.{older, pauses_from, pauses_now, pauses_of, regulated, unruled_count}
+use Rattle.bg_load.specs.Pauses.{older, pauses_if, pauses_now, pauses_of, regulated, unruled_count}
 use Rattle.bg_load.specs.Registers.{Register, at}
-use Rattle.bg_load.specs.Totals.{activity_totals, request_bytes_of, waiting_bytes_of}
+use Rattle.bg_load.specs.Totals.{activity_totals, request_bytes_in, request_bytes_of, waiting_bytes_in, waiting_bytes_of}
 use Rattle.bg_load.specs.declared.activity.Activity.{Activity}
 use Rattle.bg_load.specs.declared.connection.Connection.{Connection}
 use Rattle.bg_load.specs.declared.load.Load.{Load}
@@ -136,17 +136,17 @@ pub regulating_settles : (old : Register) (key now : ℕ) → RegulatingSettles 
 regulating_settles old key now unruled =
     let settings = old.settings in
     let turns = turns_at (pauses_of (looked old)) old.places key now (at old.places key) refl unruled in
-    let new = (regulated old key now).places in
-    let flag : pauses_now settings new (pauses_now settings old.places old.is_pausing) ≡ pauses_now settings old.places old.is_pausing =
-    ap (λ taken. nat_lt settings.request_bytes taken || (pauses_now settings old.places old.is_pausing && nat_le (enough settings) taken)) turns.bytes
-    ∙ looked_again settings (sum_by request_bytes_of old.places) old.is_pausing in
+    let new = regulated old key now in
+    let bytes : request_bytes_in new ≡ request_bytes_in old = ap (λ own. own + old.others.request_bytes) turns.bytes in
+    let waiting : waiting_bytes_in new ≡ waiting_bytes_in old = ap (λ own. own + old.others.waiting_bytes) turns.waiting in
+    let flag : pauses_now new ≡ pauses_now old =
+    ap (λ taken. nat_lt settings.request_bytes taken || (pauses_now old && nat_le (enough settings) taken)) bytes
+    ∙ looked_again settings (request_bytes_in old) old.is_pausing in
     record {
-      rule = ap (λ b. pauses_from settings new b) flag ∙ by_flag settings (pauses_now settings old.places old.is_pausing) new old.places turns.waiting;
+      rule = ap (λ b. pauses_if b (looked new)) flag ∙ by_flag (pauses_now old) waiting;
       fewer = turns.fewer;
     } where
-      by_flag : (settings : LoadSettings) (b : Bool) (new before : Places)
-          → sum_by waiting_bytes_of new ≡ sum_by waiting_bytes_of before
-          → pauses_from settings new b ≡ pauses_from settings before b
-      by_flag settings false new before same = refl
-      by_flag settings true new before same =
-          ap (λ taken. cond (nat_lt (settings.request_bytes / 2) taken) pauses.All pauses.Younger) same
+      by_flag : (b : Bool) → waiting_bytes_in (regulated old key now) ≡ waiting_bytes_in old
+          → pauses_if b (looked (regulated old key now)) ≡ pauses_if b (looked old)
+      by_flag false same = refl
+      by_flag true same = ap (λ taken. cond (nat_lt (old.settings.request_bytes / 2) taken) pauses.All pauses.Younger) same

@@ -6,6 +6,7 @@ use Rattle.bg_load.specs.Registers.{Register, at}
 use Rattle.bg_load.specs.declared.activity.Activity.{Activity}
 use Rattle.bg_load.specs.declared.activity.Activity.TheVariants as activity
 use Rattle.bg_load.specs.declared.connection.Connection.{Connection}
+use Rattle.bg_load.specs.declared.totals.Totals.{Totals}
 
 -- what changes the loads. Where a call changes them, one of these events says how
 pub data Event : Type 0 where
@@ -19,6 +20,8 @@ pub data Event : Type 0 where
   regulating : ℕ → ℕ → Event
   -- it is known anew whether large requests are paused, and each is as the rule says
   looking : Event
+  -- the connections of the other loops come to this
+  noting_others : Totals → Event
 
 -- what an event makes of the loads
 abbrev pub Steps : Event → Register → Register → Type 0
@@ -28,6 +31,7 @@ Steps (leaving key) old new = new ≡ left old key
 Steps (regulating key now) old new =
     ¬ IsAsRuled (pauses_of (looked old)) old.places (at old.places key) × (new ≡ regulated old key now)
 Steps looking old new = new ≡ looked old
+Steps (noting_others others) old new = new ≡ record old { others = others }
 
 -- the events lead from one register to the other
 abbrev pub Runs : List Event → Register → Register → Type 0

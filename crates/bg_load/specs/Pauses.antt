@@ -1,11 +1,12 @@
--- The pauses of large requests while requests take too much memory.
+-- The pauses of large requests while the requests of all loops of the port take too much memory. The eight oldest are those of
+-- one loop: each loop lets its own go on.
 use Rattle.std.specs.Prelude.{◌≡◌, ◌&&◌, ◌||◌, not, if◌then◌else◌, ℕ, ◌+◌, ◌*◌, ◌/◌, ◌<◌, ◌≤◌, Bool, true, false, List, EachIndex}
 use Rattle.std.specs.Prelude.{nat_le, nat_lt, sum_by, Option, Some, None}
 use Rattle.bg_load.specs.Activities.{is_large}
 use Rattle.bg_load.specs.Changes.{turned_at}
 use Rattle.bg_load.specs.Loads.{if_so, is_stuck_load}
 use Rattle.bg_load.specs.Registers.{Holds, Register, at}
-use Rattle.bg_load.specs.Totals.{paused_of, request_bytes_of, waiting_bytes_of}
+use Rattle.bg_load.specs.Totals.{paused_of, request_bytes_in, waiting_bytes_in}
 use Rattle.bg_load.specs.declared.connection.Connection.{Connection}
 use Rattle.bg_load.specs.declared.pauses.Pauses.{Pauses}
 use Rattle.bg_load.specs.declared.pauses.Pauses.TheVariants as pauses
@@ -26,7 +27,7 @@ abbrev pub is_older_large : ℕ → Option Connection → ℕ
 is_older_large number None = 0
 is_older_large number (Some c) = if is_large c.load.activity && nat_lt c.number number then 1 else 0
 
--- how many large requests are older than a number
+-- how many large requests of the loop are older than a number
 abbrev pub older : ℕ → List (Option Connection) → ℕ
 older number places = sum_by (is_older_large number) places
 
@@ -48,23 +49,26 @@ enough settings = settings.request_bytes / 4 * 3
 
 -- large requests are paused: requests take more than they may, or some were paused before, and requests still take three
 -- quarters of that
-abbrev pub pauses_now : LoadSettings → List (Option Connection) → Bool → Bool
-pauses_now settings places was =
-    nat_lt settings.request_bytes (sum_by request_bytes_of places)
-    || (was && nat_le (enough settings) (sum_by request_bytes_of places))
+abbrev pub pauses_now : Register → Bool
+pauses_now r =
+    nat_lt r.settings.request_bytes (request_bytes_in r)
+    || (r.is_pausing && nat_le (enough r.settings) (request_bytes_in r))
 
 -- which large requests are paused, if some are
-abbrev pub pauses_from : LoadSettings → List (Option Connection) → Bool → Pauses
-pauses_from settings places false = pauses.Off
-pauses_from settings places true =
-    if nat_lt (settings.request_bytes / 2) (sum_by waiting_bytes_of places) then pauses.All else pauses.Younger
+abbrev pub pauses_if : Bool → Register → Pauses
+pauses_if false r = pauses.Off
+pauses_if true r = if nat_lt (r.settings.request_bytes / 2) (waiting_bytes_in r) then pauses.All else pauses.Younger
 
 abbrev pub pauses_of : Register → Pauses
-pauses_of r = pauses_from r.settings r.places r.is_pausing
+pauses_of r = pauses_if r.is_pausing r
 
 -- the loads, once it is known anew whether large requests are paused
 abbrev pub looked : Register → Register
-looked r = record r { is_pausing = pauses_now r.settings r.places r.is_pausing }
+looked r = record r { is_pausing = pauses_now r }
+
+-- a request of the loop is paused
+abbrev pub has_paused : Register → Bool
+has_paused r = nat_lt 0 (sum_by paused_of r.places)
 
 -- the request of a place is large, and slower than its pace
 abbrev pub is_stuck : ℕ → Option Connection → Bool
@@ -73,7 +77,7 @@ is_stuck now (Some c) = is_stuck_load now c.load
 
 -- large requests are paused, and requests take three quarters of what they may, or more
 abbrev pub seeks_stuck : Register → Bool
-seeks_stuck r = r.is_pausing && nat_le (enough r.settings) (sum_by request_bytes_of r.places)
+seeks_stuck r = r.is_pausing && nat_le (enough r.settings) (request_bytes_in r)
 
 -- the number of a large request, if it is at least this one
 abbrev pub large_from : ℕ → Option Connection → Option ℕ

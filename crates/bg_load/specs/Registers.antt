@@ -2,12 +2,15 @@
 use Rattle.std.specs.Prelude.{◌≡◌, ◌==◌, if◌then◌else◌, ℕ, ◌≤◌, Bool, List, slice_index_or, sum_by, Option, Some, None}
 use Rattle.bg_load.specs.declared.connection.Connection.{Connection}
 use Rattle.bg_load.specs.declared.settings.LoadSettings.{LoadSettings}
+use Rattle.bg_load.specs.declared.totals.Totals.{Totals}
 
--- the place of each key, the number of the next request, the settings, and whether large requests are paused
+-- the place of each key, the number of the next request, the settings, what the connections of the other loops of the port come
+-- to, and whether large requests are paused
 pub record Register : Type 0 where
   pub places : List (Option Connection)
   pub next : ℕ
   pub settings : LoadSettings
+  pub others : Totals
   pub is_pausing : Bool
 
 -- the connection that has a key

@@ -1,5 +1,6 @@
--- What the connections of an event loop come to.
+-- What the connections of an event loop come to, and those of all loops of a port.
 use Rattle.std.specs.Prelude.{◌≡◌, ℕ, ◌+◌, ◌*◌, ◌^◌, ◌<◌, ◌≤◌, List, min, sum_by, if◌then◌else◌, Option, Some, None}
+use Rattle.bg_load.specs.Registers.{Register}
 use Rattle.bg_load.specs.declared.activity.Activity.{Activity}
 use Rattle.bg_load.specs.declared.activity.Activity.TheVariants as activity
 use Rattle.bg_load.specs.declared.connection.Connection.{Connection}
@@ -26,9 +27,13 @@ activity_totals (activity.Lingering bytes) = record { connections = 1; inside = 
 abbrev pub load_totals : Load → Totals
 load_totals load = record (activity_totals load.activity) { paused = if load.is_paused then 1 else 0 }
 
+-- what no connections come to
+abbrev pub no_totals : Totals
+no_totals = record { connections = 0; inside = 0; request_bytes = 0; waiting_bytes = 0; response_bytes = 0; paused = 0 }
+
 -- what a place adds
 abbrev pub place_totals : Option Connection → Totals
-place_totals None = record { connections = 0; inside = 0; request_bytes = 0; waiting_bytes = 0; response_bytes = 0; paused = 0 }
+place_totals None = no_totals
 place_totals (Some c) = load_totals c.load
 
 abbrev pub connections_of : Option Connection → ℕ
@@ -79,3 +84,20 @@ pub record IsChanged (total before after new : Totals) : Type 0 where
   pub waiting_bytes : new.waiting_bytes + before.waiting_bytes ≡ total.waiting_bytes + after.waiting_bytes
   pub response_bytes : new.response_bytes + before.response_bytes ≡ total.response_bytes + after.response_bytes
   pub paused : new.paused + before.paused ≡ total.paused + after.paused
+
+-- WHAT THE CONNECTIONS OF ALL LOOPS OF THE PORT COME TO
+
+abbrev pub connections_in : Register → ℕ
+connections_in r = sum_by connections_of r.places + r.others.connections
+
+abbrev pub inside_in : Register → ℕ
+inside_in r = sum_by inside_of r.places + r.others.inside
+
+abbrev pub request_bytes_in : Register → ℕ
+request_bytes_in r = sum_by request_bytes_of r.places + r.others.request_bytes
+
+abbrev pub waiting_bytes_in : Register → ℕ
+waiting_bytes_in r = sum_by waiting_bytes_of r.places + r.others.waiting_bytes
+
+abbrev pub response_bytes_in : Register → ℕ
+response_bytes_in r = sum_by response_bytes_of r.places + r.others.response_bytes

@@ -6,7 +6,7 @@ ghost use Rattle.bg_load.specs.Registers.{Register};
 ghost use Rattle.bg_load.specs.declared.connection.Connection.{Connection};
 ghost use Rattle.bg_load.specs.declared.pauses.Pauses.{Pauses};
 
-/// Once `regulate` finds no request that is otherwise than the rule says: if no large request is to be paused, none is
+/// Once `regulate` finds no request of a loop that is otherwise than the rule says: if no large request is to be paused, none is
 /// paused; and while the younger ones are, at most eight large requests go on, and each large one that is older than one of
 /// these goes on too. None goes on while those that wait for a seat take more than half of what requests may take.
 pub fn few_large_requests_go_on()

@@ -3,8 +3,9 @@ ghost use Rattle.std.specs.Prelude.{◌≡◌, ◌<◌, [], IfErr, OnErr, OnOk, 
 ghost use Rattle.bg_load.specs.Changes.{MayAccept, Refuses, accepted, left, numbered, observed_at};
 ghost use Rattle.bg_load.specs.Pauses.{is_paused};
 ghost use Rattle.bg_load.specs.Registers.{at};
-ghost use Rattle.bg_load.specs.Totals.{AreSums};
+ghost use Rattle.bg_load.specs.Totals.{AreSums, no_totals};
 
+mod of_port;
 mod pausing;
 mod room;
 mod stalls;
@@ -24,7 +25,8 @@ use std::marker::Model;
 const MOST_PLACES: usize = 1 << 20;
 
 /// The loads of the connections of an event loop. There are no sockets here: the caller reports what each connection does, and
-/// asks which of them are paused, and which are to be given up. One that is to be given up is named again until it has left,
+/// asks which of them are paused, and which are to be given up. The bounds of the settings are those of the port: the caller
+/// also reports what the connections of its other loops come to. One that is to be given up is named again until it has left,
 /// or does something else. A connection has a key of the caller's, below 2 to the power of 20, until it leaves. Moments are
 /// milliseconds from the start of the loop.
 #[derive(Drop)]
@@ -33,6 +35,8 @@ pub struct Loads {
     /// The number of the next request.
     next: u64,
     settings: LoadSettings,
+    /// What the connections of the other loops of the port come to.
+    others: Totals,
     /// Whether large requests are paused.
     is_pausing: bool,
 }
@@ -46,6 +50,7 @@ impl Model for Loads {
       places = l.table;
       next = l.next;
       settings = l.settings;
+      others = l.others;
       is_pausing = l.is_pausing;
     } };
 
@@ -53,14 +58,15 @@ impl Model for Loads {
 }
 
 impl Loads {
-    /// No connections, and no places yet.
+    /// No connections, and no places yet. The other loops have no connections either.
     pub fn new(alloc: Global, settings: LoadSettings) -> Loads
-        ensures { result ≡ record { places = []; next = 0; settings = settings; is_pausing = false } }
+        ensures { result ≡ record { places = []; next = 0; settings = settings; others = no_totals; is_pausing = false } }
     {
         Loads {
             table: LoadTable::new(alloc),
             next: 0,
             settings,
+            others: Totals::NONE,
             is_pausing: false,
         }
     }
@@ -135,7 +141,15 @@ impl Loads {
         self.table.set(key, None);
     }
 
-    /// What the connections come to: the sums of what each of them adds.
+    /// Notes what the connections of the other loops of the port come to. Until the next call it is added to what those of this
+    /// loop come to, wherever a bound of the settings is looked at.
+    pub fn note_others(&mut self, others: Totals)
+        ensures { self.new ≡ record self.old { others = others } }
+    {
+        self.others = others;
+    }
+
+    /// What the connections of this loop come to: the sums of what each of them adds.
     pub fn totals(&self) -> Totals
         ensures { AreSums result self.now.places }
     {

@@ -5,10 +5,12 @@ use crate::activity::Activity;
 use crate::among::Among;
 use crate::loads::Loads;
 use crate::settings::LoadSettings;
+use crate::totals::Totals;
 use std::alloc::Global;
 
-/// A hundred connections; requests of 8 MiB, and responses of 1 MiB.
+/// A hundred connections over four loops; requests of 8 MiB, and responses of 1 MiB.
 const SETTINGS: LoadSettings = LoadSettings {
+    loops: 4,
     connections: 100,
     request_bytes: 1 << 23,
     response_bytes: 1 << 20,
@@ -25,10 +27,15 @@ enum Step {
     /// Those of the keys from the first up to the second one do.
     SeeAll(usize, usize, Activity, u64),
     Leave(usize),
+    /// The connections of the other loops come to this.
+    Others(Totals),
     /// `regulate` is called at a moment until it finds nothing; then so many requests are paused.
     Regulate(u64, u64),
     IsPaused(usize, bool),
+    HasPaused(bool),
     IsFull(bool),
+    IsFullOfResponses(bool),
+    ResponsesTakeMoreThan(u64, bool),
     /// The memory of requests, and of those that wait.
     Requests(u64, u64),
     Slowest(Among, u64, Option<usize>),
@@ -79,9 +86,18 @@ fn holds(loads: &mut Loads, step: &Step) -> bool {
             loads.leave(*key);
             true
         }
+        Step::Others(others) => {
+            loads.note_others(*others);
+            true
+        }
         Step::Regulate(now, paused) => regulate(loads, *now, *paused),
         Step::IsPaused(key, is_paused) => loads.is_paused(*key) == *is_paused,
+        Step::HasPaused(has_paused) => loads.has_paused() == *has_paused,
         Step::IsFull(is_full) => loads.is_full() == *is_full,
+        Step::IsFullOfResponses(is_full) => loads.is_full_of_responses() == *is_full,
+        Step::ResponsesTakeMoreThan(bytes, more) => {
+            loads.responses_take_more_than(*bytes) == *more
+        }
         Step::Requests(taken, waiting) => {
             let totals = loads.totals();
             totals.request_bytes == *taken && totals.waiting_bytes == *waiting
@@ -106,7 +122,7 @@ fn first_wrong(alloc: Global, runs: &[Run]) -> Option<(&'static str, usize)> {
     None
 }
 
-static RUNS: [Run; 12] = [
+static RUNS: [Run; 16] = [
     Run {
         name: "a hundred uploads: eight go on, and once they are inside, the next eight",
         steps: &[
@@ -312,6 +328,150 @@ static RUNS: [Run; 12] = [
             Step::IsFull(true),
             Step::See(0, Activity::Lingering { moved: 2_097_153 }, 20),
             Step::IsFull(false),
+        ],
+    },
+    Run {
+        name: "the connections of other loops",
+        steps: &[
+            Step::AcceptAll(40),
+            Step::IsFull(false),
+            Step::Others(Totals {
+                connections: 60,
+                ..Totals::NONE
+            }),
+            Step::IsFull(true),
+            Step::Others(Totals {
+                connections: 61,
+                inside: 2,
+                ..Totals::NONE
+            }),
+            Step::IsFull(false),
+            Step::Others(Totals {
+                connections: u64::MAX,
+                ..Totals::NONE
+            }),
+            Step::IsFull(true),
+            Step::Others(Totals {
+                connections: u64::MAX,
+                inside: u64::MAX,
+                ..Totals::NONE
+            }),
+            Step::IsFull(false),
+        ],
+    },
+    Run {
+        name: "the requests of other loops: the loop lets its own eight oldest go on",
+        steps: &[
+            Step::AcceptAll(10),
+            Step::SeeAll(0, 10, Activity::Arriving(40_000), 10),
+            Step::Others(Totals {
+                request_bytes: 7_588_608,
+                ..Totals::NONE
+            }),
+            Step::Regulate(10, 0),
+            Step::HasPaused(false),
+            Step::Others(Totals {
+                request_bytes: 7_588_609,
+                ..Totals::NONE
+            }),
+            Step::Regulate(10, 2),
+            Step::HasPaused(true),
+            Step::IsPaused(7, false),
+            Step::IsPaused(8, true),
+            // the requests of all loops that wait take more than half
+            Step::Others(Totals {
+                request_bytes: 7_588_609,
+                waiting_bytes: 4_194_305,
+                ..Totals::NONE
+            }),
+            Step::Regulate(10, 10),
+            Step::Others(Totals {
+                request_bytes: u64::MAX,
+                waiting_bytes: 4_194_304,
+                ..Totals::NONE
+            }),
+            Step::Regulate(10, 2),
+            Step::Requests(800_000, 0),
+            // three quarters
+            Step::Others(Totals {
+                request_bytes: 5_491_456,
+                ..Totals::NONE
+            }),
+            Step::StuckFrom(0, 2_010, Some(0)),
+            Step::Regulate(10, 2),
+            Step::Others(Totals {
+                request_bytes: 5_491_455,
+                ..Totals::NONE
+            }),
+            Step::StuckFrom(0, 2_010, None),
+            // one quarter
+            Step::Others(Totals {
+                request_bytes: 1_297_153,
+                ..Totals::NONE
+            }),
+            Step::Stalled(760, Some(0)),
+            Step::Others(Totals {
+                request_bytes: 1_297_152,
+                ..Totals::NONE
+            }),
+            Step::Stalled(760, None),
+            Step::Regulate(10, 0),
+            Step::HasPaused(false),
+        ],
+    },
+    Run {
+        name: "a loop that is stalled gives its own requests up, down to its part of a quarter",
+        steps: &[
+            Step::AcceptAll(10),
+            Step::SeeAll(0, 10, Activity::Arriving(40_000), 10),
+            Step::Others(Totals {
+                request_bytes: 7_588_609,
+                ..Totals::NONE
+            }),
+            Step::Regulate(10, 2),
+            Step::SeeAll(8, 10, Activity::Arriving(0), 10),
+            Step::SeeAll(0, 8, Activity::Arriving(32_768), 10),
+            Step::Requests(524_288, 0),
+            Step::Stalled(760, None),
+            Step::See(9, Activity::Arriving(1), 10),
+            Step::Stalled(759, None),
+            Step::Stalled(760, Some(0)),
+        ],
+    },
+    Run {
+        name: "the responses of other loops",
+        steps: &[
+            Step::AcceptAll(1),
+            Step::See(
+                0,
+                Activity::Answering {
+                    weight: 500_000,
+                    written: 0,
+                },
+                10,
+            ),
+            Step::ResponsesTakeMoreThan(499_999, true),
+            Step::ResponsesTakeMoreThan(500_000, false),
+            Step::Others(Totals {
+                response_bytes: 1_597_153,
+                ..Totals::NONE
+            }),
+            Step::ResponsesTakeMoreThan(2_097_152, true),
+            Step::ResponsesTakeMoreThan(2_097_153, false),
+            Step::IsFullOfResponses(false),
+            Step::IsFull(false),
+            Step::Others(Totals {
+                response_bytes: 1_597_154,
+                ..Totals::NONE
+            }),
+            Step::IsFullOfResponses(true),
+            Step::IsFull(true),
+            Step::Others(Totals {
+                response_bytes: u64::MAX,
+                ..Totals::NONE
+            }),
+            Step::ResponsesTakeMoreThan(u64::MAX, true),
+            Step::IsFullOfResponses(true),
         ],
     },
     Run {

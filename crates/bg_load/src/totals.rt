@@ -1,4 +1,4 @@
-//! What the connections of an event loop come to.
+//! What connections of event loops come to.
 ghost use Rattle.std.specs.Prelude.{◌≡◌, ◌+◌, ◌<◌, ◌≤◌, ◌^◌, None};
 ghost use Rattle.bg_load.specs.Totals.{CanChange, IsChanged, activity_totals, load_totals, place_totals};
 ghost use Rattle.bg_load.specs.Totals.{request_weight, response_weight};
@@ -14,7 +14,7 @@ const MOST_OF_REQUEST: u64 = (1 << 20) + (1 << 16);
 /// The greatest memory, in bytes, that is counted for a response.
 const MOST_OF_RESPONSE: u64 = 1 << 40;
 
-/// What the connections of an event loop come to, or what one of them adds.
+/// What the connections of an event loop, or of several, come to, or what one of them adds.
 #[derive(Clone, Copy, PartialEq, Eq, Debug, Drop)]
 pub struct Totals {
     /// The number of connections.
@@ -42,8 +42,8 @@ fn changed(total: u64, before: u64, after: u64) -> u64
 }
 
 impl Totals {
-    /// Nothing.
-    pub(crate) const NONE: Totals = Totals {
+    /// What no connections come to.
+    pub const NONE: Totals = Totals {
         connections: 0,
         inside: 0,
         request_bytes: 0,

@@ -1,10 +1,15 @@
-//! What the event loops of a client port share: its listener, how many connections and requests it takes, its shutdown, and what
-//! is reported of it.
+//! What the event loops of a client port share: its listener, how many connections and requests it takes, what their connections
+//! come to, its shutdown, and what is reported of it.
 #![tactic(auto)]
 
 mod accept;
 mod admission;
+mod loads_of_loops;
 mod loop_port;
+#[cfg(test)]
+mod order;
+#[cfg(test)]
+mod two_loops;
 
 pub use accept::Accepted;
 pub use loop_port::{CutAnswers, LoopPort, LoopPortSettings};

@@ -2,12 +2,16 @@
 
 use crate::accept::{Accepted, accept};
 use crate::admission::Admission;
-use bg_sockets::{Signal, set_backlog};
+use crate::loads_of_loops::LoadsOfLoops;
+use bg_load::Totals;
+use bg_sockets::{PortClock, Signal, set_backlog};
 use libc::net::{SHUT_RDWR, shutdown};
+use std::alloc::Global;
 use std::io;
 use std::net::TcpListener;
 use std::os::fd::{AsRawFd, RawFd};
 use std::sync::atomic::{AtomicBool, AtomicU64, AtomicUsize, Ordering};
+use std::time::Clock;
 
 /// The number of accepts that fail in a row before they count as a connection.
 const FAILURES_OF_A_CONNECTION: u64 = 10;
@@ -15,6 +19,8 @@ const FAILURES_OF_A_CONNECTION: u64 = 10;
 /// The settings of a client port.
 #[derive(Clone, Copy, Drop)]
 pub struct LoopPortSettings {
+    /// The number of loops that serve the port.
+    pub loops: usize,
     /// The most requests that are inside at a time, over all loops.
     pub concurrency: u64,
     /// The number of connections that the port accepts in all, at least 1; `None` stands for no limit. Ten accepts that fail in
@@ -38,7 +44,14 @@ pub struct LoopPort {
     /// What ends the waits of the loops.
     signal: Signal,
     admission: Admission,
-    /// The number of loops that have begun.
+    /// What gives the moments of the port.
+    clock: PortClock,
+    /// Whether a loop without room has left clients to the others.
+    is_backlog_left: AtomicBool,
+    /// What the connections of the loops come to.
+    loads: LoadsOfLoops,
+    /// The number of the next loop, and the number of loops that have begun.
+    next_loop: AtomicUsize,
     loops_begun: AtomicUsize,
     /// Whether an accept has failed, and whether that was reported.
     accept_failed: AtomicBool,
@@ -61,6 +74,10 @@ impl Drop for LoopPort {
             is_shut_down: _,
             signal: _,
             admission: _,
+            clock: _,
+            is_backlog_left: _,
+            loads: _,
+            next_loop: _,
             loops_begun: _,
             accept_failed: _,
             is_failure_reported: _,
@@ -81,8 +98,13 @@ pub struct CutAnswers {
 }
 
 impl LoopPort {
-    /// The port of a listener, whose accepts do not wait from now on. An error if a system call fails.
-    pub fn new(listener: TcpListener, settings: LoopPortSettings) -> io::Result<LoopPort> {
+    /// The port of a listener, whose accepts do not wait from now on. An error if a system call or an allocation fails.
+    pub fn new<R: Clock>(
+        rt: &R,
+        alloc: Global,
+        listener: TcpListener,
+        settings: LoopPortSettings,
+    ) -> io::Result<LoopPort> {
         listener.set_nonblocking(true)?;
         set_backlog(&listener);
         let most = settings.connections.unwrap_or(u64::MAX);
@@ -95,7 +117,11 @@ impl LoopPort {
             is_closed: AtomicBool::new(false),
             is_shut_down: AtomicBool::new(false),
             signal: Signal::new()?,
-            admission: Admission::new(settings.concurrency),
+            admission: Admission::new(alloc, settings.concurrency, settings.loops)?,
+            clock: PortClock::start(rt)?,
+            is_backlog_left: AtomicBool::new(false),
+            loads: LoadsOfLoops::new(),
+            next_loop: AtomicUsize::new(0),
             loops_begun: AtomicUsize::new(0),
             accept_failed: AtomicBool::new(false),
             is_failure_reported: AtomicBool::new(false),
@@ -135,22 +161,68 @@ impl LoopPort {
         self.listener.as_raw_fd()
     }
 
-    /// The descriptor that is readable after a shutdown has begun, after the port was closed, or after a request has left
-    /// while another one waited. It is watched for edges.
+    /// The descriptor that is readable after a shutdown has begun, after the port was closed, after a request may enter that waits
+    /// at another loop, or after a loop has left clients to the others. It is watched for edges.
     pub fn signal_descriptor(&self) -> RawFd {
         self.signal.descriptor()
     }
 
-    /// Counts a request that enters, if fewer than the most requests are inside. If not, the signal comes once one has left.
-    pub fn admits(&self) -> bool {
-        self.admission.enter()
+    /// The moment: milliseconds from the start of the port.
+    pub fn now<R: Clock>(&self, rt: &R) -> u64 {
+        self.clock.now(rt)
     }
 
-    /// Notes that a request has left that was admitted.
+    /// Notes since when the request waits that has waited longest at the loop of this number, if one waits there for which a
+    /// seat is free.
+    pub fn note_waiting(&self, number: usize, since: Option<u64>) {
+        self.admission.note_waiting(number, since);
+    }
+
+    /// Whether a request may enter that waits since this moment: fewer than the most requests are inside, and no request of
+    /// another loop waits for more than 20 milliseconds longer.
+    pub fn may_enter(&self, since: u64) -> bool {
+        self.admission.may_enter(since)
+    }
+
+    /// Counts a request that enters, if it may, as [`LoopPort::may_enter`] says. Gives whether it enters.
+    pub fn enters(&self, since: u64) -> bool {
+        self.admission.enter(since)
+    }
+
+    /// Notes that a request has left that had entered.
     pub fn note_left(&self) {
-        if self.admission.leave() {
+        self.admission.leave();
+    }
+
+    /// Posts the signal if fewer than the most requests are inside while one waits at another loop than that of this number. A
+    /// loop calls this after a request of it has entered or left, or waits no more.
+    pub fn pass_on(&self, number: usize) {
+        if self.admission.has_place_for_others(number) {
             self.signal.post();
         }
+    }
+
+    /// Notes that what the connections of a loop come to has changed. A loop begins with nothing, and ends with nothing.
+    pub fn note_load(&self, before: Totals, after: Totals) {
+        self.loads.note(before, after);
+    }
+
+    /// What the connections of the other loops come to, for a loop that has noted last that its own come to this. Each number is
+    /// read by itself, so other loops may change some of them meanwhile.
+    pub fn others(&self, own: Totals) -> Totals {
+        self.loads.others(own)
+    }
+
+    /// Notes that a loop without room accepts no client for a while, although clients may wait. The signal comes, so that
+    /// another loop accepts them: an event of the listener wakes one loop only (`EPOLLEXCLUSIVE` of epoll_ctl(2)).
+    pub fn leave_backlog(&self) {
+        self.is_backlog_left.store(true, Ordering::SeqCst);
+        self.signal.post();
+    }
+
+    /// Whether a loop has left clients to the others, and no accept has found since that none waits.
+    pub fn is_backlog_left(&self) -> bool {
+        self.is_backlog_left.load(Ordering::SeqCst)
     }
 
     /// The next client that waits, if a further connection may be accepted.
@@ -166,6 +238,7 @@ impl LoopPort {
             }
             Accepted::Nothing => {
                 self.withdraw_accept();
+                self.is_backlog_left.store(false, Ordering::SeqCst);
                 Accepted::Nothing
             }
             Accepted::Failed => {
@@ -218,6 +291,11 @@ impl LoopPort {
         if self.has_limit && self.untaken.fetch_sub(1, Ordering::SeqCst) == 1 {
             self.close();
         }
+    }
+
+    /// The number of a loop: each gets the next one, from 0 on.
+    pub fn take_number(&self) -> usize {
+        self.next_loop.fetch_add(1, Ordering::SeqCst)
     }
 
     /// Notes that a loop has begun.

@@ -18,7 +18,7 @@ use std::alloc::{AllocError, Global};
 const FIRST: u64 = 1;
 
 /// The lines of the settings of a strategy. The only error is an allocation failure.
-pub(crate) fn settings_of(alloc: Global, strategy: &Strategy) -> Result<String, AllocError>
+pub fn settings_of(alloc: Global, strategy: &Strategy) -> Result<String, AllocError>
     ensures { IfOk result (λ text. string_bytes text ≡ strategy_text strategy.now) }
 {
     let mut bytes = Vec::new(alloc);

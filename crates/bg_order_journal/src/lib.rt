@@ -7,13 +7,16 @@ mod file_opener;
 mod first_row;
 mod opens_journal;
 mod orders;
+mod recorded;
 mod rows;
 mod start_fault;
 mod starting;
 mod stored_orders;
 
 pub use file_opener::FileOpener;
+pub use first_row::settings_of;
 pub use opens_journal::OpensJournal;
+pub use recorded::recorded_strategy;
 pub use start_fault::StartFault;
 pub use starting::{Resumption, begin_journal, open_journal};
 pub use stored_orders::StoredOrders;

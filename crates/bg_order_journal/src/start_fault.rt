@@ -15,6 +15,9 @@ pub enum StartFault {
     /// The journal is one of another strategy.
     #[error("the journal is one of another strategy")]
     OtherStrategy,
+    /// The first row does not begin with the settings of a strategy.
+    #[error("the first row of the journal names no strategy")]
+    NoStrategy,
     /// What follows the strategy in the first row is not the line of a first revision.
     #[error("the first row of the journal names no first revision")]
     NoFirstRevision,

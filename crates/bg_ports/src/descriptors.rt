@@ -1,10 +1,30 @@
 //! The descriptors of the process, and how many connections they leave to the client ports.
+ghost use Rattle.std.specs.Prelude.{◌≡◌, ◌≤◌};
 
+use crate::event_loops::EventLoops;
 use crate::ports::preview_workers;
-use bg_client_port::{Bounds, reserved_descriptors};
 use bg_command_line::ServeSettings;
+use bg_load::LoadSettings;
 use bg_sockets::{DescriptorLimits, descriptor_limits};
 use std::fmt;
+
+/// The number of descriptors that a process has from the start, and the number of those that may be needed for things that
+/// are not counted.
+const STANDARD_STREAMS: usize = 3;
+
+const SPARE: usize = 8;
+
+/// The number of descriptors of a client port without its connections: its listener, and its signal.
+const OF_A_PORT: usize = 2;
+
+/// The same of an event loop: its epoll set.
+const OF_A_LOOP: usize = 1;
+
+/// The number of descriptors of a request that is inside: the connection of its client, and the one to an endpoint. If
+/// connections are kept, as many connections to endpoints may be there without a request.
+const OF_A_REQUEST: usize = 2;
+
+const OF_A_KEPT_CONNECTION: usize = 1;
 
 /// The number of descriptors that are kept free for the control port itself and for the operator that has
 /// its turn.
@@ -19,30 +39,64 @@ const CONTROL_SHARE: usize = 4;
 
 const MOST_OPERATORS: usize = 1024;
 
-/// A notice says so if a client port may have fewer pending connections.
-const FEW_CONNECTIONS: usize = 64;
+/// The greatest number of pending connections of a client port, if there are enough descriptors, and the least.
+const MOST_CONNECTIONS: u64 = 1_024;
 
-/// The bounds on what may be pending at each client port.
-pub fn bounds_of(settings: &ServeSettings) -> Bounds {
+const LEAST_CONNECTIONS: u64 = 4;
+
+/// A notice says so if a client port may have fewer pending connections.
+const FEW_CONNECTIONS: u64 = 64;
+
+/// The memory, in bytes, that the requests of a client port may take, and the memory that its responses may take.
+const REQUEST_BYTES: u64 = 1 << 27;
+
+const RESPONSE_BYTES: u64 = 1 << 29;
+
+/// The bounds of each client port: an equal share of the descriptors that the rest of the process leaves, but 4 to 1,024
+/// connections without a seat; 128 MiB of requests, and 512 MiB of responses.
+pub fn bounds_of(settings: &ServeSettings, loops: EventLoops) -> LoadSettings
+    ensures least { 4 ≤ result.connections }
+    ensures most { result.connections ≤ 1024 }
+    ensures requests { result.request_bytes ≡ 134217728 }
+    ensures responses { result.response_bytes ≡ 536870912 }
+{
     let descriptors = descriptor_limits().soft;
-    Bounds::usual(
-        descriptors,
-        reserved_of(settings, descriptors),
-        ports_of(settings),
-    )
+    let free = descriptors.saturating_sub(reserved_of(settings, loops, descriptors));
+    let share = (free / ports_of(settings)) as u64;
+    LoadSettings {
+        loops: u64::from(loops.active),
+        connections: share.clamp(LEAST_CONNECTIONS, MOST_CONNECTIONS),
+        request_bytes: REQUEST_BYTES,
+        response_bytes: RESPONSE_BYTES,
+    }
 }
 
 /// The number of client ports.
-fn ports_of(settings: &ServeSettings) -> usize {
+fn ports_of(settings: &ServeSettings) -> usize
+    ensures { 1 ≤ result }
+{
     if settings.preview.is_some() { 2 } else { 1 }
 }
 
 /// The number of descriptors that are kept for all but pending connections, if there are so many in all.
-fn reserved_of(settings: &ServeSettings, descriptors: usize) -> usize {
-    let workers = u32::from(settings.workers).saturating_add(preview_workers(settings));
+fn reserved_of(settings: &ServeSettings, loops: EventLoops, descriptors: usize) -> usize {
+    let requests = u32::from(settings.workers).saturating_add(preview_workers(settings));
     let operators = (descriptors / CONTROL_SHARE).min(MOST_OPERATORS);
-    let others = control_descriptors(settings).saturating_add(operators);
-    reserved_descriptors(ports_of(settings), workers as usize, others)
+    STANDARD_STREAMS
+        .saturating_add(SPARE)
+        .saturating_add(ports_of(settings).saturating_mul(OF_A_PORT))
+        .saturating_add((loops.all() as usize).saturating_mul(OF_A_LOOP))
+        .saturating_add((requests as usize).saturating_mul(of_a_request(settings)))
+        .saturating_add(control_descriptors(settings))
+        .saturating_add(operators)
+}
+
+/// The number of descriptors for each request that may be inside.
+fn of_a_request(settings: &ServeSettings) -> usize {
+    match settings.keep_alive {
+        Some(_) => OF_A_REQUEST + OF_A_KEPT_CONNECTION,
+        None => OF_A_REQUEST,
+    }
 }
 
 fn control_descriptors(settings: &ServeSettings) -> usize {
@@ -57,24 +111,26 @@ fn control_descriptors(settings: &ServeSettings) -> usize {
 pub struct FewDescriptors {
     limits: DescriptorLimits,
     /// The number of pending connections that each client port may have.
-    connections: usize,
+    connections: u64,
     /// The number of descriptors that would be enough.
     enough: usize,
 }
 
 impl FewDescriptors {
     /// `None` if each client port may have 64 pending connections or more.
-    pub fn of(settings: &ServeSettings) -> Option<FewDescriptors> {
+    pub fn of(settings: &ServeSettings, loops: EventLoops) -> Option<FewDescriptors> {
         let limits = descriptor_limits();
-        let connections = bounds_of(settings).connections;
+        let connections = bounds_of(settings, loops).connections;
         if connections >= FEW_CONNECTIONS {
             return None;
         }
-        let reserved = reserved_of(settings, MOST_OPERATORS.saturating_mul(CONTROL_SHARE));
+        let many = MOST_OPERATORS.saturating_mul(CONTROL_SHARE);
         Some(FewDescriptors {
             limits,
             connections,
-            enough: Bounds::enough_descriptors(reserved, ports_of(settings)),
+            enough: ports_of(settings)
+                .saturating_mul(MOST_CONNECTIONS as usize)
+                .saturating_add(reserved_of(settings, loops, many)),
         })
     }
 }

@@ -5,11 +5,15 @@
 mod addresses;
 mod bind_fault;
 mod descriptors;
+mod event_loops;
+mod notice;
 mod notices;
 mod ports;
 mod socket_mode;
 
 pub use bind_fault::BindFault;
 pub use descriptors::{FewDescriptors, bounds_of};
+pub use event_loops::EventLoops;
+pub use notice::Resumed;
 pub use notices::Notices;
-pub use ports::{ClientServing, Ports, preview_workers, service_name};
+pub use ports::{Ports, preview_workers, service_name};

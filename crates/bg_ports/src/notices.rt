@@ -1,131 +1,26 @@
 //! The notices that are written to standard error while the ports are open.
 
+use crate::event_loops::EventLoops;
+use crate::notice::{Notice, Resumed};
 use crate::ports::{Ports, service_name};
 use bg_access_log::{AccessLog, LogTrouble};
-use bg_client_port::ClientPort;
-use bg_command_line::ServeSettings;
 use bg_control_port::{ControlEvents, Entrance, Peer};
-use bg_loop_port::LoopPort;
 use bg_revisions::Service;
 use libc::STDERR_FILENO;
 use libc::net::{POLLOUT, poll};
 use libc::types::pollfd;
 use std::alloc::Global;
+use std::io;
 use std::io::Write;
 use std::sync::atomic::{AtomicBool, AtomicU64, Ordering};
-use std::{fmt, io};
 
 /// The number of seconds after `open` in which all threads are expected to begin.
 const SECONDS_TO_BEGIN: u64 = 3;
 
-/// A notice.
-#[derive(Drop)]
-enum Notice<'a> {
-    /// The number of workers of a port that have begun, and the number that it should have.
-    FewerWorkers {
-        port: &'static str,
-        begun: usize,
-        expected: usize,
-    },
-    NoEventLoop {
-        port: &'static str,
-    },
-    AcceptsFail {
-        port: &'static str,
-    },
-    ControlAcceptsFail {
-        entrance: Entrance,
-        reason: &'a io::Error,
-    },
-    UsedUp {
-        port: &'static str,
-    },
-    HistoryNearlyFull {
-        used: u64,
-        most: u64,
-    },
-    /// The numbers of lines and requests that were refused because the history is full, since the last such
-    /// notice.
-    HistoryFull {
-        lines: u64,
-        requests: u64,
-    },
-    /// A line of this peer, which was carried out.
-    Decision {
-        peer: Peer,
-        line: &'a str,
-    },
-    /// The number of connections of other users since the last such notice.
-    RefusedConnections {
-        connections: u64,
-    },
-    LogTakesNothing {
-        reason: &'a io::Error,
-    },
-    LogLinesLost {
-        lost: u64,
-    },
-}
-
-impl fmt::Display for Notice<'_> {
-    fn fmt<W: fmt::Write>(&self, f: &mut fmt::Formatter<W>) -> fmt::Result {
-        match self {
-            Notice::FewerWorkers {
-                port,
-                begun,
-                expected,
-            } => write!(f, "the {port} port has {begun} of {expected} workers"),
-            Notice::NoEventLoop { port } => write!(f, "the {port} port has no event loop"),
-            Notice::AcceptsFail { port } => {
-                write!(f, "accepts fail at the {port} port, and are tried again")
-            }
-            Notice::ControlAcceptsFail { entrance, reason } => write!(
-                f,
-                "accepts fail at the control {}, and are tried again: {reason}",
-                entrance_name(*entrance)
-            ),
-            Notice::UsedUp { port } => {
-                write!(f, "the {port} port is closed: its connections are used up")
-            }
-            Notice::HistoryNearlyFull { used, most } => write!(
-                f,
-                "the history holds {used} of {most} entries; once it is full, requests and lines are refused"
-            ),
-            Notice::HistoryFull { lines, requests } => write!(
-                f,
-                "the history is full; lines refused: {lines}, requests refused: {requests}"
-            ),
-            Notice::Decision { peer, line } => match peer {
-                Peer::User(user) => write!(f, "user {user}: {line}"),
-                Peer::AtSocket => write!(f, "control socket: {line}"),
-                Peer::Anybody => write!(f, "control port: {line}"),
-            },
-            Notice::RefusedConnections { connections } => write!(
-                f,
-                "connections at the control port that are not of the users of BG_SWITCH_OPERATORS: {connections}"
-            ),
-            Notice::LogTakesNothing { reason } => write!(
-                f,
-                "the access log takes nothing: {reason}; its lines wait, and then are lost"
-            ),
-            Notice::LogLinesLost { lost } => write!(f, "the access log: lines lost: {lost}"),
-        }
-    }
-}
-
-/// The word for where connections come in.
-fn entrance_name(entrance: Entrance) -> &'static str {
-    match entrance {
-        Entrance::Port => "port",
-        Entrance::Socket => "socket",
-    }
-}
-
 /// Which notices were written about a client port.
 #[derive(Drop)]
 struct PortNotices {
-    workers: AtomicBool,
-    event_loop: AtomicBool,
+    event_loops: AtomicBool,
     used_up: AtomicBool,
 }
 
@@ -133,19 +28,19 @@ impl PortNotices {
     /// No notices yet.
     fn new() -> PortNotices {
         PortNotices {
-            workers: AtomicBool::new(false),
-            event_loop: AtomicBool::new(false),
+            event_loops: AtomicBool::new(false),
             used_up: AtomicBool::new(false),
         }
     }
 }
 
-/// Writes notices to standard error while the ports are open: fewer threads than expected, failed
-/// accepts, a port that is closed because its workers have taken all their connections, a history that is
+/// Writes notices to standard error while the ports are open: fewer event loops than expected, failed
+/// accepts, a port that is closed because it has taken all its connections, a history that is
 /// nearly full, lines and requests that are refused because it is full, an access log that takes nothing
 /// or has lost lines, decisions that came by the control socket, and, if the control port serves only listed users, their
-/// decisions and the connections of others. Each is written once, or once for each client port, with these exceptions.
-/// Failed accepts at the control port or at the control socket, and a log that takes nothing, are written once for each
+/// decisions and the connections of others; and what was resumed from a journal, that it can't be used, or that it lacks an
+/// order. Each is written once, or once for each client port, with these exceptions. Failed accepts at the control port or at
+/// the control socket, a log that takes nothing, and a journal that lacks an order are written once for each
 /// series of failures. Refusals, and connections of others, are written
 /// each second in which something was refused. Each decision is written. A failed write changes nothing else.
 #[derive(Drop)]
@@ -153,9 +48,12 @@ pub struct Notices<'p> {
     alloc: Global,
     ports: &'p Ports,
     log: Option<&'p AccessLog>,
-    /// The number of workers of the active service, and of the preview service.
-    workers: usize,
-    preview_workers: usize,
+    /// The path of the journal, if there is one.
+    journal: Option<&'p str>,
+    /// Whether the journal lacks an order that was carried out.
+    lacks_order: AtomicBool,
+    /// How many event loops are to begin.
+    loops: EventLoops,
     of_active: PortNotices,
     of_preview: PortNotices,
     is_open: AtomicBool,
@@ -177,7 +75,7 @@ impl<'p> Notices<'p> {
     pub fn new(
         alloc: Global,
         ports: &'p Ports,
-        settings: &ServeSettings,
+        loops: EventLoops,
         log: Option<&'p AccessLog>,
         most_entries: u64,
     ) -> Notices<'p> {
@@ -185,8 +83,9 @@ impl<'p> Notices<'p> {
             alloc,
             ports,
             log,
-            workers: usize::from(settings.workers),
-            preview_workers: usize::from(settings.preview_workers),
+            journal: None,
+            lacks_order: AtomicBool::new(false),
+            loops,
             of_active: PortNotices::new(),
             of_preview: PortNotices::new(),
             is_open: AtomicBool::new(false),
@@ -199,7 +98,52 @@ impl<'p> Notices<'p> {
         }
     }
 
-    /// Notes that a book was opened, so workers and event loops should begin.
+    /// The notices of a run whose orders are kept by the journal in the file at this path, if there is one.
+    pub fn with_journal(self, path: Option<&'p str>) -> Notices<'p> {
+        Notices {
+            journal: path,
+            ..self
+        }
+    }
+
+    /// Writes what was resumed from the journal.
+    pub fn write_resumed(&self, resumed: Resumed) {
+        if let Some(path) = self.journal {
+            self.write(&Notice::JournalResumed { path, resumed });
+        }
+    }
+
+    /// Writes why the journal can't be used.
+    pub fn write_journal_refused(&self, reason: &str) {
+        if let Some(path) = self.journal {
+            self.write(&Notice::JournalRefused { path, reason });
+        }
+    }
+
+    /// Writes a setting of the journal's strategy, and that of the Rollout, which differs.
+    pub fn write_other_setting(&self, kept: &str, given: &str) {
+        self.write(&Notice::OtherSetting { kept, given });
+    }
+
+    /// Whether the journal lacks an order that was carried out, as far as was noted.
+    pub fn lacks_order(&self) -> bool {
+        self.lacks_order.load(Ordering::SeqCst)
+    }
+
+    /// Notes whether the journal lacks an order that was carried out. Writes a notice if that has changed.
+    pub fn note_journal(&self, lacks_order: bool) {
+        let Some(path) = self.journal else {
+            return;
+        };
+        let lacked_one = self.lacks_order.swap(lacks_order, Ordering::SeqCst);
+        if lacks_order && !lacked_one {
+            self.write(&Notice::JournalFails { path });
+        } else if lacked_one && !lacks_order {
+            self.write(&Notice::JournalKeeps { path });
+        }
+    }
+
+    /// Notes that a book was opened, so the event loops should begin.
     pub fn note_open(&self) {
         self.is_open.store(true, Ordering::SeqCst);
     }
@@ -221,11 +165,6 @@ impl<'p> Notices<'p> {
     /// The counter of the requests that are refused because the history is full.
     pub fn refused_requests(&self) -> &AtomicU64 {
         &self.refused_requests
-    }
-
-    /// Counts a request that is refused because the history is full.
-    pub fn note_refused_request(&self) {
-        self.refused_requests.fetch_add(1, Ordering::SeqCst);
     }
 
     /// Writes how many lines and requests were refused because the history is full, if any were refused since the
@@ -277,66 +216,38 @@ impl<'p> Notices<'p> {
 
     /// Checks a client port.
     fn check_port(&self, service: Service, is_late: bool) {
-        let name = service_name(service);
-        if let Some(port) = self.ports.loops_of(service) {
-            self.check_loop_port(port, service, name, is_late);
-            return;
-        }
-        let Some(port) = self.ports.of(service) else {
+        let Some(client_port) = self.ports.of(service) else {
             return;
         };
-        if port.take_accept_failure() {
-            self.write(&Notice::AcceptsFail { port: name });
-        }
-        let written = self.written_of(service);
-        if port.is_closed() {
-            self.write_once(&written.used_up, &Notice::UsedUp { port: name });
-        } else if is_late {
-            self.check_threads(port, service);
-        }
-    }
-
-    /// Checks a client port that event loops serve.
-    fn check_loop_port(
-        &self,
-        client_port: &LoopPort,
-        service: Service,
-        port: &'static str,
-        is_late: bool,
-    ) {
+        let port = service_name(service);
         if client_port.take_accept_failure() {
             self.write(&Notice::AcceptsFail { port });
         }
         let written = self.written_of(service);
         if client_port.is_closed() {
             self.write_once(&written.used_up, &Notice::UsedUp { port });
-        } else if is_late && client_port.loops_begun() == 0 {
-            self.write_once(&written.event_loop, &Notice::NoEventLoop { port });
+        } else if is_late {
+            self.check_loops(service, client_port.loops_begun());
         }
     }
 
-    /// Checks whether the threads of a port have begun.
-    fn check_threads(&self, client_port: &ClientPort, service: Service) {
+    /// Checks whether the event loops of a port have begun.
+    fn check_loops(&self, service: Service, begun: usize) {
         let port = service_name(service);
-        let written = self.written_of(service);
-        let expected = match service {
-            Service::Active => self.workers,
-            Service::Preview => self.preview_workers,
+        let expected = self.loops.of_service(service) as usize;
+        if begun >= expected {
+            return;
+        }
+        let notice = if begun == 0 {
+            Notice::NoEventLoop { port }
+        } else {
+            Notice::FewerEventLoops {
+                port,
+                begun,
+                expected,
+            }
         };
-        let begun = client_port.workers_begun();
-        if begun < expected {
-            self.write_once(
-                &written.workers,
-                &Notice::FewerWorkers {
-                    port,
-                    begun,
-                    expected,
-                },
-            );
-        }
-        if !client_port.has_event_loop() {
-            self.write_once(&written.event_loop, &Notice::NoEventLoop { port });
-        }
+        self.write_once(&self.written_of(service).event_loops, &notice);
     }
 
     fn written_of(&self, service: Service) -> &PortNotices {

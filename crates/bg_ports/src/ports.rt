@@ -4,8 +4,7 @@ ghost use Rattle.bg_ports.specs.ServiceNames.{name_of_service};
 
 use crate::addresses::{Address, Addresses, control_place};
 use crate::bind_fault::BindFault;
-use crate::descriptors::bounds_of;
-use bg_client_port::{Bounds, ClientPort, ClientPortSettings};
+use crate::event_loops::EventLoops;
 use bg_command_line::{Connections, ServeSettings};
 use bg_control_port::{ControlPort, SocketFile};
 use bg_endpoints::OwnPorts;
@@ -15,41 +14,13 @@ use bg_revisions::Service;
 use std::alloc::Global;
 use std::net::{Net, TcpListener, TcpStream};
 use std::rt::Files;
-use std::sync::Wait;
 use std::time::Clock;
-
-/// How clients are served.
-#[derive(Clone, Copy, Drop)]
-pub struct ClientServing {
-    /// The timeout of a client's request, in seconds.
-    pub request_seconds: u64,
-    /// Whether event loops serve clients; otherwise workers do.
-    pub by_loops: bool,
-}
-
-/// A client port, and who serves it.
-#[derive(Drop)]
-enum ServedPort {
-    /// Workers, which are given requests that are over.
-    Workers(ClientPort),
-    /// Event loops.
-    Loops(LoopPort),
-}
-
-impl ServedPort {
-    fn close<R: Clock + Wait>(&self, rt: &R) {
-        match self {
-            ServedPort::Workers(port) => port.close(rt),
-            ServedPort::Loops(port) => port.shut_down(),
-        }
-    }
-}
 
 /// The ports on 127.0.0.1, and the control socket.
 #[derive(Drop)]
 pub struct Ports {
-    active: ServedPort,
-    preview: Option<ServedPort>,
+    active: LoopPort,
+    preview: Option<LoopPort>,
     /// The port and the socket at which operators connect.
     pub control: ControlPort,
     /// The file of the control socket, if there is one.
@@ -67,7 +38,7 @@ impl Ports {
         rt: &R,
         alloc: Global,
         settings: &ServeSettings<'a>,
-        serving: ClientServing,
+        loops: EventLoops,
         operators: Option<Users>,
     ) -> Result<Ports, BindFault<'a>>
     where
@@ -75,18 +46,19 @@ impl Ports {
     {
         let addresses = Addresses::of(settings);
         let listeners = addresses.listen(rt, alloc)?;
-        let clients = ClientPorts {
-            alloc,
-            connections: settings.connections,
-            request_seconds: serving.request_seconds,
-            grace_seconds: u64::from(settings.shutdown_grace),
-            aborts_on_close: settings.abort_on_close,
-            bounds: bounds_of(settings),
-            by_loops: serving.by_loops,
+        let of_active = port_settings(settings.workers, loops.active, settings.connections);
+        let active = client_port(rt, alloc, &addresses.active, listeners.active, of_active)?;
+        let of_preview = port_settings(
+            settings.preview_workers,
+            loops.preview,
+            settings.connections,
+        );
+        let preview = match (&addresses.preview, listeners.preview) {
+            (Some(address), Some(listener)) => {
+                Some(client_port(rt, alloc, address, listener, of_preview)?)
+            }
+            _ => None,
         };
-        let active = clients.port(rt, &addresses.active, listeners.active, settings.workers)?;
-        let workers = settings.preview_workers;
-        let preview = clients.preview_port(rt, &addresses, listeners.preview, workers)?;
         let control = ControlPort::new(rt, alloc, listeners.control, operators);
         let control = control_place(settings).or_fault(control)?;
         Ok(Ports {
@@ -103,10 +75,10 @@ impl Ports {
     }
 
     /// Begins a graceful shutdown of the client ports.
-    pub fn close_client_ports<R: Clock + Wait>(&self, rt: &R) {
-        self.active.close(rt);
+    pub fn close_client_ports(&self) {
+        self.active.shut_down();
         if let Some(preview) = &self.preview {
-            preview.close(rt);
+            preview.shut_down();
         }
     }
 
@@ -117,23 +89,8 @@ impl Ports {
         }
     }
 
-    /// The port of a service, if it has one that workers serve.
-    pub fn of(&self, service: Service) -> Option<&ClientPort> {
-        match self.served(service)? {
-            ServedPort::Workers(port) => Some(port),
-            ServedPort::Loops(_) => None,
-        }
-    }
-
-    /// The port of a service, if it has one that event loops serve.
-    pub fn loops_of(&self, service: Service) -> Option<&LoopPort> {
-        match self.served(service)? {
-            ServedPort::Workers(_) => None,
-            ServedPort::Loops(port) => Some(port),
-        }
-    }
-
-    fn served(&self, service: Service) -> Option<&ServedPort> {
+    /// The port of a service, if it has one.
+    pub fn of(&self, service: Service) -> Option<&LoopPort> {
         match service {
             Service::Active => Some(&self.active),
             Service::Preview => self.preview.as_ref(),
@@ -151,74 +108,32 @@ pub fn service_name(service: Service) -> &'static str
     }
 }
 
-/// The settings that the client ports have in common.
-#[derive(Drop)]
-struct ClientPorts {
+/// The settings of a client port that forwards so many requests at a time by so many event loops, and takes so many connections
+/// for each of these requests.
+fn port_settings(requests: u16, loops: u32, connections: Connections) -> LoopPortSettings {
+    let requests = u64::from(requests);
+    LoopPortSettings {
+        loops: loops as usize,
+        concurrency: requests,
+        connections: match connections {
+            Connections::Count(count) => Some(u64::from(count).saturating_mul(requests)),
+            Connections::Forever => None,
+        },
+    }
+}
+
+/// The client port at an address.
+fn client_port<'a, R: Clock>(
+    rt: &R,
     alloc: Global,
-    connections: Connections,
-    request_seconds: u64,
-    grace_seconds: u64,
-    aborts_on_close: bool,
-    bounds: Bounds,
-    by_loops: bool,
+    address: &Address,
+    listener: TcpListener,
+    settings: LoopPortSettings,
+) -> Result<LoopPort, BindFault<'a>> {
+    address.or_fault(LoopPort::new(rt, alloc, listener, settings))
 }
 
-impl ClientPorts {
-    /// The settings of a port with this many workers.
-    fn settings(&self, workers: u16) -> ClientPortSettings {
-        ClientPortSettings {
-            workers: usize::from(workers),
-            connections: match self.connections {
-                Connections::Count(count) => {
-                    Some(u64::from(count).saturating_mul(u64::from(workers)))
-                }
-                Connections::Forever => None,
-            },
-            request_seconds: self.request_seconds,
-            grace_seconds: self.grace_seconds,
-            aborts_on_close: self.aborts_on_close,
-            bounds: self.bounds,
-        }
-    }
-
-    /// The client port at an address, with this many workers.
-    fn port<'a, R: Clock>(
-        &self,
-        rt: &R,
-        address: &Address,
-        listener: TcpListener,
-        workers: u16,
-    ) -> Result<ServedPort, BindFault<'a>> {
-        let settings = self.settings(workers);
-        if self.by_loops {
-            let settings = LoopPortSettings {
-                concurrency: u64::from(workers),
-                connections: settings.connections,
-            };
-            return Ok(ServedPort::Loops(address.or_fault(LoopPort::new(listener, settings))?));
-        }
-        let port = ClientPort::new(rt, self.alloc, listener, settings);
-        Ok(ServedPort::Workers(address.or_fault(port)?))
-    }
-
-    /// The port of the preview service, if there is one.
-    fn preview_port<'a, R: Clock>(
-        &self,
-        rt: &R,
-        addresses: &Addresses<'a>,
-        listener: Option<TcpListener>,
-        workers: u16,
-    ) -> Result<Option<ServedPort>, BindFault<'a>> {
-        match (&addresses.preview, listener) {
-            (Some(address), Some(listener)) => {
-                Ok(Some(self.port(rt, address, listener, workers)?))
-            }
-            _ => Ok(None),
-        }
-    }
-}
-
-/// The number of workers of the preview port; 0 if there is no such port.
+/// The number of requests that the preview port forwards at a time; 0 if there is no such port.
 pub fn preview_workers(settings: &ServeSettings) -> u32 {
     match settings.preview {
         Some(_) => u32::from(settings.preview_workers),

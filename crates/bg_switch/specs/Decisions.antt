@@ -19,3 +19,9 @@ makes_decision (Ok (Before milliseconds event)) = is_decision event
 makes_decision (Ok (Open name ports)) = true
 makes_decision (Ok Quit) = true
 makes_decision _ = false
+
+-- whether a line gives an event to the book
+abbrev pub is_order : Result Command LineFault → Bool
+is_order (Ok (Control event)) = true
+is_order (Ok (Before milliseconds event)) = true
+is_order _ = false

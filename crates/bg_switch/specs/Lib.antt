@@ -1,4 +1,4 @@
 pub mod Decisions
+pub mod Resumed
 pub mod RevisionLists
 pub mod Rollbacks
-pub mod Services

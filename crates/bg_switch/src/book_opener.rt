@@ -1,15 +1,22 @@
-//! Answers operators before a book is open, and runs after one has opened it.
-ghost use Rattle.std.specs.Prelude.{◌≡◌, ◌≤◌};
+//! Opens a book by the journal or by an operator, and runs after that.
+ghost use Rattle.std.specs.Prelude.{◌≡◌, ◌≤◌, true};
+ghost use Rattle.bg_forward.specs.Seats.{AllOut};
 ghost use Rattle.bg_ledger.specs.Blanks.{AreAllFor};
+ghost use Rattle.bg_rollout.specs.Gathering.{are_all};
 
 use crate::context::ServeContext;
+use crate::journal::{
+    FileOrders, FileResumption, JournalRefusal, begun_journal, note_other_settings, note_resumed,
+    resumed_book,
+};
 use crate::operators::Operator;
-use crate::serve::written;
-use crate::workers::{services_of, work_beside_operators};
-use bg_book::{Book, Desk, Limits, OpenFault, RolloutOpening};
+use crate::serve::{write_listening, written};
+use crate::serving::serve_beside_operators;
+use bg_book::{Book, Desk, Limits, ResumeFault, RolloutOpening};
 use bg_ledger::{Blanks, Names, Seat};
+use bg_order_journal::open_journal;
 use bg_report::report;
-use bg_script::{Answer, FirstRevision, LinesEnd, RunEnd};
+use bg_script::{Answer, DeskJournal, FirstRevision, LinesEnd, RunEnd};
 use std::io;
 use std::io::Write;
 use std::marker::Brand;
@@ -18,15 +25,86 @@ use std::sync::Wait;
 use std::thread::Threads;
 use std::time::Clock;
 
-/// Answers the lines of operators, until one opens a book. Clients are then served by that book to the end.
-/// Without a book, the run ends at `quit`.
-pub fn await_open<'a, R, W: Write>(
+/// Resumes the book of the journal, if there is one and it has orders, and serves clients by it to the end. Else awaits an
+/// `open`. The error says why the journal cannot be used; then nothing was written.
+pub fn serve_by_journal<'a, R, W: Write>(
     context: &ServeContext<'a, R>,
+    output: &mut W,
+) -> Result<Result<(), RunEnd>, JournalRefusal>
+where
+    R: Net<Listener = TcpListener, Stream = TcpStream> + Threads + Wait + Clock + Sync,
+{
+    let Some(opener) = context.journal else {
+        return Ok(await_open(context, output));
+    };
+    match open_journal(context.alloc, opener, context.strategy) {
+        Ok(Some(resumption)) => {
+            let blanks = Blanks::new();
+            Ok(resume_and_serve::<Brand, R, W>(context, blanks, resumption, output)?)
+        }
+        Ok(None) => Ok(await_open(context, output)),
+        Err(fault) => {
+            note_other_settings(context, opener);
+            Err(JournalRefusal::Start(fault))
+        }
+    }
+}
+
+/// Resumes a book from a journal, and serves clients by it to the end.
+fn resume_and_serve<'a, N: Names + Send + Sync, R, W: Write>(
+    context: &ServeContext<'a, R>,
+    blanks: Blanks,
+    resumption: FileResumption<'a>,
+    output: &mut W,
+) -> Result<Result<(), RunEnd>, ResumeFault>
+where
+    R: Net<Listener = TcpListener, Stream = TcpStream> + Threads + Wait + Clock + Sync,
+    requires blanks { AreAllFor N.Names blanks }
+    requires seats { 1 ≤ context.now.seats → context.now.seats ≤ 2048 → N.seats ≡ context.now.seats }
+{
+    let opened = resumed_book::<N>(
+        context.alloc,
+        context.strategy,
+        context.seats,
+        blanks,
+        &resumption,
+    )?;
+    note_resumed(context.notices, &opened.0, resumption.count);
+    Ok(serve_resumed(context, opened, resumption.into_journal(), output))
+}
+
+/// Writes `listening`, and serves clients to the end by a book that was resumed.
+fn serve_resumed<'a, N: Names + Send + Sync, R, W: Write>(
+    context: &ServeContext<'a, R>,
+    opened: (Book<N>, Vec<Seat<N>>),
+    journal: DeskJournal<FileOrders<'a>>,
     output: &mut W,
 ) -> Result<(), RunEnd>
 where
     R: Net<Listener = TcpListener, Stream = TcpStream> + Threads + Wait + Clock + Sync,
+    requires all { are_all N.seats opened.1.items ≡ true }
+    requires out { AllOut opened.1.items }
 {
+    match write_listening(output) {
+        Ok(()) => {
+            let mut operator = Operator::new(context.rt, context.alloc, context.notices);
+            serve_book(context, opened, &mut operator, Some(journal), output)
+        }
+        Err(end) => {
+            let (book, seats) = opened;
+            let _history = book.close(seats);
+            Err(end)
+        }
+    }
+}
+
+/// Writes `listening`, and answers the lines of operators, until one opens a book. Clients are then served by that book to the
+/// end. Without a book, the run ends at `quit`.
+fn await_open<'a, R, W: Write>(context: &ServeContext<'a, R>, output: &mut W) -> Result<(), RunEnd>
+where
+    R: Net<Listener = TcpListener, Stream = TcpStream> + Threads + Wait + Clock + Sync,
+{
+    write_listening(output)?;
     let rt = context.rt;
     let mut operator = Operator::new(rt, context.alloc, context.notices);
     for _ in rt.forever() {
@@ -56,27 +134,27 @@ where
     let blanks = Blanks::new();
     match open_and_serve::<Brand, R, W>(context, blanks, &first, operator, output) {
         Ok(ended) => Some(ended),
-        Err(fault) => {
-            operator.answer_open(control, &Answer::OpenRefused(fault));
+        Err(refusal) => {
+            operator.answer_open(control, &refusal);
             None
         }
     }
 }
 
-/// Opens the book, serves clients to the end, and writes the report and the number of calls.
+/// Opens the book, begins the journal if there is one, and serves clients to the end. The error is the answer to the `open`
+/// if the book was not opened, or the journal could not be begun.
 fn open_and_serve<'a, N: Names + Send + Sync, R, W: Write>(
     context: &ServeContext<'a, R>,
     blanks: Blanks,
     first: &FirstRevision,
     operator: &mut Operator<R>,
     output: &mut W,
-) -> Result<Result<(), RunEnd>, OpenFault>
+) -> Result<Result<(), RunEnd>, Answer>
 where
     R: Net<Listener = TcpListener, Stream = TcpStream> + Threads + Wait + Clock + Sync,
     requires blanks { AreAllFor N.Names blanks }
     requires seats { 1 ≤ context.now.seats → context.now.seats ≤ 2048 → N.seats ≡ context.now.seats }
 {
-    let services = services_of(context.alloc, context.seats, context.previews)?;
     let opening = RolloutOpening {
         strategy: context.strategy,
         name: first.name.get(),
@@ -84,16 +162,59 @@ where
         seats: context.seats,
         limits: Limits::usual(),
     };
-    let (book, mut seats) = Book::<N>::open_with_many_seats(context.alloc, &opening, blanks)?;
+    match Book::<N>::open_with_many_seats(context.alloc, &opening, blanks) {
+        Ok(opened) => begin_and_serve(context, opened, first, operator, output),
+        Err(fault) => Err(Answer::OpenRefused(fault)),
+    }
+}
+
+/// Begins the journal of a book that was just opened, if there is one, and serves clients to the end. If the journal cannot be
+/// begun, the book is closed, and the error is the answer to the `open`.
+fn begin_and_serve<'a, N: Names + Send + Sync, R, W: Write>(
+    context: &ServeContext<'a, R>,
+    opened: (Book<N>, Vec<Seat<N>>),
+    first: &FirstRevision,
+    operator: &mut Operator<R>,
+    output: &mut W,
+) -> Result<Result<(), RunEnd>, Answer>
+where
+    R: Net<Listener = TcpListener, Stream = TcpStream> + Threads + Wait + Clock + Sync,
+    requires all { are_all N.seats opened.1.items ≡ true }
+    requires out { AllOut opened.1.items }
+{
+    match begun_journal(context, first) {
+        Ok(journal) => Ok(serve_book(context, opened, operator, journal, output)),
+        Err(_) => {
+            let (book, seats) = opened;
+            let _history = book.close(seats);
+            Err(Answer::JournalFailed)
+        }
+    }
+}
+
+/// Serves clients by an open book to the end. Then writes the report and the number of calls.
+fn serve_book<'a, N: Names + Send + Sync, R, W: Write>(
+    context: &ServeContext<'a, R>,
+    opened: (Book<N>, Vec<Seat<N>>),
+    operator: &mut Operator<R>,
+    journal: Option<DeskJournal<FileOrders<'a>>>,
+    output: &mut W,
+) -> Result<(), RunEnd>
+where
+    R: Net<Listener = TcpListener, Stream = TcpStream> + Threads + Wait + Clock + Sync,
+    requires all { are_all N.seats opened.1.items ≡ true }
+    requires out { AllOut opened.1.items }
+{
+    let (book, mut seats) = opened;
     let desk = Desk::new(book);
-    work_beside_operators(context, &desk, &services, seats.as_mut_slice(), operator);
+    serve_beside_operators(context, &desk, seats.as_mut_slice(), operator, journal);
     context.notices.write_refusals();
     context.notices.write_log_trouble();
     let book = desk.into_book();
     let reported = report(&book, output);
     let calls = calls_of(&seats);
     let _history = book.close(seats);
-    Ok(write_calls(reported, calls, output))
+    write_calls(reported, calls, output)
 }
 
 /// Writes the number of calls, after the report was written.

@@ -4,11 +4,12 @@ use bg_access_log::AccessLog;
 use bg_command_line::{MessageTimeout, ServeSettings};
 use bg_endpoints::Directory;
 use bg_forward::RefusalBody;
-use bg_ports::{Notices, Ports};
+use bg_order_journal::FileOpener;
+use bg_ports::{EventLoops, Notices, Ports};
 use bg_strategy::Strategy;
 use std::alloc::Global;
 
-/// What the workers and the operators' side share after the ports are bound.
+/// What the clients' side and the operators' side share after the ports are bound.
 #[derive(Drop)]
 pub struct ServeContext<'a, R> {
     /// The handle for threads, waits, sockets and the clock.
@@ -16,17 +17,14 @@ pub struct ServeContext<'a, R> {
     pub alloc: Global,
     pub strategy: &'a Strategy,
     pub ports: &'a Ports,
-    /// The number of workers, including those of the preview service: 1 to 2,048. With any other number,
-    /// each `open` is refused.
+    /// The number of seats, including those of the preview service: 1 to 2,048. With any other number, each `open` is refused.
     pub seats: u32,
-    /// How many of these workers serve the preview service.
+    /// How many of these seats, the last ones, are those of the preview service.
     pub previews: u32,
-    /// The number of event loops that serve the active port; `None` stands for workers.
-    pub loops: Option<u32>,
+    /// The event loops of the client ports.
+    pub loops: EventLoops,
     /// What the words of the command line set.
     pub words: &'a ServeSettings<'a>,
-    /// The maximum number of connections that each worker takes.
-    pub count: u64,
     /// Whether `quit` begins a graceful shutdown of the client ports.
     pub shuts_down: bool,
     /// The timeout within which a request or a response has to be complete.
@@ -37,6 +35,8 @@ pub struct ServeContext<'a, R> {
     pub directory: Option<&'a Directory>,
     /// What refusals have as their bodies.
     pub refusal_body: RefusalBody,
+    /// What opens the journal of orders, if there is one.
+    pub journal: Option<FileOpener<'a>>,
     /// The notices on standard error.
     pub notices: &'a Notices<'a>,
 }

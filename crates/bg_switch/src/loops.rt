@@ -1,32 +1,33 @@
 //! Serves the clients of both services by event loops.
+ghost use Rattle.std.specs.Prelude.{◌≡◌, ◌*◌, ◌<◌, ◌^◌};
 ghost use Rattle.bg_event_loop.specs.Seats.{AllServed};
 ghost use Rattle.bg_forward.specs.Seats.{AllOut};
 
 use crate::context::ServeContext;
-use crate::workers::response_timeout;
 use bg_book::Desk;
 use bg_client_side::ClientSettings;
-use bg_clients::ServiceLog;
-use bg_command_line::MessageTimeout;
+use bg_command_line::{KeepAlive, MessageTimeout};
 use bg_endpoint_side::Timeouts;
-use bg_event_loop::{BookPorts, EndpointSettings, LoopContext, LoopSettings, run_event_loops};
+use bg_endpoints::ResponseTimeout;
+use bg_event_loop::{
+    BookPorts, EndpointSettings, KeptSettings, LoopContext, LoopSettings, run_event_loops,
+};
 use bg_forward::DeskGate;
 use bg_ledger::{Names, Seat};
 use bg_load::LoadSettings;
 use bg_ports::bounds_of;
+use bg_request_log::ServiceLog;
 use bg_revisions::Service;
 use std::sync::Wait;
 use std::thread;
 use std::thread::Threads;
 use std::time::Clock;
 
-/// Serves the clients of both services by event loops, those of the active service by so many, until their ports are closed and
-/// no client is left. The last seats are those of the preview service; it has one loop for as many of them as the active
-/// service has.
+/// Serves the clients of both services by event loops, until their ports are closed and no client is left. The last seats are
+/// those of the preview service; it has one loop for as many of them as the active service has.
 pub fn serve_by_loops<'a, N: Names + Send + Sync, R: Threads + Wait + Clock + Sync>(
     context: &ServeContext<'a, R>,
     desk: &Desk<N>,
-    loops: u32,
     seats: &mut [Seat<N>],
 )
     requires { AllOut seats.old }
@@ -40,7 +41,7 @@ pub fn serve_by_loops<'a, N: Names + Send + Sync, R: Threads + Wait + Clock + Sy
         &|start, part: &mut [Seat<N>]|
             requires { AllOut part.old }
             ensures { AllServed part.old part.new }
-        { serve_part(context, desk, start, loops, part) },
+        { serve_part(context, desk, start, part) },
     );
 }
 
@@ -49,31 +50,29 @@ fn serve_part<'a, N: Names + Send + Sync, R: Threads + Wait + Clock + Sync>(
     context: &ServeContext<'a, R>,
     desk: &Desk<N>,
     start: usize,
-    loops: u32,
     seats: &mut [Seat<N>],
 )
     requires { AllOut seats.old }
     ensures { AllServed seats.old seats.new }
 {
     if start == 0 {
-        serve_port(context, desk, Service::Active, loops, seats);
+        serve_port(context, desk, Service::Active, seats);
     } else {
-        serve_port(context, desk, Service::Preview, 1, seats);
+        serve_port(context, desk, Service::Preview, seats);
     }
 }
 
-/// Serves the clients of a service by so many event loops, if it has a port.
+/// Serves the clients of a service by the event loops of its port, if it has one.
 fn serve_port<'a, N: Names + Send + Sync, R: Threads + Wait + Clock + Sync>(
     context: &ServeContext<'a, R>,
     desk: &Desk<N>,
     service: Service,
-    loops: u32,
     seats: &mut [Seat<N>],
 )
     requires { AllOut seats.old }
     ensures { AllServed seats.old seats.new }
 {
-    let Some(port) = context.ports.loops_of(service) else {
+    let Some(port) = context.ports.of(service) else {
         return;
     };
     let gate = DeskGate::new(context.rt, desk);
@@ -89,6 +88,7 @@ fn serve_port<'a, N: Names + Send + Sync, R: Threads + Wait + Clock + Sync>(
         service,
         log: context.log,
         redispatches: context.directory.is_some(),
+        keeps_connections: context.words.keep_alive.is_some(),
         refused_for_room: context.notices.refused_requests(),
     };
     let loop_context = LoopContext {
@@ -97,20 +97,16 @@ fn serve_port<'a, N: Names + Send + Sync, R: Threads + Wait + Clock + Sync>(
         ports: &ports,
         log: &log,
         port,
-        settings: settings_of(context, service, loops),
+        settings: settings_of(context, service),
     };
-    run_event_loops(context.rt, &loop_context, seats, loops as usize);
+    let loops = context.loops.of_service(service) as usize;
+    run_event_loops(context.rt, &loop_context, seats, loops);
 }
 
-/// The part of a bound that each of so many loops has, at least 1.
-fn part_of(bound: usize, loops: u32) -> u64 {
-    (bound as u64 / u64::from(loops.max(1))).max(1)
-}
-
-/// The settings of each of so many event loops of a port. Each has an equal part of the bounds of the port.
-fn settings_of<R>(context: &ServeContext<R>, service: Service, loops: u32) -> LoopSettings {
-    let usual = LoopSettings::usual(service).with_refusal_body(context.refusal_body);
-    let bounds = bounds_of(context.words);
+/// The settings of the event loops of a port. The bounds are those of the port.
+fn settings_of<R>(context: &ServeContext<R>, service: Service) -> LoopSettings {
+    let usual = kept_or_closed(context, service).with_refusal_body(context.refusal_body);
+    let bounds = bounds_of(context.words, context.loops);
     LoopSettings {
         clients: ClientSettings {
             request_millis: millis(context.timeout.seconds()),
@@ -121,26 +117,69 @@ fn settings_of<R>(context: &ServeContext<R>, service: Service, loops: u32) -> Lo
             ..usual.endpoints
         },
         loads: LoadSettings {
-            connections: part_of(bounds.connections, loops),
-            request_bytes: part_of(bounds.request_bytes, loops),
-            response_bytes: part_of(bounds.response_bytes, loops),
+            loops: u64::from(context.loops.of_service(service)),
+            ..bounds
         },
-        most_waiting: bounds.connections,
+        most_waiting: bounds.connections as usize,
         aborts_on_close: context.words.abort_on_close,
         grace_millis: millis(u64::from(context.words.shutdown_grace)),
         ..usual
     }
 }
 
+/// The usual settings of a service, with connections that are kept if the words say so.
+fn kept_or_closed<R>(context: &ServeContext<R>, service: Service) -> LoopSettings {
+    let usual = LoopSettings::usual(service);
+    match context.words.keep_alive {
+        Some(keep_alive) => usual.with_kept_connections(kept_settings(
+            keep_alive,
+            most_kept_endpoints(context, service),
+        )),
+        None => usual,
+    }
+}
+
+/// The settings of connections that are kept, of which so many are to endpoints.
+fn kept_settings(keep_alive: KeepAlive, most_endpoints: usize) -> KeptSettings
+    ensures { result ≡ record {
+      most_requests = keep_alive.requests;
+      client_millis = keep_alive.seconds * 1000;
+      most_endpoints = most_endpoints;
+      endpoint_millis = keep_alive.endpoint_seconds * 1000;
+    } }
+{
+    KeptSettings {
+        most_requests: u64::from(keep_alive.requests),
+        client_millis: millis(u64::from(keep_alive.seconds)),
+        most_endpoints,
+        endpoint_millis: millis(u64::from(keep_alive.endpoint_seconds)),
+    }
+}
+
+/// The most connections to endpoints that a loop keeps without a request: all loops together have about as many as requests may
+/// be inside, and each has at least one.
+fn most_kept_endpoints<R>(context: &ServeContext<R>, service: Service) -> usize {
+    let requests = match service {
+        Service::Active => u32::from(context.words.workers),
+        Service::Preview => context.previews,
+    };
+    (requests / context.loops.of_service(service).max(1)).max(1) as usize
+}
+
 /// The timeouts of a request at its endpoint.
 fn timeouts_of(timeout: MessageTimeout) -> Timeouts {
-    let response = response_timeout(timeout);
+    let response = ResponseTimeout {
+        seconds: timeout.seconds(),
+        is_given: matches!(timeout, MessageTimeout::Given(_)),
+    };
     Timeouts {
         response: millis(response.seconds),
         idle: millis(response.idle_seconds()),
     }
 }
 
-fn millis(seconds: u64) -> u64 {
+fn millis(seconds: u64) -> u64
+    ensures { seconds < 2 ^ 32 → result ≡ seconds * 1000 }
+{
     seconds.saturating_mul(1_000)
 }

@@ -1,17 +1,21 @@
 //! A blue-green traffic switch: the program.
 #![tactic(auto)]
 
+mod audit;
 mod book_opener;
 mod buffered_output;
 mod context;
+mod journal;
 mod kernel_clock;
+mod lines_at_desk;
 mod loops;
 mod operator_users;
 mod operators;
 mod revision_ports;
 mod serve;
-mod workers;
+mod serving;
 
+use crate::audit::judge_journal;
 use crate::buffered_output::{check_buffered, replay_buffered};
 use crate::operator_users::operator_users;
 use crate::serve::{RunSettings, serve};
@@ -20,6 +24,7 @@ use bg_command_line::{
     Invocation, InvocationFault, MessageTimeout, ServeSettings, TIMEOUT_VARIABLE,
     parse_command_line,
 };
+use bg_order_journal::FileOpener;
 use bg_script::RunEnd;
 use std::alloc::{AllocError, Global};
 use std::env::VarError;
@@ -35,12 +40,6 @@ use std::{env, io};
 /// The environment variable that gives the path of the access log; `-` is standard error.
 const ACCESS_LOG_VARIABLE: &str = "BG_SWITCH_ACCESS_LOG";
 
-/// The environment variable that gives the number of event loops that serve the clients of the active port. Without it, workers
-/// serve clients.
-const EVENT_LOOPS_VARIABLE: &str = "BG_SWITCH_EVENT_LOOPS";
-
-const MOST_EVENT_LOOPS: u32 = 64;
-
 /// The word that stands for all words if one of them is not UTF-8.
 const NO_TEXT: &str = "\u{FFFD}";
 
@@ -48,8 +47,8 @@ const NO_TEXT: &str = "\u{FFFD}";
 ///
 /// The exit status is 0, also after `--version`, or 1 after a fault. It is 2 after words that are
 /// wrong, and after `--help`, whose text goes to standard error. It is 1 if the run ends early; the reason
-/// goes to standard error. It is also 1 if the access log cannot be opened, or the list of operators cannot be
-/// used; a notice says why.
+/// goes to standard error. It is also 1 if the access log cannot be opened, or the list of operators or the journal cannot
+/// be used; a notice says why.
 fn main(rt: HostRuntime) -> ExitCode {
     let Ok(texts) = process_texts(&rt) else {
         return ended(&rt, RunEnd::OutOfMemory);
@@ -64,9 +63,13 @@ fn main(rt: HostRuntime) -> ExitCode {
     let done = match invocation {
         Invocation::Check => checked(&rt),
         Invocation::Replay { seats } => replayed(&rt, seats),
+        Invocation::Journal { path } => {
+            judge_journal(&rt, path, &mut rt.stdout(), &mut rt.stderr())
+        }
         Invocation::Serve(words) => {
             let (mut input, mut output, mut errors) = (rt.stdin(), rt.stdout(), rt.stderr());
-            served(&rt, words, &mut input, &mut output, &mut errors)
+            let asked = AskedRun::of(&rt, words);
+            served(&rt, asked, &mut input, &mut output, &mut errors)
         }
     };
     match done {
@@ -104,10 +107,28 @@ fn write_hints(rt: &HostRuntime, hints: &[u8]) {
     let _ = rt.stderr().write_all(hints);
 }
 
+/// What the words ask of `serve`.
+#[derive(Drop)]
+struct AskedRun<'w> {
+    words: ServeSettings<'w>,
+    /// What opens the journal, if the words name one.
+    journal: Option<FileOpener<'w>>,
+}
+
+impl<'w> AskedRun<'w> {
+    fn of(rt: &'w HostRuntime, words: ServeSettings<'w>) -> AskedRun<'w> {
+        let journal = match words.journal {
+            Some(path) => Some(FileOpener { rt, path }),
+            None => None,
+        };
+        AskedRun { words, journal }
+    }
+}
+
 /// Carries out `serve` with the settings of the words and of the environment. Returns the exit status.
 fn served<R, I: Read, W: Write, E: Write>(
     rt: &R,
-    words: ServeSettings,
+    asked: AskedRun,
     input: &mut I,
     output: &mut W,
     errors: &mut E,
@@ -125,22 +146,13 @@ where
     };
     let mut settings = RunSettings {
         alloc: rt.alloc(),
-        words,
+        words: asked.words,
         timeout,
         log: log.as_ref(),
         operators,
-        loops: event_loops(rt),
+        journal: asked.journal,
     };
     serve(rt, &mut settings, input, output, errors)
-}
-
-/// The number of event loops that the environment sets, if it sets one.
-fn event_loops<R: Env + AllocGlobal>(rt: &R) -> Option<u32> {
-    let text = env::var(rt, EVENT_LOOPS_VARIABLE).ok()?;
-    match text.as_str().parse::<u32>() {
-        Ok(loops) if loops > 0 => Some(loops.min(MOST_EVENT_LOOPS)),
-        _ => None,
-    }
 }
 
 /// The message timeout that the environment sets. Writes a notice if the environment gives no usable

@@ -1,10 +1,11 @@
 //! The lines of operators, answered one after the other.
 ghost use Rattle.std.specs.Prelude.{◌≡◌};
-ghost use Rattle.bg_switch.specs.Decisions.{is_decision, makes_decision};
+ghost use Rattle.bg_switch.specs.Decisions.{is_decision, is_order, makes_decision};
 ghost use Rattle.bg_switch.specs.Rollbacks.{ends_attempt, is_rollback, is_unsuccessful};
 
 use crate::context::ServeContext;
 use crate::kernel_clock::KernelClock;
+use crate::lines_at_desk::{AnswersLines, InMemory};
 use crate::revision_ports::{DownPorts, update_directory};
 use bg_book::{Control, Desk};
 use bg_control_port::{AfterReply, Asker, ControlPort, LinePriority, Reply};
@@ -13,7 +14,8 @@ use bg_ledger::Names;
 use bg_operator::{Command, LineFault, OperatorLines};
 use bg_ports::Notices;
 use bg_script::{
-    Answer, AtDesk, ControlEnd, LinesEnd, RunEnd, answer_at_desk, answer_before_open, write_answer,
+    Answer, AtDesk, AtJournaledDesk, ControlEnd, DeskJournal, LinesEnd, OrderJournal, RunEnd,
+    answer_before_open, write_answer,
 };
 use std::alloc::Global;
 use std::sync::Wait;
@@ -21,6 +23,12 @@ use std::time::Clock;
 
 /// What the reply to a line that was carried out begins with.
 const CARRIED_OUT: &[u8] = b"ok ";
+
+/// What the reply to an order begins with that was carried out, and that the journal is not known to keep.
+const UNSAVED: &[u8] = b"unsaved ";
+
+/// What the reply to an order begins with that was not carried out, since the journal lacks an earlier one.
+const JOURNAL_FAILED: &[u8] = b"refused JournalFailed";
 
 /// Reads and answers the lines of operators.
 #[derive(Drop)]
@@ -73,27 +81,15 @@ impl<'c, R: Clock + Wait> Operator<'c, R> {
         end
     }
 
-    /// Waits for the next line, and makes its reply by the book of a desk. Counts the lines that are refused because the
-    /// history is full. The ports of a line `down` go to `down`.
-    fn next_at_desk<N: Names>(
+    /// Waits for the next line, and makes its reply by the book of a desk.
+    fn next_at_desk<D: AnswersLines>(
         &mut self,
-        alloc: Global,
-        desk: &Desk<N>,
         control: &ControlPort,
-        down: &DownPorts<R>,
+        at_desk: &mut D,
     ) -> Result<ControlEnd, RunEnd> {
         self.next(control);
         let mut line = self.line.as_slice();
-        let clock = KernelClock;
-        let at_desk = AtDesk {
-            rt: self.rt,
-            alloc,
-            desk,
-            clock: &clock,
-            refused_for_room: self.notices.refused_lines(),
-            receiver: down,
-        };
-        answer_at_desk(at_desk, &mut self.lines, &mut line, &mut self.reply)
+        at_desk.answer(&mut self.lines, &mut line, &mut self.reply)
     }
 
     /// Gives the reply that was made to the line. Returns whether the line is `quit`.
@@ -110,7 +106,7 @@ impl<'c, R: Clock + Wait> Operator<'c, R> {
         false
     }
 
-    /// Answers an `open`.
+    /// Answers the `open` that was the last line. Does nothing if there was none, since a journal opened the book.
     pub fn answer_open(&mut self, control: &ControlPort, answer: &Answer) {
         self.reply.clear();
         match write_answer(answer, &mut self.reply) {
@@ -119,17 +115,37 @@ impl<'c, R: Clock + Wait> Operator<'c, R> {
         }
     }
 
-    /// Gives the reply to the connection whose line it answers. Writes a notice of the line if it was carried out.
+    /// Gives the reply to the connection whose line it answers. Writes a notice of the line if it was carried out, and one of
+    /// the journal if it lacks an order.
     fn deliver(&mut self, control: &ControlPort, after: AfterReply) {
-        if self.reply.starts_with(CARRIED_OUT) {
+        if self.reply.starts_with(CARRIED_OUT) || self.reply.starts_with(UNSAVED) {
             self.note_decision();
         }
+        self.note_journal();
         if let Some(asker) = self.asker.take() {
             let reply = Reply {
                 bytes: self.reply.as_slice(),
                 after,
             };
             control.reply(self.rt, asker, reply, &self.rollbacks);
+        }
+    }
+
+    /// Notes whether the journal lacks an order, as far as the reply tells.
+    fn note_journal(&self) {
+        if self.reply.starts_with(UNSAVED) || self.reply.starts_with(JOURNAL_FAILED) {
+            self.notices.note_journal(true);
+        } else if self.notices.lacks_order() && self.carries_out_order() {
+            self.notices.note_journal(false);
+        }
+    }
+
+    /// Whether the line is an order, and its reply says that it was carried out and is kept.
+    fn carries_out_order(&self) -> bool {
+        let mut line = self.line.as_slice();
+        match OperatorLines::new(self.rollbacks.alloc).next(&mut line) {
+            Ok(Some(read)) => self.reply.starts_with(CARRIED_OUT) && is_order(&read),
+            _ => false,
         }
     }
 
@@ -166,6 +182,13 @@ fn makes_decision(read: &Result<Command, LineFault>) -> bool
         },
         Err(_) => false,
     }
+}
+
+/// Whether a line gives an event to the book, also with `before` in front.
+fn is_order(read: &Result<Command, LineFault>) -> bool
+    ensures { result ≡ is_order read.now }
+{
+    matches!(read, Ok(Command::Control(_) | Command::Before { .. }))
 }
 
 /// Whether an event is one that somebody decides: each but a moment and a number of available endpoints.
@@ -227,25 +250,55 @@ fn is_unsuccessful(verdict: AnalysisResult) -> bool
     }
 }
 
-/// Answers the `open` that opened the book, and then the lines of all operators, up to `quit`. The directory, if
-/// there is one, gets the ports of the revisions that are in use after each line, before its reply is given.
-pub fn answer_operators<'a, N: Names, R: Clock + Wait>(
+/// Answers the `open` that opened the book, and then the lines of all operators, up to `quit`. If there is a journal, it
+/// keeps each order before its reply is given.
+pub fn answer_operators<'a, N: Names, R: Clock + Wait, J: OrderJournal>(
     context: &ServeContext<'a, R>,
     desk: &Desk<N>,
     operator: &mut Operator<R>,
+    journal: Option<DeskJournal<J>>,
 ) {
-    let control = &context.ports.control;
     let down = DownPorts {
         rt: context.rt,
         alloc: context.alloc,
         directory: context.directory,
     };
+    let clock = KernelClock;
+    let at_desk = AtDesk {
+        rt: context.rt,
+        alloc: context.alloc,
+        desk,
+        clock: &clock,
+        refused_for_room: context.notices.refused_lines(),
+        receiver: &down,
+    };
+    match journal {
+        Some(journal) => {
+            let mut at_desk = AtJournaledDesk {
+                desk: at_desk,
+                journal,
+            };
+            answer_up_to_quit(context, desk, operator, &mut at_desk);
+        }
+        None => answer_up_to_quit(context, desk, operator, &mut InMemory { desk: at_desk }),
+    }
+}
+
+/// Answers the `open` that opened the book, and then the lines of all operators, up to `quit`. The directory, if
+/// there is one, gets the ports of the revisions that are in use after each line, before its reply is given.
+fn answer_up_to_quit<'a, N: Names, R: Clock + Wait, D: AnswersLines>(
+    context: &ServeContext<'a, R>,
+    desk: &Desk<N>,
+    operator: &mut Operator<R>,
+    at_desk: &mut D,
+) {
+    let control = &context.ports.control;
     context.notices.note_open();
     update_directory(context, desk);
     operator.answer_open(control, &Answer::Opened);
     for _ in context.rt.forever() {
         context.notices.note_entries(desk.entries_used(context.rt));
-        let end = operator.next_at_desk(context.alloc, desk, control, &down);
+        let end = operator.next_at_desk(control, at_desk);
         update_directory(context, desk);
         if operator.quits(control, end) {
             return;

@@ -1,15 +1,18 @@
-//! `serve`: workers at the client ports, and operators at the control port.
+//! `serve`: clients at the client ports, and operators at the control port.
 
-use crate::book_opener::await_open;
+use crate::book_opener::serve_by_journal;
 use crate::context::ServeContext;
+use crate::journal::{JournalRefusal, write_refusal};
 use bg_access_log::AccessLog;
 use bg_book::Limits;
 use bg_command_line::{Connections, MessageTimeout, ServeSettings};
 use bg_endpoints::{Directory, Share};
 use bg_forward::RefusalBody;
+use bg_loop_port::CutAnswers;
+use bg_order_journal::FileOpener;
 use bg_peers::Users;
 use bg_ports::{
-    BindFault, ClientServing, FewDescriptors, Notices, Ports, preview_workers, service_name,
+    BindFault, EventLoops, FewDescriptors, Notices, Ports, preview_workers, service_name,
 };
 use bg_revisions::Service;
 use bg_script::{Finding, RunEnd, finding_of_input, write_finding};
@@ -23,6 +26,9 @@ use std::sync::Wait;
 use std::thread::Threads;
 use std::time::Clock;
 
+/// The greatest number of seats of a book.
+const MOST_SEATS: u32 = 2_048;
+
 /// The settings of a run of `serve`.
 #[derive(Drop)]
 pub struct RunSettings<'l, 'w> {
@@ -35,21 +41,22 @@ pub struct RunSettings<'l, 'w> {
     pub log: Option<&'l AccessLog>,
     /// The users whose connections the control port serves; `None` stands for all users.
     pub operators: Option<Users>,
-    /// The number of event loops that serve the active port; `None` stands for workers.
-    pub loops: Option<u32>,
+    /// What opens the journal of orders, if there is one.
+    pub journal: Option<FileOpener<'w>>,
 }
 
 /// Reads the whole input as the JSON text of a strategy, and serves clients by this strategy and by the
-/// lines of operators. Returns the exit status: 1 if the strategy has a fault or a port
-/// cannot be bound, for which it writes a line, and otherwise 0. The error is `ReadFailed` or `OutOfMemory`
+/// lines of operators. Returns the exit status: 1 if the strategy has a fault, a port
+/// cannot be bound or the journal cannot be used, for which it writes a line, and otherwise 0. The error is `ReadFailed` or `OutOfMemory`
 /// if the strategy cannot be read, and `WriteFailed` if a write to `output` fails.
 ///
-/// Writes `listening` after the ports are bound. An `open` of an operator opens the book. Each worker
-/// then takes its connections, and operators are answered up to `quit`. When all are done, it writes
-/// the report and the number of the workers' calls. It writes nothing more if no book was opened.
+/// Writes `listening` after the ports are bound. The book is resumed from the journal, if there is one and it has orders; else
+/// an `open` of an operator opens it. Event loops then serve
+/// clients, and operators are answered up to `quit`. When all are done, it writes the report and the number of the calls
+/// of requests. It writes nothing more if no book was opened.
 ///
 /// To `errors` it writes why the strategy is not valid JSON, which of its keys look misspelt, that a
-/// preview port or a list of users has no effect, and which port cannot be bound and why. A failed write to `errors` changes
+/// preview port or a list of users has no effect, which port cannot be bound and why, and why the journal cannot be used. A failed write to `errors` changes
 /// nothing else.
 pub fn serve<R, I: Read, W: Write, E: Write>(
     rt: &R,
@@ -91,22 +98,38 @@ where
     if settings.operators.is_some() && settings.words.control.is_none() {
         write_useless_list(errors);
     }
-    write_few_descriptors(&settings.words, errors);
+    write_few_descriptors(rt, &settings.words, errors);
     let operators = settings.operators.take();
     match bind_ports(rt, settings, operators) {
-        // one path for both results, since each path on which the ports are dropped is proved by itself
+        // one path for all results, since each path on which the ports are dropped is proved by itself
         Ok(ports) => {
             let end = serve_at_ports(rt, settings, strategy, &ports, output);
             ports.remove_socket_file(rt);
-            match end {
-                Ok(()) => {
-                    write_cut_responses(rt, &ports, errors);
-                    Ok(0)
-                }
-                Err(end) => Err(end),
-            }
+            write_end(settings, end, &ports, output, errors)
         }
         Err(fault) => write_bind_fault(&fault, output, errors),
+    }
+}
+
+/// Writes what is left to say once clients are no longer served, or why they were not served by the journal. Returns the exit
+/// status.
+fn write_end<W: Write, E: Write>(
+    settings: &RunSettings,
+    end: Result<Result<(), RunEnd>, JournalRefusal>,
+    ports: &Ports,
+    output: &mut W,
+    errors: &mut E,
+) -> Result<u8, RunEnd> {
+    match end {
+        Ok(Ok(())) => {
+            write_cut_responses(ports, errors);
+            Ok(0)
+        }
+        Ok(Err(end)) => Err(end),
+        Err(refusal) => {
+            let path = settings.words.journal.unwrap_or("");
+            write_refusal(path, &refusal, output, errors)
+        }
     }
 }
 
@@ -117,38 +140,36 @@ fn bind_ports<'w, R>(
     operators: Option<Users>,
 ) -> Result<Ports, BindFault<'w>>
 where
-    R: Files + Net<Listener = TcpListener, Stream = TcpStream> + Clock,
+    R: Files + Net<Listener = TcpListener, Stream = TcpStream> + Threads + Clock,
 {
-    Ports::bind(
-        rt,
-        settings.alloc,
-        &settings.words,
-        ClientServing {
-            request_seconds: settings.timeout.seconds(),
-            by_loops: settings.loops.is_some(),
-        },
-        operators,
-    )
+    let loops = EventLoops::of(rt, &settings.words);
+    Ports::bind(rt, settings.alloc, &settings.words, loops, operators)
 }
 
-/// Writes `listening`, and serves operators and clients at ports that are bound.
+/// Serves operators and clients at ports that are bound.
 fn serve_at_ports<R, W: Write>(
     rt: &R,
     settings: &RunSettings,
     strategy: &Strategy,
     ports: &Ports,
     output: &mut W,
-) -> Result<(), RunEnd>
+) -> Result<Result<(), RunEnd>, JournalRefusal>
 where
     R: Net<Listener = TcpListener, Stream = TcpStream> + Threads + Wait + Clock + Sync,
 {
-    written(write_listening(output))?;
     let words = &settings.words;
     let most_entries = Limits::usual().entries;
-    let notices = Notices::new(settings.alloc, ports, words, settings.log, most_entries);
+    let loops = EventLoops::of(rt, words);
+    let notices = Notices::new(
+        settings.alloc,
+        ports,
+        loops,
+        settings.log,
+        most_entries,
+    ).with_journal(words.journal);
     let previews = preview_workers(words);
-    let seats = seats_of(words.workers, settings.loops).saturating_add(previews);
-    let directory = directory_of(rt, settings.alloc, words, seats);
+    let seats = active_seats(words, loops.active).saturating_add(previews);
+    let directory = directory_of(rt, settings.alloc, words);
     let context = ServeContext {
         rt,
         alloc: settings.alloc,
@@ -156,53 +177,37 @@ where
         ports,
         seats,
         previews,
-        loops: settings.loops,
+        loops,
         words,
-        count: most_connections(words.connections),
         shuts_down: words.connections == Connections::Forever,
         timeout: settings.timeout,
         log: settings.log,
         directory: directory.as_ref(),
         refusal_body: RefusalBody::of_pages(words.error_pages),
+        journal: settings.journal,
         notices: &notices,
     };
-    await_open(&context, output)
+    serve_by_journal(&context, output)
 }
 
-/// The most seats of the active service, so that those of both services are at most 2,048.
-const MOST_SEATS: u32 = 1_024;
-
-/// The number of seats of the active service with so many workers, or with so many event loops. Each loop has as many as
-/// requests may be inside at a time, if there are so many.
-fn seats_of(workers: u16, loops: Option<u32>) -> u32 {
-    let workers = u32::from(workers);
-    workers
-        .saturating_mul(loops.unwrap_or(1))
-        .min(workers.max(MOST_SEATS))
+/// The number of seats of the active service. Each of its event loops has as many as requests may be inside at a time, so
+/// that no request waits for a seat that another loop has, as far as the book has seats.
+fn active_seats(words: &ServeSettings, loops: u32) -> u32 {
+    let loops = loops.max(1);
+    let most_of_a_loop = MOST_SEATS.saturating_sub(preview_workers(words)) / loops;
+    u32::from(words.workers)
+        .min(most_of_a_loop)
+        .saturating_mul(loops)
 }
 
-/// The maximum number of connections that each worker takes.
-fn most_connections(connections: Connections) -> u64 {
-    match connections {
-        Connections::Count(count) => u64::from(count),
-        Connections::Forever => u64::MAX,
-    }
-}
-
-/// The directory of endpoints of a switch that forwards so many requests at a time; `None` without
-/// `--redispatch`.
-fn directory_of<R: Clock>(
-    rt: &R,
-    alloc: Global,
-    settings: &ServeSettings,
-    concurrency: u32,
-) -> Option<Directory> {
+/// The directory of endpoints; `None` without `--redispatch`.
+fn directory_of<R: Clock>(rt: &R, alloc: Global, settings: &ServeSettings) -> Option<Directory> {
     if !settings.redispatch {
         return None;
     }
     let share = Share {
         given: settings.endpoint_limit,
-        concurrency,
+        concurrency: u32::from(settings.workers).saturating_add(preview_workers(settings)),
     };
     Some(Directory::new(rt, alloc, share))
 }
@@ -224,33 +229,26 @@ fn write_useless_list<E: Write>(errors: &mut E) {
 }
 
 /// Writes that the limit on descriptors leaves few of them to pending connections, if it does.
-fn write_few_descriptors<E: Write>(settings: &ServeSettings, errors: &mut E) {
-    if let Some(few) = FewDescriptors::of(settings) {
+fn write_few_descriptors<R: Threads, E: Write>(rt: &R, settings: &ServeSettings, errors: &mut E) {
+    if let Some(few) = FewDescriptors::of(settings, EventLoops::of(rt, settings)) {
         let _ = writeln!(errors, "bg_switch: {few}");
     }
 }
 
 /// Writes how many responses were cut at each client port, if any were.
-fn write_cut_responses<R: Wait, E: Write>(rt: &R, ports: &Ports, errors: &mut E) {
+fn write_cut_responses<E: Write>(ports: &Ports, errors: &mut E) {
     for service in [Service::Active, Service::Preview] {
-        let name = service_name(service);
-        if let Some(port) = ports.of(service) {
-            let cut = port.take_cut_responses(rt);
-            write_cut(name, cut.responses, cut.bytes, errors);
-        } else if let Some(port) = ports.loops_of(service) {
-            let cut = port.take_cut_answers();
-            write_cut(name, cut.answers, cut.bytes, errors);
+        let Some(port) = ports.of(service) else {
+            continue;
+        };
+        let CutAnswers { answers, bytes } = port.take_cut_answers();
+        if answers > 0 {
+            let _ = writeln!(
+                errors,
+                "bg_switch: responses of the {} port that were cut: {answers}, bytes that were not written: {bytes}",
+                service_name(service)
+            );
         }
-    }
-}
-
-/// Writes that so many responses of a port were cut, if any were.
-fn write_cut<E: Write>(port: &str, responses: u64, bytes: u64, errors: &mut E) {
-    if responses > 0 {
-        let _ = writeln!(
-            errors,
-            "bg_switch: responses of the {port} port that were cut: {responses}, bytes that were not written: {bytes}"
-        );
     }
 }
 
@@ -266,9 +264,9 @@ fn write_bind_fault<W: Write, E: Write>(
 }
 
 /// Writes that the ports are bound, and flushes.
-fn write_listening<W: Write>(output: &mut W) -> io::Result<()> {
-    writeln!(output, "listening")?;
-    output.flush()
+pub(crate) fn write_listening<W: Write>(output: &mut W) -> Result<(), RunEnd> {
+    written(writeln!(output, "listening"))?;
+    written(output.flush())
 }
 
 /// The end of the run if a write failed.

@@ -9,13 +9,13 @@ use crate::stop::Stop;
 use crate::words::Words;
 use bg_access_log::AccessLog;
 use bg_book::{Book, Control, Desk, Limits, RolloutOpening};
-use bg_clients::ServiceLog;
 use bg_endpoints::{Directory, OwnPorts, PortList, PortLists, Share};
-use bg_event_loop::{BookPorts, LoopContext, LoopSettings, run_event_loop};
+use bg_event_loop::{BookPorts, KeptSettings, LoopContext, LoopSettings, run_event_loop};
 use bg_forward::DeskGate;
 use bg_http::Persistence;
 use bg_ledger::{Blanks, Names, Seat};
 use bg_loop_port::{LoopPort, LoopPortSettings};
+use bg_request_log::ServiceLog;
 use bg_revisions::Service;
 use bg_strategy::Strategy;
 use bg_strategy_text::read;
@@ -29,6 +29,14 @@ use std::time::Clock;
 
 /// The number of seats.
 const SEATS: u32 = 4;
+
+/// How long connections are kept, if they are.
+const KEPT: KeptSettings = KeptSettings {
+    most_requests: 1_000,
+    client_millis: 75_000,
+    most_endpoints: 1_024,
+    endpoint_millis: 60_000,
+};
 
 /// The strategy for revisions of one endpoint, and of two.
 const ONE: &[u8] =
@@ -58,8 +66,11 @@ where
 {
     let alloc = rt.alloc();
     let port = LoopPort::new(
+        rt,
+        alloc,
         listener,
         LoopPortSettings {
+            loops: 1,
             concurrency: u64::from(SEATS),
             connections: None,
         },
@@ -202,6 +213,7 @@ fn serve_seats<'a, N: Names, R: Wait + Clock>(
         service: Service::Active,
         log: Some(run.log),
         redispatches: run.words.redispatches,
+        keeps_connections: run.words.persistence == Persistence::Keep,
         refused_for_room: &refused_for_room,
     };
     let context = LoopContext {
@@ -219,6 +231,6 @@ fn settings_of(words: &Words) -> LoopSettings {
     let usual = LoopSettings::usual(Service::Active).with_refusal_body(words.refusal_body);
     match words.persistence {
         Persistence::Close => usual,
-        Persistence::Keep => usual.with_kept_connections(),
+        Persistence::Keep => usual.with_kept_connections(KEPT),
     }
 }

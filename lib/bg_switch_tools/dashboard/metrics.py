@@ -144,6 +144,18 @@ def _of_requests(totals: Totals) -> Iterator[Metric]:
         LABELS,
         [(labels, counted.gone) for labels, counted in totals.items()],
     )
+    yield counter(
+        "bg_switch_kept_connection_requests",
+        "Requests on connections of clients that had carried a request before.",
+        LABELS,
+        [(labels, counted.kept) for labels, counted in totals.items()],
+    )
+    yield counter(
+        "bg_switch_upstream_reused_requests",
+        "Requests on connections to endpoints that had carried a request before.",
+        LABELS,
+        [(labels, counted.reused) for labels, counted in totals.items()],
+    )
     yield _histogram(
         "bg_switch_http_request_duration_seconds",
         "From the connection of a client to its end.",

@@ -54,11 +54,13 @@ class DurationTally:
 
 class RequestCounts:
     """Requests that are counted together: `redispatched` are those of which another endpoint was
-    dialled than that of the slot, `retries` the connects after the first one of each, and `gone`
-    those whose clients had gone before their answers."""
+    dialled than that of the slot, `retries` the connects after the first one of each, `gone` those
+    whose clients had gone before their answers, `kept` those on connections of clients that had
+    carried a request before, and `reused` those on such connections to endpoints."""
 
     def __init__(self) -> None:
         self.requests = self.bytes = self.redispatched = self.retries = self.gone = 0
+        self.kept = self.reused = 0
         self.durations = DurationTally()
         self.upstream = DurationTally()
 
@@ -68,6 +70,8 @@ class RequestCounts:
         self.redispatched += entry.slot_port is not None
         self.retries += max((entry.tries or 0) - 1, 0)
         self.gone += entry.has_client_gone
+        self.kept += entry.is_on_kept_connection
+        self.reused += bool(entry.upstream_reused)
         self.durations.add(entry.duration_ms)
         if entry.upstream_ms is not None:
             self.upstream.add(entry.upstream_ms)

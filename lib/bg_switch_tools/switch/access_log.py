@@ -27,7 +27,7 @@ MOST_TIMES = (
 # no number of the switch is as large, and each up to it can be counted and written as a float
 GREATEST = 1 << 64
 
-TEXT, COUNT, NUMBER, NOTHING = (str,), (int,), (int, float), type(None)
+TEXT, COUNT, NUMBER, FLAG, NOTHING = (str,), (int,), (int, float), (bool,), type(None)
 # The members of a line, each with the types that it can have.
 MEMBERS: Mapping[str, tuple[type, ...]] = {
     "service": TEXT,
@@ -49,8 +49,11 @@ OPTIONAL: Mapping[str, tuple[type, ...]] = {
     "slot_port": (*COUNT, NOTHING),
     "tries": (*COUNT, NOTHING),
     "idle_connections": (*COUNT, NOTHING),
+    "connection_request": (*COUNT, NOTHING),
+    "upstream_reused": (*FLAG, NOTHING),
 }
 TYPES = {**MEMBERS, **OPTIONAL}
+NUMBERS = frozenset(NUMBER)
 REQUIRED = operator.itemgetter(*MEMBERS)
 
 
@@ -62,7 +65,9 @@ class LogEntry(NamedTuple):
     """A request that ended. `time` counts seconds from 1970; `revision` and `request` are numbers
     of the switch; `slot_port` is the port of the request's slot if the endpoint at another one,
     `port`, was dialled; `tries` counts its connects; `idle_connections` counts connections that
-    ended before it without having sent a byte, which are no requests.
+    ended before it without having sent a byte, which are no requests. If connections are kept,
+    `connection_request` is its number among the requests of its connection, from 1 on, and
+    `upstream_reused` whether the connection to its endpoint had carried a request before.
     """
 
     time: float
@@ -82,6 +87,8 @@ class LogEntry(NamedTuple):
     slot_port: int | None = None
     tries: int | None = None
     idle_connections: int | None = None
+    connection_request: int | None = None
+    upstream_reused: bool | None = None
 
     @property
     def is_error(self) -> bool:
@@ -101,8 +108,14 @@ class LogEntry(NamedTuple):
         return self.revision is None and self.reason == NO_ENDPOINT
 
     @property
+    def is_on_kept_connection(self) -> bool:
+        """Whether the connection of its client had carried a request before."""
+        return (self.connection_request or 0) > 1
+
+    @property
     def begun(self) -> float:
-        """When the connection was accepted, in seconds from 1970."""
+        """When the connection was accepted, in seconds from 1970; of a later request of a
+        connection, when its first byte came."""
         return self.time - self.duration_ms / 1000
 
 
@@ -162,7 +175,7 @@ def _numbers_of(types: tuple[type, ...]) -> Callable[[Sequence[object]], tuple[f
     have its type. `bool` is not the type of a member, though it is an `int`."""
     if not all(each in known for each, known in zip(types, TYPES.values())):
         return None
-    places = [place for place, each in enumerate(types) if each is not str and each is not NOTHING]
+    places = [place for place, each in enumerate(types) if each in NUMBERS]
     # the first one twice, since of a single place it would give no tuple
     return operator.itemgetter(places[0], *places)
 

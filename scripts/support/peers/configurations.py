@@ -12,8 +12,8 @@ SWITCH = "bg_switch"
 MOST_CONNECTIONS = 8192
 BACKLOG = 4096
 CONNECT_SECONDS, MESSAGE_SECONDS = 5, 60
-# More than any run has. nginx closes a connection after this number of requests.
-MOST_REQUESTS = 1_000_000_000
+# More than a connection of any run has. The proxies close it after this number of requests.
+MOST_REQUESTS = 1_000_000
 
 
 class Mode(enum.Enum):
@@ -35,7 +35,7 @@ class Mode(enum.Enum):
 # The flags of `serve` for each mode; None if no flags give it. A mode is left out if the help of
 # `serve` does not name its flags.
 SWITCH_FLAGS: Mapping[Mode, tuple[str, ...] | None] = {
-    Mode.BOTH: ("--keep-alive",),
+    Mode.BOTH: ("--keep-alive", "--keep-alive-requests", str(MOST_REQUESTS)),
     Mode.CLIENT: None,
     Mode.NONE: (),
 }

@@ -42,7 +42,9 @@ def is_built(program: str = PROGRAM) -> bool:
 
 
 class Recorder:
-    """An endpoint that keeps all bytes of each connection, from its first to its end."""
+    """An endpoint that keeps all bytes of each connection, from its first to its end: in one text, or
+    in one for each request that leaves its connection open. Bytes behind a request that came before
+    its answer are in its text, and others in the next one."""
 
     def __init__(self) -> None:
         self.texts = queue.Queue[bytes]()
@@ -61,12 +63,29 @@ class Recorder:
         text = b""
         with connection, contextlib.suppress(OSError):
             connection.settimeout(LONGEST)
-            while not is_whole(text) and (piece := connection.recv(65536)):
-                text += piece
-            connection.sendall(response(b""))
-            connection.shutdown(socket.SHUT_WR)
-            text += clients.received(connection)
-        self.texts.put(text)
+            while text := self.received_whole(connection):
+                if asks_to_close(text):
+                    connection.sendall(response(b""))
+                    connection.shutdown(socket.SHUT_WR)
+                    text += clients.received(connection)
+                    break
+                # before its answer, so that it is there as soon as a client has that
+                self.texts.put(text)
+                connection.sendall(response(b""))
+        if text:
+            self.texts.put(text)
+
+    def received_whole(self, connection: socket.socket) -> bytes:
+        """What comes until a request is whole by its length, or the connection ends."""
+        text = b""
+        while not is_whole(text) and (piece := connection.recv(65536)):
+            text += piece
+        return text
+
+
+def asks_to_close(text: bytes) -> bool:
+    """Whether a text says in its head that its connection is to be closed, or is no whole request."""
+    return not is_whole(text) or b"\r\n" + CLOSE in text.partition(END_OF_HEAD)[0] + b"\r\n"
 
 
 def is_whole(text: bytes) -> bool:
@@ -83,9 +102,12 @@ class Answered(NamedTuple):
     statuses: tuple[int, ...]
     texts: tuple[bytes, ...]
 
-    def is_answered(self) -> bool:
-        """Whether the endpoint's answers are all that the client got, one for each text."""
-        return self.statuses == (FORWARDED,) * len(self.texts)
+    def is_answered(self, keeps: bool = False) -> bool:
+        """Whether the endpoint's answers are all that the client got, one for each text. If
+        connections are kept, a refusal of what is behind them may follow."""
+        answers, rest = self.statuses[: len(self.texts)], self.statuses[len(self.texts) :]
+        is_rest_right = FORWARDED not in rest and len(rest) <= 1 if keeps else not rest
+        return answers == (FORWARDED,) * len(self.texts) and is_rest_right
 
     def __str__(self) -> str:
         return "forwards" if self.texts else ", ".join(map(str, self.statuses)) or "closes"
@@ -94,10 +116,13 @@ class Answered(NamedTuple):
 class Switch:
     """A running switch before a recorder, with one connection after the other."""
 
-    def __init__(self, recorder: Recorder, program: Sequence[str]) -> None:
+    def __init__(
+        self, recorder: Recorder, program: Sequence[str], flags: Sequence[str] = ()
+    ) -> None:
         self.recorder = recorder
         self.active, control, preview = (reserved(PORTS) for _ in range(3))
-        words = words_of_serve(self.active, control, preview, 1, None, ("--concurrency", "8"))
+        given = ("--concurrency", "8", *flags)
+        words = words_of_serve(self.active, control, preview, 1, None, given)
         self.process = subprocess.Popen(
             [*program, *words], stdin=subprocess.PIPE, stdout=subprocess.PIPE, text=True, cwd=TOP
         )
@@ -140,9 +165,9 @@ class Switch:
 
 
 @contextlib.contextmanager
-def switch(program: Sequence[str] = (PROGRAM,)) -> Iterator[Switch]:
-    """A switch, until the end of the block: by default the built program."""
-    one = Switch(Recorder(), program)
+def switch(program: Sequence[str] = (PROGRAM,), flags: Sequence[str] = ()) -> Iterator[Switch]:
+    """A switch with these flags, until the end of the block: by default the built program."""
+    one = Switch(Recorder(), program, flags)
     try:
         yield one
     finally:

@@ -1,13 +1,13 @@
 //! How large requests are paused while requests take too much memory.
 ghost use Rattle.std.specs.Prelude.{◌≡◌, ◌<◌, ◌≤◌, ℕ, EachIndex, IfNone, IfSome, false, length, true};
 ghost use Rattle.bg_load.specs.Changes.{turned_at};
-ghost use Rattle.bg_load.specs.Pauses.{IsAsRuled, enough, is_large_from, is_stuck, is_to_pause, looked, pauses_now, pauses_of};
-ghost use Rattle.bg_load.specs.Pauses.{regulated, seeks_stuck};
+ghost use Rattle.bg_load.specs.Pauses.{IsAsRuled, enough, has_paused, is_large_from, is_stuck, is_to_pause, looked};
+ghost use Rattle.bg_load.specs.Pauses.{pauses_now, pauses_of, regulated, seeks_stuck};
 ghost use Rattle.bg_load.specs.Registers.{at};
 ghost use Rattle.bg_load.specs.declared.pauses.Pauses.TheVariants as pauses;
 
 use super::Loads;
-use crate::pauses::Pauses;
+use crate::pauses::{Pauses, is_large_from};
 use crate::ranking::Ranking;
 use crate::settings::LoadSettings;
 
@@ -27,10 +27,11 @@ impl Loads {
     /// Looks whether requests take too much memory, and then pauses or resumes one request, the first one by its key of
     /// those that are otherwise than the rule says. Gives its key; `None` if each is as the rule says.
     ///
-    /// Pauses begin when requests take more than `request_bytes` of the settings, and go on until they take less than three
-    /// quarters of that. Meanwhile all large requests are paused but the eight oldest, so that some are completed; these too
-    /// while the requests that wait for a seat alone take more than half of `request_bytes`, since further ones would only
-    /// wait with them. A request is large from 32,768 bytes on. The pace of a request is measured from the end of a pause on.
+    /// Pauses begin when the requests of all loops of the port take more than `request_bytes` of the settings, and go on until
+    /// they take less than three quarters of that. Meanwhile all large requests of this loop are paused but its eight oldest, so
+    /// that some are completed; these too while the requests that wait for a seat alone, of all loops, take more than half of
+    /// `request_bytes`, since further ones would only wait with them. A request is large from 32,768 bytes on. The pace of a
+    /// request is measured from the end of a pause on.
     pub fn regulate(&mut self, now: u64) -> Option<usize>
         ensures unruled { IfSome result (λ key. ¬ IsAsRuled (pauses_of (looked self.old)) self.old.places
             (at self.old.places key)) }
@@ -42,7 +43,7 @@ impl Loads {
         ensures kept { IfNone result (self.new ≡ looked self.old) }
     {
         self.is_pausing = self.pauses_now();
-        if !self.is_pausing && self.totals().paused == 0 {
+        if !self.is_pausing && !self.has_paused() {
             return None;
         }
         let key = self.first_unruled(self.pauses())?;
@@ -50,9 +51,23 @@ impl Loads {
         Some(key)
     }
 
+    /// Whether the request of a connection is large, so that it may be paused. False if no connection has the key.
+    pub fn is_large(&self, key: usize) -> bool
+        ensures { result ≡ is_large_from 0 (at self.now.places key) }
+    {
+        is_large_from(self.table.get(key), 0)
+    }
+
+    /// Whether a request of this loop is paused.
+    pub fn has_paused(&self) -> bool
+        ensures { result ≡ has_paused self.now }
+    {
+        self.totals().paused > 0
+    }
+
     /// The key of the first connection from this one on whose request is large, paused or not, and slower than its pace,
-    /// while large requests are paused and requests take three quarters of `request_bytes` of the settings, or more; `None`
-    /// if there is none. If no bytes of it wait to be read, its client is to be given up.
+    /// while large requests are paused and those of all loops take three quarters of `request_bytes` of the settings, or more;
+    /// `None` if there is none. If no bytes of it wait to be read, its client is to be given up.
     pub fn stuck_from(&self, from: usize, now: u64) -> Option<usize>
         ensures when { IfSome result (λ _. seeks_stuck self.now ≡ true) }
         ensures from { IfSome result (λ key. from ≤ key) }
@@ -62,8 +77,7 @@ impl Loads {
         ensures none { IfNone result (seeks_stuck self.now ≡ true → (other : ℕ) → from ≤ other
             → other < length self.now.places → is_stuck now (at self.now.places other) ≡ false) }
     {
-        let taken = self.totals().request_bytes;
-        if !self.is_pausing || taken < self.settings.enough() {
+        if !self.is_pausing || self.request_bytes() < u128::from(self.settings.enough()) {
             return None;
         }
         self.table.stuck_from(from, now)
@@ -71,10 +85,11 @@ impl Loads {
 
     /// Whether large requests are to be paused, by what requests take now.
     fn pauses_now(&self) -> bool
-        ensures { result ≡ pauses_now self.now.settings self.now.places self.now.is_pausing }
+        ensures { result ≡ pauses_now self.now }
     {
-        let taken = self.totals().request_bytes;
-        taken > self.settings.request_bytes || self.is_pausing && taken >= self.settings.enough()
+        let taken = self.request_bytes();
+        taken > u128::from(self.settings.request_bytes)
+            || self.is_pausing && taken >= u128::from(self.settings.enough())
     }
 
     /// Which large requests are paused.
@@ -83,7 +98,7 @@ impl Loads {
     {
         if !self.is_pausing {
             Pauses::Off
-        } else if self.totals().waiting_bytes > self.settings.request_bytes / 2 {
+        } else if self.waiting_bytes() > u128::from(self.settings.request_bytes / 2) {
             Pauses::All
         } else {
             Pauses::Younger

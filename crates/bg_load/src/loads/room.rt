@@ -1,29 +1,43 @@
-//! When an event loop is full, and which connections make room.
-ghost use Rattle.std.specs.Prelude.{◌≡◌, ◌<◌, ℕ, EachIndex, IfNone, IfSome, IsSome, None};
+//! When the loops of a port are full, and which connections make room.
+ghost use Rattle.std.specs.Prelude.{◌≡◌, ◌<◌, ℕ, EachIndex, IfNone, IfSome, IsSome, None, nat_lt};
 ghost use Rattle.bg_load.specs.Rankings.{IsEarlier, IsNoLater};
 ghost use Rattle.bg_load.specs.Registers.{at};
-ghost use Rattle.bg_load.specs.Room.{idle_since, is_full, pending, slow_at};
+ghost use Rattle.bg_load.specs.Room.{idle_since, is_full, is_full_of_responses, pending, slow_at};
+ghost use Rattle.bg_load.specs.Totals.{response_bytes_in};
 
 use super::Loads;
 use crate::among::Among;
 use crate::ranking::Ranking;
 
 impl Loads {
-    /// The number of connections that hold no seat.
-    fn pending(&self) -> u64
+    /// The number of connections of all loops that hold no seat.
+    fn pending(&self) -> u128
         ensures { result ≡ pending self.now }
     {
-        let totals = self.totals();
-        totals.connections.saturating_sub(totals.inside)
+        self.connections().saturating_sub(self.inside())
     }
 
-    /// Whether no further connection is to be accepted for now: as many as the settings allow hold no seat, or responses
-    /// take more than twice the memory that the settings give.
+    /// Whether no further connection is to be accepted for now: as many connections of all loops as the settings allow hold no
+    /// seat, or `is_full_of_responses`.
     pub fn is_full(&self) -> bool
         ensures { result ≡ is_full self.now }
     {
-        self.pending() >= self.settings.connections
-            || self.totals().response_bytes / 2 > self.settings.response_bytes
+        self.pending() >= u128::from(self.settings.connections) || self.is_full_of_responses()
+    }
+
+    /// Whether the responses of all loops take more than twice the memory that the settings give: no further connection is to be
+    /// accepted for now.
+    pub fn is_full_of_responses(&self) -> bool
+        ensures { result ≡ is_full_of_responses self.now }
+    {
+        self.response_bytes() / 2 > u128::from(self.settings.response_bytes)
+    }
+
+    /// Whether the responses of all loops take more memory than this, in bytes.
+    pub fn responses_take_more_than(&self, bytes: u64) -> bool
+        ensures { result ≡ nat_lt bytes (response_bytes_in self.now) }
+    {
+        self.response_bytes() > u128::from(bytes)
     }
 
     /// The key of the connection that is slow and has made no progress for the longest time, among these, the first by its

@@ -3,4 +3,4 @@ use Rattle.bg_event_loop.proofs.running.admit.Goals as goal
 
 pub loop-preserved : goal.loop-preserved
 loop-preserved g c =
-    all_used_twice _ _ _ c.loop.invariant (all_used_twice _ _ _ c.enter_at-ticket.ensures c.leave_at.ensures)
+    all_used_twice _ _ _ c.loop.invariant (all_used_twice _ _ _ c.enter_at-ticket.ensures.used c.leave_at.ensures)

@@ -3,4 +3,4 @@ use Rattle.bg_event_loop.proofs.running.serve_due.Goals as goal
 
 pub loop-preserved : goal.loop-preserved
 loop-preserved g c =
-    all_used_twice _ _ _ c.loop.invariant (all_used_twice _ _ _ c.is_cut-is_given_up.ensures c.leave_at.ensures)
+    all_used_twice _ _ _ c.loop.invariant (all_used_twice _ _ _ c.is_cut-is_given_up.ensures.used c.leave_at.ensures)

@@ -1,4 +1,3 @@
-use Rattle.std.proofs.Common.{arith}
 use Rattle.std.proofs.lemmas.List.Edits.{map_over_more}
 use Rattle.bg_event_loop.proofs.SeatLemmas.{map-whole}
 use Rattle.bg_event_loop.specs.Seats.{emptied}

@@ -1,15 +1,8 @@
-use Rattle.bg_http.proofs.Appended.{appends_both, appends_then}
+use Rattle.bg_http.proofs.Appended.{appends_then}
 use Rattle.bg_http.proofs.writers.write_request.Goals as goal
 
 pub returns : goal.returns
 returns g c =
     let said = g.W.Write.contents in
-    let first = said c.args.writer.now in
-    appends_then c.write_given.result first (said c.write_end_of_head.new.writer) (said c.write_given.new.writer) _ _
-    (appends_both first (said c.write_size.new.writer) (said c.write_end_of_head.new.writer) _ _
-    (appends_both first (said c.write_via.new.writer) (said c.write_size.new.writer) _ _
-    (appends_both first (said c.write_request_fields.new.writer) (said c.write_via.new.writer) _ _
-    (appends_both first (said c.write_host.new.writer) (said c.write_request_fields.new.writer) _ _
-    (appends_both first (said c.write_request_line.new.writer) (said c.write_host.new.writer) _ _
-    c.in_ok-write_request_line.ensures c.in_ok-write_host.ensures) c.in_ok-write_request_fields.ensures) c.in_ok-write_via.ensures)
-    c.in_ok-write_size.ensures) c.in_ok-write_end_of_head.ensures) c.write_given.ensures
+    appends_then c.write_given.result (said c.args.writer.now) (said c.write_request_head.new.writer)
+    (said c.write_given.new.writer) _ _ c.in_ok-write_request_head.ensures c.write_given.ensures

@@ -9,4 +9,6 @@ returns c =
     let four = added_then _ _ _ _ _ three c.in_ok-add_number-4.ensures in
     let five = added_then _ _ _ _ _ four (rw c.as_number.ensures at c.in_ok-add_optional.ensures) in
     let six = added_then _ _ _ _ _ five (rw c.as_wide.ensures at c.in_ok-add_optional-2.ensures) in
-    adds_then _ _ _ _ _ _ six c.add_optional-3.ensures
+    let seven = added_then _ _ _ _ _ six c.in_ok-add_optional-3.ensures in
+    let eight = added_then _ _ _ _ _ seven c.in_ok-add_optional-4.ensures in
+    adds_then _ _ _ _ _ _ eight c.add_optional_flag.ensures

@@ -16,7 +16,7 @@ invariant_of-next c =
     let come = c.has_come_with-has_come.ensures ∙ ap (λ b. b || not (is_empty bytes)) c.self.invariant.1 ∙ come_more seen bytes in
     let version = c.after-version.ensures ∙ ap (λ left. awaited_on left bytes) c.self.invariant.2
     ∙ awaited_more (codes "HTTP/1.1") seen bytes in
-    rw step.none_yet.0 (c.self.invariant.0, come, version, c.self.invariant.3)
+    rw step.none_yet.0 (c.self.invariant.0, come, version, c.self.invariant.3, c.self.invariant.4)
 
 pub returns-in-Ok-None : goal.returns-in-Ok-None
 returns-in-Ok-None c =

@@ -1,0 +1,31 @@
+//! The arguments among the matches of `clap`.
+ghost use Rattle.std.specs.Prelude.{◌≡◌, Some, is_some, option_map, true};
+ghost use Rattle.clap.specs.Words.{first_of, found_of, rows_of};
+ghost use Rattle.bg_command_line.specs.CommandLine.{has_flag};
+
+use clap::ArgMatches;
+
+/// Whether a flag is given. `clap` gives it the value `true` or `false`.
+pub(crate) fn has_flag(matches: &ArgMatches, id: &str) -> bool
+    ensures { result ≡ has_flag id.now (rows_of (found_of matches.now)) }
+{
+    match argument_text(matches, id) {
+        Some(text) => text == "true",
+        None => false,
+    }
+}
+
+/// The text of an argument, if it is given.
+pub(crate) fn argument_text<'a>(matches: &ArgMatches<'a>, id: &str) -> Option<&'a str>
+    ensures { option_map (λ t. t.now) result ≡ first_of id.now (rows_of (found_of matches.now)) }
+{
+    matches.get_str(id)
+}
+
+/// The text of an argument that is required.
+pub(crate) fn required_text<'a>(matches: &ArgMatches<'a>, id: &str) -> &'a str
+    requires { is_some (first_of id.now (rows_of (found_of matches.now))) ≡ true }
+    ensures { first_of id.now (rows_of (found_of matches.now)) ≡ Some result.now }
+{
+    argument_text(matches, id).unwrap()
+}

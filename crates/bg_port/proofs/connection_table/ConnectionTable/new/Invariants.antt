@@ -1,6 +1,0 @@
-use Rattle.std.proofs.Common.{◌≡◌, None, replicate}
-use Rattle.bg_port.proofs.connection_table.ConnectionTable.new.Given as goal
-
--- so many places are there, and all of them are free
-abbrev pub invariant-loop : goal.invariant-loop
-invariant-loop l = l.places.items ≡ replicate l.counter None

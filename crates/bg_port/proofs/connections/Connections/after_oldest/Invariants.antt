@@ -1,7 +1,0 @@
-use Rattle.std.proofs.Common.{◌≡◌}
-use Rattle.bg_port.specs.Pauses.{older}
-use Rattle.bg_port.proofs.connections.Connections.after_oldest.Given as goal
-
--- so many large requests are older
-abbrev pub invariant-loop : goal.invariant-loop
-invariant-loop l = older l.least l.self.places ≡ l.counter

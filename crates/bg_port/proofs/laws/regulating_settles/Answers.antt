@@ -1,5 +1,0 @@
-use Rattle.bg_port.proofs.Settling.{regulating_settles}
-use Rattle.bg_port.proofs.laws.regulating_settles.Goals as goal
-
-pub returns : goal.returns
-returns c = regulating_settles

@@ -1,0 +1,174 @@
+//! The entry of a connection in the access log.
+ghost use Rattle.std.specs.Prelude.{◌≡◌, None, codes, if◌then◌else◌};
+ghost use Rattle.std.specs.Option.{option_and_then, option_map};
+ghost use Rattle.bg_request_log.specs.Entries.{end_name, end_status, logged_end, logged_reason, logged_status, slot_port};
+ghost use Rattle.bg_ports.specs.ServiceNames.{name_of_service};
+
+use bg_access_log::{LogEntry, TimeText};
+use bg_forward::{End, Reason, Served};
+use bg_ports::service_name;
+use bg_revisions::Service;
+use std::borrow::CowStr;
+
+/// The status of a request whose client has gone before its answer, as nginx has it. No client is sent it.
+const CLIENT_CLOSED_REQUEST: u16 = 499;
+
+/// What the log tells of a connection apart from its outcome.
+#[derive(Drop)]
+pub struct ConnectionFacts<'a> {
+    /// When the connection ended.
+    pub time: Option<TimeText>,
+    /// The service of the client's port.
+    pub service: Service,
+    /// The method and the target of the request, or of one that was refused after its head was parsed.
+    pub method: Option<CowStr<'a>>,
+    pub target: Option<CowStr<'a>>,
+    /// Whether the request was refused although its head passes all rules.
+    pub is_head_sound: bool,
+    /// Whether a request may be dialled at another port than its ticket's.
+    pub redispatches: bool,
+    /// The number of bytes that came of the request.
+    pub request_bytes: u64,
+    /// The number of bytes of the response that was given to the client.
+    pub response_bytes: u64,
+    /// The number of milliseconds from the accept to the end of the connection.
+    pub duration_ms: u64,
+    /// The number of milliseconds from when the request entered to the first bytes of the response; `None` if no response
+    /// came.
+    pub response_ms: Option<u64>,
+    /// The number of connections that ended without having sent a byte, if this entry is to tell of some.
+    pub idle_connections: Option<u64>,
+    /// The number of the request among those of its connection, from 1 on, if connections are kept.
+    pub connection_request: Option<u64>,
+    /// Whether the connection to the endpoint had carried a request before, if connections are kept and there was one.
+    pub upstream_reused: Option<bool>,
+}
+
+/// The entry of a connection in the access log, by its outcome and by what else is known of it.
+pub fn entry_of<'a>(served: &Served, facts: ConnectionFacts<'a>) -> LogEntry<'a>
+    ensures time { result.time ≡ facts.entry.time }
+    ensures service { result.service.now ≡ name_of_service facts.entry.service }
+    ensures revision { result.revision ≡ option_map (λ ticket. ticket.revision) served.now.entered }
+    ensures request { result.request ≡ option_map (λ ticket. ticket.number) served.now.entered }
+    ensures port { result.port ≡ option_map (λ route. route.port) served.now.route }
+    ensures slot_port { result.slot_port ≡ slot_port served.now.entered served.now.route }
+    ensures tries { result.tries
+        ≡ (if facts.entry.redispatches then option_map (λ route. route.tries) served.now.route else None) }
+    ensures method { result.method ≡ facts.entry.method }
+    ensures target { result.target ≡ facts.entry.target }
+    ensures status { result.status ≡ logged_status served.now.end served.now.reason }
+    ensures end { result.end.now ≡ logged_end served.now.end served.now.reason }
+    ensures reason { option_map (λ name. name.now) result.reason
+        ≡ option_map (logged_reason facts.entry.is_head_sound) served.now.reason }
+    ensures request_bytes { result.request_bytes ≡ facts.entry.request_bytes }
+    ensures response_bytes { result.response_bytes ≡ facts.entry.response_bytes }
+    ensures duration { result.duration_ms ≡ facts.entry.duration_ms }
+    ensures upstream { result.upstream_ms
+        ≡ option_and_then (λ ticket. facts.entry.response_ms) served.now.entered }
+    ensures idle { result.idle_connections ≡ facts.entry.idle_connections }
+    ensures place { result.connection_request ≡ facts.entry.connection_request }
+    ensures reused { result.upstream_reused ≡ facts.entry.upstream_reused }
+{
+    let entered = served.entered;
+    LogEntry {
+        time: facts.time,
+        service: service_name(facts.service),
+        revision: entered.map(|ticket| ticket.revision),
+        request: entered.map(|ticket| ticket.number),
+        port: served.route.map(|route| route.port),
+        slot_port: slot_port(served),
+        tries: tries(served, facts.redispatches),
+        method: facts.method,
+        target: facts.target,
+        status: logged_status(served),
+        end: logged_end(served),
+        reason: reason_name(served.reason, facts.is_head_sound),
+        request_bytes: facts.request_bytes,
+        response_bytes: facts.response_bytes,
+        duration_ms: facts.duration_ms,
+        upstream_ms: match entered {
+            Some(_) => facts.response_ms,
+            None => None,
+        },
+        idle_connections: facts.idle_connections,
+        connection_request: facts.connection_request,
+        upstream_reused: facts.upstream_reused,
+    }
+}
+
+/// The port of the ticket, if another port was dialled last.
+fn slot_port(served: &Served) -> Option<u16>
+    ensures { result ≡ slot_port served.now.entered served.now.route }
+{
+    let ticket = served.entered?;
+    let route = served.route?;
+    if route.port == ticket.port {
+        return None;
+    }
+    Some(ticket.port)
+}
+
+/// The number of ports that were dialled, if a request may be dialled at another port than its ticket's.
+fn tries(served: &Served, redispatches: bool) -> Option<u32>
+    ensures { result
+        ≡ (if redispatches then option_map (λ route. route.tries) served.now.route else None) }
+{
+    let route = served.route?;
+    if redispatches {
+        Some(route.tries)
+    } else {
+        None
+    }
+}
+
+/// The name of a reason in the log. If a request is malformed or too large although its head has no fault,
+/// the fault is in its body or in its trailers, and the name is `body`.
+fn reason_name(reason: Option<Reason>, is_head_sound: bool) -> Option<&'static str>
+    ensures { option_map (λ name. name.now) result ≡ option_map (logged_reason is_head_sound) reason }
+{
+    match reason? {
+        Reason::Malformed | Reason::HeadTooLarge if is_head_sound => Some("body"),
+        reason => Some(reason.name()),
+    }
+}
+
+/// The status in the log: 499 if the client had gone before its answer, as in nginx's log.
+fn logged_status(served: &Served) -> Option<u16>
+    ensures { result ≡ logged_status served.now.end served.now.reason }
+{
+    match served.reason {
+        Some(Reason::ClientGone) => Some(CLIENT_CLOSED_REQUEST),
+        _ => status_of(served.end),
+    }
+}
+
+/// How the connection ended, by the log.
+fn logged_end(served: &Served) -> &'static str
+    ensures { result.now ≡ logged_end served.now.end served.now.reason }
+{
+    match served.reason {
+        Some(Reason::ClientGone) => "refused",
+        _ => name_of(served.end),
+    }
+}
+
+fn status_of(end: End) -> Option<u16>
+    ensures { result ≡ end_status end }
+{
+    match end {
+        End::Refused(status) | End::Answered(status) => Some(status),
+        End::Closed | End::ReadFailed | End::WriteFailed => None,
+    }
+}
+
+fn name_of(end: End) -> &'static str
+    ensures { result.now ≡ end_name end }
+{
+    match end {
+        End::Closed => "closed",
+        End::ReadFailed => "read_failed",
+        End::Refused(_) => "refused",
+        End::Answered(_) => "answered",
+        End::WriteFailed => "write_failed",
+    }
+}

@@ -1,0 +1,82 @@
+//! The access log of the requests that the event loops of a client port serve.
+
+use crate::entry::{ConnectionFacts, entry_of};
+use crate::request_text::text_of;
+use bg_access_log::AccessLog;
+use bg_event_loop::{EndedRequest, RequestLog};
+use bg_forward::Reason;
+use bg_revisions::Service;
+use std::alloc::Global;
+use std::sync::Wait;
+use std::sync::atomic::{AtomicU64, Ordering};
+use std::time::Clock;
+
+/// The access log of the requests that the event loops of a client port serve. If there is a log, each request is logged of
+/// which a byte came, and connections without one are counted.
+#[derive(Drop)]
+pub struct ServiceLog<'a, R: Clock + Wait> {
+    /// The handle for the clock, and for the lock of the log.
+    pub rt: &'a R,
+    pub alloc: Global,
+    /// The service of the port.
+    pub service: Service,
+    pub log: Option<&'a AccessLog>,
+    /// Whether a request may be dialled at another port than its ticket's. The log then tells how many were dialled.
+    pub redispatches: bool,
+    /// Whether connections are kept. The log then tells the number of a request on its connection, and whether the connection to
+    /// its endpoint had carried one before.
+    pub keeps_connections: bool,
+    /// The counter of the requests that are refused because the history is full.
+    pub refused_for_room: &'a AtomicU64,
+}
+
+impl<R: Clock + Wait> RequestLog for ServiceLog<'_, R> {
+    fn logs_lines(&self) -> bool {
+        self.log.is_some()
+    }
+
+    fn add(&self, ended: &EndedRequest<'_>) {
+        if ended.served.reason == Some(Reason::HistoryFull) {
+            self.refused_for_room.fetch_add(1, Ordering::SeqCst);
+        }
+        if let Some(log) = self.log {
+            log.add(self.rt, &entry_of(&ended.served, self.facts(log, ended)));
+        }
+    }
+
+    fn note_silent(&self) {
+        if let Some(log) = self.log {
+            log.note_idle_connection();
+        }
+    }
+}
+
+impl<R: Clock + Wait> ServiceLog<'_, R> {
+    /// What the log tells of a request apart from its outcome.
+    fn facts<'c>(&self, log: &AccessLog, ended: &EndedRequest<'c>) -> ConnectionFacts<'c> {
+        let alloc = self.alloc;
+        ConnectionFacts {
+            time: log.time(self.rt),
+            service: self.service,
+            method: ended.line.and_then(|line| text_of(alloc, line.method)),
+            target: ended.line.and_then(|line| text_of(alloc, line.target)),
+            is_head_sound: ended.is_head_sound,
+            redispatches: self.redispatches,
+            request_bytes: ended.request_bytes,
+            response_bytes: ended.response_bytes,
+            duration_ms: ended.duration_millis,
+            response_ms: ended.response_millis,
+            idle_connections: log.take_idle_connections(),
+            connection_request: if self.keeps_connections {
+                Some(ended.place)
+            } else {
+                None
+            },
+            upstream_reused: if self.keeps_connections {
+                ended.is_reused
+            } else {
+                None
+            },
+        }
+    }
+}

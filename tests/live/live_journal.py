@@ -1,0 +1,469 @@
+"""`bg_switch serve --journal`: what a start resumes after a kill, a disk that fails or is full, the
+journals that are refused, what `bg_switch journal` tells, and kills at random under orders and
+requests."""
+import contextlib
+import itertools
+import os
+import pathlib
+import random
+import resource
+import signal
+import sqlite3
+import tempfile
+import threading
+import time
+from collections.abc import Iterator
+from typing import Any
+
+from refused_memory import refuse
+from support import PROGRAM, TOP, checks, clients, processes
+from support.checks import check
+from support.endpoints import Endpoint, by_target
+from support.journals import (
+    FailingDisk,
+    Failure,
+    build_object,
+    events_in,
+    report_by_rule,
+    rows_in,
+)
+from support.messages import BY_HAND
+from support.ports import free_ports
+from support.rule.strategy import strategy_of
+from support.switch import LISTENING, Switch, run_to_end
+
+# isort: split; `support` tells where the tools' package is
+from bg_switch_tools.switch.connection import UnreachableError
+
+# The program itself, and not the script that starts it, which asks for memory too.
+BUILT = os.environ.get("BG_SWITCH_PROGRAM", str(TOP / "crates/bg_switch/out/bg_switch"))
+FEWEST_REQUESTS, REQUESTS_EACH = 50, 40
+OTHER = BY_HAND.replace('"replicas": 1', '"replicas": 2')
+ANALYSED = """{"spec": {"replicas": 1, "revisionHistoryLimit": 2, "strategy": {"blueGreen": {
+"activeService": "web", "previewService": "web-preview", "autoPromotionEnabled": false,
+"scaleDownDelaySeconds": 5, "abortScaleDownDelaySeconds": 3, "prePromotionAnalysis": {},
+"postPromotionAnalysis": {}}}}}"""
+REFUSED = "fault Journal\n"
+NO_BOOK = "refused NotOpen"
+UNSAVED, JOURNAL_FAILED = "unsaved 0", "refused JournalFailed"
+LACKS = "it lacks the last order that was carried out"
+KEEPS = "keeps each order again"
+# The kills of the drill in the gate and by hand, how many of them one journal takes, how long a
+# switch lives, and the pause after an order: the rule reads the whole journal for each report.
+KILLS, KILLS_BY_HAND, KILLS_EACH = 12, 500, 4
+SHORTEST_LIFE, LONGEST_LIFE = 0.05, 0.6
+PAUSE = 0.004
+CLIENTS = 4
+SEED = random.SystemRandom().randrange(10**9)
+
+
+@contextlib.contextmanager
+def a_folder() -> Iterator[str]:
+    with tempfile.TemporaryDirectory() as folder:
+        yield folder
+
+
+@contextlib.contextmanager
+def journaled(path: str, rollout: str = BY_HAND, **words: Any) -> Iterator[Switch]:
+    """A switch with a journal, which has begun to listen. It is killed at the end of the block."""
+    switch = Switch(rollout, workers=4, flags=("--journal", path), **words)
+    try:
+        check("a switch with a journal listens", switch.first, LISTENING)
+        yield switch
+    finally:
+        switch.kill()
+
+
+def report_of(switch: Switch) -> str:
+    with contextlib.closing(switch.operator()) as operator:
+        return operator.report()
+
+
+def judged(path: str) -> processes.Run:
+    """A run of `bg_switch journal`."""
+    return processes.run_to_end([PROGRAM, "journal", path])
+
+
+def content_of(path: str) -> bytes:
+    return pathlib.Path(path).read_bytes()
+
+
+def orders_survive_a_kill() -> None:
+    """A start goes on where the last one was killed, at once, and tells what it has resumed."""
+    endpoints = [Endpoint(by_target(name)) for name in (b"one", b"two")]
+    one, two = (endpoint.port for endpoint in endpoints)
+    with a_folder() as folder:
+        path = f"{folder}/journal"
+        with journaled(path) as switch:
+            with contextlib.closing(switch.operator()) as operator:
+                for line, reply in (
+                    (f"open one {one}", "ok 0"),
+                    ("available 1 1", "ok 0"),
+                    ("tick 30", "ok 0"),
+                    (f"deploy two {two}", "ok 0"),
+                    ("promote", "refused NotPaused"),
+                    ("available 2 1", "ok 1"),
+                    ("before 1 promote", "refused TooLate"),
+                    ("promote", "ok 3"),
+                ):
+                    operator.check(line, reply)
+            was = report_of(switch)
+            check("no journal is told of", switch.count_told("journal"), 0)
+            busy = judged(path)
+            check("a journal that is open", (busy.printed, busy.status), (REFUSED, 1))
+            check("why it is refused", "another process has" in busy.told, True)
+        rows = rows_in(path)
+        check(
+            "an order has a row",
+            events_in(rows),
+            ["available 1 1", "tick 30", f"deploy two {two}", "available 2 1", "promote"],
+        )
+        check("the rule resumes the same", report_by_rule(rows, strategy_of(BY_HAND)), was)
+        check("the journal is judged", judged(path), (was, "", 0))
+        with journaled(path) as switch:
+            check("the report of a resumed switch", report_of(switch), was)
+            check(
+                "what was resumed is told",
+                switch.tells(
+                    f"the journal {path} was resumed: orders 5, revisions 2, phase", "moment 30"
+                ),
+                True,
+            )
+            check("a request after a start", switch.get(switch.active), (200, b"two"))
+            check("an open after a start", switch.answer_to(f"open x {one}"), "refused AlreadyOpen")
+            check("the moment does not go back", switch.answer_to("tick 29"), "refused MomentBack")
+            check("no delay has passed", switch.answer_to("tick 59"), "ok 0")
+            check("a delay passes", switch.answer_to("tick 60"), "ok 1")
+            was = report_of(switch)
+        with journaled(path) as switch:
+            check("the report after a second kill", report_of(switch), was)
+            with contextlib.closing(switch.operator()) as operator:
+                operator.send_quit()
+                check("the last report", switch.wait(), (f"{was}calls 0\n", 0))
+        check("the journal of a switch that has ended", judged(path), (was, "", 0))
+
+
+def what_a_start_finds_before_an_open() -> None:
+    """A journal without orders is begun by an `open`, and one whose first row alone was written is
+    resumed."""
+    with a_folder() as folder:
+        path = f"{folder}/journal"
+        missing = judged(path)
+        check("a journal that is not there", (missing.printed, missing.status), (REFUSED, 1))
+        check("it is not made", os.path.exists(path), False)
+        with journaled(path) as switch:
+            check("a new journal has no book", switch.answer_to("report"), NO_BOOK)
+            check("a name that is none", switch.answer_to("open A 1"), "refused BadName")
+        empty = judged(path)
+        check("a journal that was not begun", (empty.printed, empty.status), (REFUSED, 1))
+        with journaled(path) as switch:
+            check("it has no book", switch.answer_to("report"), NO_BOOK)
+            check("it is begun", switch.answer_to("open one 9001"), "ok 0")
+            was = report_of(switch)
+        with journaled(path) as switch:
+            check("the first revision is resumed", report_of(switch), was)
+
+
+def check_refused(name: str, path: str, reason: str, rollout: str = BY_HAND) -> str:
+    """Checks that no switch starts with a journal, why, and that its file stays as it is. Gives all
+    that is told."""
+    content = content_of(path)
+    active, control = free_ports(2)
+    run = run_to_end(rollout, active, control, flags=("--journal", path))
+    told = f"bg_switch: the journal {path} can't be used: {reason}\n"
+    check(name, (run.printed, told in run.told, run.status), (REFUSED, True, 1))
+    check(f"{name}: the file", content_of(path) == content, True)
+    return run.told
+
+
+def move_log(path: str) -> None:
+    """Has Python's sqlite3 move the log of a journal into its database."""
+    with contextlib.closing(sqlite3.connect(path)) as connection:
+        connection.execute("PRAGMA wal_checkpoint(TRUNCATE)")
+
+
+def journals_that_are_refused() -> None:
+    """Another strategy, a process that has the journal, a damaged journal, another database, and no
+    database."""
+    with a_folder() as folder:
+        path = f"{folder}/journal"
+        with journaled(path) as switch:
+            with contextlib.closing(switch.operator()) as operator:
+                for line in ("open one 9001", "available 1 1", "deploy two 9002"):
+                    operator.check(line, "ok 0")
+            check_refused(
+                "a journal of another process", path, "another process has the journal open"
+            )
+            check("the process goes on", switch.answer_to("available 2 1"), "ok 1")
+            was = report_of(switch)
+        check("the journal is judged", judged(path), (was, "", 0))
+        told = check_refused(
+            "another strategy", path, "the journal is one of another strategy", OTHER
+        )
+        other = "bg_switch: the journal has replicas 1, and the Rollout replicas 2\n"
+        check("what differs is told", other in told, True)
+        move_log(path)
+        check("the log is gone", os.path.exists(f"{path}-wal"), False)
+        check("the journal is judged without a log", judged(path), (was, "", 0))
+        move_log(path)
+        whole = content_of(path)
+        middle = len(whole) // 2
+        pathlib.Path(path).write_bytes(
+            whole[:middle] + bytes([whole[middle] ^ 1]) + whole[middle + 1 :]
+        )
+        check_refused("a damaged journal", path, "the database is damaged")
+        damaged = judged(path)
+        check("it is judged", (damaged.printed, damaged.status), (REFUSED, 1))
+        pathlib.Path(path).write_bytes(b"no database, but a text of some length\n" * 300)
+        check_refused("a text", path, "the file is no database that obeys its schema")
+        os.unlink(path)
+        with contextlib.closing(sqlite3.connect(path)) as connection:
+            connection.execute("CREATE TABLE entries (text TEXT)")
+            connection.commit()
+        check_refused("another database", path, "the database is no journal")
+        check_refused_folder(folder)
+
+
+def check_refused_folder(folder: str) -> None:
+    """A journal in a folder that is not there."""
+    active, control = free_ports(2)
+    run = run_to_end(BY_HAND, active, control, flags=("--journal", f"{folder}/x/journal"))
+    check("a folder that is not there", (run.printed, run.status), (REFUSED, 1))
+
+
+def check_failing(disk: FailingDisk, failure: Failure) -> None:
+    """Checks what operators are told while the disk fails: requests go on, nothing is carried out but
+    one order, and that one is kept once the disk works again."""
+    endpoint = Endpoint(by_target(b"one"))
+    path = f"{disk.flag}.{failure}.journal"
+    with journaled(path, variables=disk.variables) as switch:
+        with contextlib.closing(switch.operator()) as operator:
+            operator.check(f"open one {endpoint.port}", "ok 0")
+            operator.check("available 1 1", "ok 0")
+            with disk.fails(failure):
+                operator.check("tick 10", UNSAVED)
+                operator.check("tick 11", JOURNAL_FAILED)
+                operator.check("abort", JOURNAL_FAILED)
+                check("a request while it fails", switch.get(switch.active), (200, b"one"))
+                check("the order is in effect", operator.state().moment, 10)
+            operator.check("tick 12", "ok 0")
+            was = operator.report()
+            check(f"a {failure} that fails is told once", switch.count_told(path, LACKS), 1)
+            check("that it works again is told", switch.tells(path, KEEPS), True)
+    rows = rows_in(path)
+    check(
+        f"the orders of a {failure} that fails",
+        events_in(rows),
+        ["available 1 1", "tick 10", "tick 12"],
+    )
+    with journaled(path) as switch:
+        check(f"the report after a {failure} that fails", report_of(switch), was)
+
+
+def a_disk_that_fails() -> None:
+    with a_folder() as folder:
+        disk = FailingDisk(folder)
+        check_failing(disk, "write")
+        check_failing(disk, "flush")
+        path = f"{folder}/journal"
+        with journaled(path, variables=disk.variables) as switch:
+            with disk.fails("write"):
+                check(
+                    "an open that can't be kept", switch.answer_to("open one 9001"), JOURNAL_FAILED
+                )
+                check("no book is open", switch.answer_to("report"), NO_BOOK)
+                check("it is told", switch.tells(f"the journal {path} can't be used"), True)
+            check("an open of a disk that works", switch.answer_to("open one 9001"), "ok 0")
+
+
+def ignore_the_limit() -> None:
+    """A write beyond the limit on the size of a file fails, and does not end the program. Python
+    itself ignores this signal, and a program that it starts does not."""
+    signal.signal(signal.SIGXFSZ, signal.SIG_IGN)
+
+
+def a_file_that_may_not_grow() -> None:
+    """The files of the switch may have no bytes any more, and later they may."""
+    unlimited = (resource.RLIM_INFINITY, resource.RLIM_INFINITY)
+    with a_folder() as folder:
+        path = f"{folder}/journal"
+        with journaled(path, prepare=ignore_the_limit) as switch:
+            check("open", switch.answer_to("open one 9001"), "ok 0")
+            process = switch.process.pid
+            resource.prlimit(process, resource.RLIMIT_FSIZE, (0, resource.RLIM_INFINITY))
+            check("an order without room", switch.answer_to("tick 10"), UNSAVED)
+            check("the next one", switch.answer_to("tick 11"), JOURNAL_FAILED)
+            resource.prlimit(process, resource.RLIMIT_FSIZE, unlimited)
+            check("an order with room again", switch.answer_to("tick 12"), "ok 0")
+        check("the orders", events_in(rows_in(path)), ["tick 10", "tick 12"])
+
+
+def out_of_memory(path: str) -> bytes:
+    """What is told of a journal for which there is too little memory."""
+    return f"bg_switch: the journal {path} can't be used: out of memory\n".encode()
+
+
+def refuse_memory(step: int) -> None:
+    """Of the requests for memory by which a journal is opened, read and resumed, one in so many is
+    refused in each run: the journal is judged as ever, or there is too little memory, and its rows
+    stay as they are."""
+    with a_folder() as folder:
+        path, refuser = f"{folder}/journal", pathlib.Path(folder) / "refuse_memory.so"
+        build_object(TOP / "scripts" / "refuse_memory.c", refuser)
+        with journaled(path) as switch:
+            for line in ("open one 9001", "available 1 1", "deploy two 9002", "tick 30"):
+                check(line, switch.answer_to(line), "ok 0")
+            was = report_of(switch)
+        rows, words = rows_in(path), [BUILT, "journal", path]
+        whole, refused = (0, was.encode(), b""), (1, REFUSED.encode())
+        # before the journal is named, and later
+        short = ((1, b"", b"OutOfMemory\n"), (*refused, out_of_memory(path)))
+        for request in itertools.count(1, step):
+            run = refuse(str(refuser), request, words)
+            if not run.was_refused:
+                break
+            told = (run.status, run.replies, run.complaint)
+            check(f"request {request} is refused: {told}", told in (whole, *short), True)
+        check("ample memory", (run.status, run.replies, run.complaint), whole)
+        check("some requests were refused", request > FEWEST_REQUESTS, True)
+        check("the rows are as they were", rows_in(path), rows)
+
+
+def memory_refused_at_a_start() -> None:
+    refuse_memory(REQUESTS_EACH)
+
+
+def all_memory_refused_at_a_start() -> None:
+    refuse_memory(1)
+
+
+class Drill:
+    """A journal under operators and clients at random, whose switch is killed again and again."""
+
+    def __init__(self, path: str, seed: int) -> None:
+        self.path = path
+        self.chance = random.Random(seed)
+        self.strategy = strategy_of(ANALYSED)
+        self.endpoints = {
+            name: Endpoint(by_target(name.encode())).port for name in ("a", "b", "c", "d")
+        }
+        self.kept = list[str]()  # the orders that were acknowledged
+        self.pending = ""  # the one that has no answer yet
+        self.moment = 0
+        self.is_over = threading.Event()
+
+    def line(self) -> str:
+        """A line of an operator at random; most of them are carried out."""
+        name = self.chance.choice([*self.endpoints])
+        self.moment += self.chance.randrange(3)
+        return self.chance.choice(
+            (
+                f"tick {self.moment}",
+                f"deploy {name} {self.endpoints[name]}",
+                f"available {self.chance.randrange(1, 9)} {self.chance.randrange(4) and 1}",
+                f"verdict {self.chance.choice(('pre', 'post'))} {self.chance.choice(('successful', 'failed', 'error'))}",
+                "promote",
+                "promote full",
+                "abort",
+                "retry",
+            )
+        )
+
+    def send_orders(self, switch: Switch) -> None:
+        """Sends orders until the switch is killed."""
+        with contextlib.suppress(UnreachableError, OSError):
+            with contextlib.closing(switch.operator()) as operator:
+                while not self.is_over.is_set():
+                    self.pending = self.line()
+                    reply = operator.answer_to(self.pending)
+                    check("a reply", reply.split()[0] in ("ok", "refused"), True)
+                    if reply.startswith("ok "):
+                        self.kept.append(self.pending)
+                    self.pending = ""
+                    time.sleep(PAUSE)
+
+    def send_requests(self, switch: Switch) -> None:
+        """Sends requests until the switch is killed; each before that is answered."""
+        while not self.is_over.is_set():
+            answer = clients.get(switch.active)
+            if not self.is_over.is_set():
+                check("a request", answer is not None and answer[0] in (200, 503), True)
+
+    def live(self) -> None:
+        """A switch begins with the journal, and is killed at random."""
+        with journaled(self.path, ANALYSED) as switch:
+            if not rows_in(self.path):
+                self.open(switch)
+            self.is_over.clear()
+            threads = [
+                threading.Thread(target=each, args=(switch,), daemon=True)
+                for each in (self.send_orders, *[self.send_requests] * CLIENTS)
+            ]
+            for thread in threads:
+                thread.start()
+            time.sleep(self.chance.uniform(SHORTEST_LIFE, LONGEST_LIFE))
+            self.is_over.set()
+            switch.kill()
+            for thread in threads:
+                thread.join()
+        self.check_rows()
+
+    def open(self, switch: Switch) -> None:
+        line = f"open a {self.endpoints['a']}"
+        check("a drill begins", switch.answer_to(line), "ok 0")
+
+    def check_rows(self) -> None:
+        """The journal has each order that was acknowledged, and at most the one in doubt too."""
+        events = events_in(rows_in(self.path))
+        in_doubt = [self.pending] if self.pending else []
+        check("the orders of a journal", events in (self.kept, self.kept + in_doubt), True)
+        self.kept, self.pending = events, ""
+
+    def check_report(self) -> None:
+        """A start gives the report that the rule gives of the journal."""
+        was = report_by_rule(rows_in(self.path), self.strategy)
+        check("the journal is judged", judged(self.path), (was, "", 0))
+        with journaled(self.path, ANALYSED) as switch:
+            check("the report after a kill", report_of(switch), was)
+            resumed = f"the journal {self.path} was resumed: orders {len(self.kept)},"
+            check("what was resumed is told", switch.tells(resumed), True)
+
+
+def drill(kills: int) -> None:
+    """Switches that are killed under orders and requests, with a new journal now and then."""
+    print(f"live_journal: the seed of the drill is {SEED}", flush=True)
+    carried_out = 0
+    for first in range(0, kills, KILLS_EACH):
+        with a_folder() as folder:
+            one = Drill(f"{folder}/journal", SEED + first)
+            for _ in range(first, min(first + KILLS_EACH, kills)):
+                one.live()
+                one.check_report()
+            carried_out += len(one.kept)
+    check("orders were carried out", carried_out > kills, True)
+    print(f"live_journal: {kills} kills, {carried_out} orders were carried out", flush=True)
+
+
+def kills_at_random() -> None:
+    drill(KILLS)
+
+
+def many_kills_at_random() -> None:
+    drill(KILLS_BY_HAND)
+
+
+if __name__ == "__main__":
+    checks.run(
+        "live_journal",
+        [
+            orders_survive_a_kill,
+            what_a_start_finds_before_an_open,
+            journals_that_are_refused,
+            a_disk_that_fails,
+            a_file_that_may_not_grow,
+            memory_refused_at_a_start,
+            kills_at_random,
+        ],
+        at_once=3,
+        by_hand=[many_kills_at_random, all_memory_refused_at_a_start],
+    )
