@@ -131,7 +131,7 @@ impl<'a, P: EndpointPorts, L: RequestLog> EventLoop<'a, P, L> {
         }
     }
 
-    /// Notes the signal of the port. Whether a request may enter is looked at in each round anyway.
+    /// Notes the signal of the port, or that of this loop. Whether a request may enter is looked at in each round anyway.
     fn note_signal(&mut self) {
         if self.port.is_backlog_left() {
             self.watch_listener_anew();

@@ -8,7 +8,7 @@ use std::io;
 use std::net::TcpStream;
 use std::os::fd::AsRawFd;
 
-/// Who an event belongs to: the listener, the signal of the port, or the connection of this key.
+/// Who an event belongs to: the listener, a signal (that of the port, or that of the loop), or the connection of this key.
 #[derive(Clone, Copy, PartialEq, Eq, Debug, Drop)]
 pub(crate) enum Source {
     Listener,

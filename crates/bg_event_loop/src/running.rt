@@ -6,7 +6,6 @@ ghost use Rattle.bg_rollout.specs.Gathering.{indices};
 
 use crate::endpoint_ports::EndpointPorts;
 use crate::event_loop::{EventLoop, LoopTerms};
-use crate::events::Source;
 use crate::request_log::RequestLog;
 use crate::seating::{enter_at, is_cut, leave_all, leave_at};
 use crate::settings::LoopSettings;
@@ -14,8 +13,7 @@ use bg_book::laws as book_laws;
 use bg_forward::Gate;
 use bg_ledger::{Names, Seat};
 use bg_loop_port::LoopPort;
-use bg_sockets::{EpollSet, Watched};
-use libc::net::{EPOLLET, EPOLLIN};
+use bg_sockets::EpollSet;
 use os::EpollEvent;
 use std::alloc::Global;
 use std::io;
@@ -86,7 +84,7 @@ fn serve_clients<N: Names, R: Clock + Wait, G: Gate<N>, P: EndpointPorts, L: Req
     context.port.note_begun();
     let mut swept = 0;
     for _ in rt.forever() {
-        let wait = connections.longest_wait();
+        let wait = connections.begin_wait();
         note_events(rt, &mut connections, events.as_mut_slice(), wait);
         if connections.now.saturating_sub(swept) >= SWEEP_MILLIS {
             // a signal may have interrupted the wait, and what has come in time is not late
@@ -105,15 +103,11 @@ fn serve_clients<N: Names, R: Clock + Wait, G: Gate<N>, P: EndpointPorts, L: Req
     unreachable!()
 }
 
-/// Watches the listener and the signal of the port.
+/// Watches the listener, the signal of the port, and that of the loop.
 fn watch_port<P: EndpointPorts, L: RequestLog>(
     connections: &mut EventLoop<'_, P, L>,
 ) -> io::Result<()> {
-    connections.set.add(Watched {
-        descriptor: connections.port.signal_descriptor(),
-        events: EPOLLIN | EPOLLET,
-        number: Source::Signal.number(),
-    })?;
+    connections.watch_signals()?;
     if connections.watch_listener() {
         Ok(())
     } else {
@@ -129,6 +123,7 @@ fn note_events<R: Clock, P: EndpointPorts, L: RequestLog>(
     millis: i32,
 ) {
     let count = connections.set.wait(events, millis);
+    connections.end_wait();
     connections.now = connections.port.now(rt);
     for event in events.iter().take(count) {
         connections.note(event);
@@ -165,8 +160,8 @@ fn admit_and_serve<N: Names, G: Gate<N>, P: EndpointPorts, L: RequestLog>(
     serve_due(context, connections, seats);
 }
 
-/// Serves the clients that are to be served. The gate is asked whether the request of each goes on, and a request that is
-/// over leaves there.
+/// Serves the clients that are to be served. The gate is asked whether the request of each goes on, if draining is limited, and a
+/// request that is over leaves there.
 fn serve_due<N: Names, G: Gate<N>, P: EndpointPorts, L: RequestLog>(
     context: &LoopContext<'_, G, P, L>,
     connections: &mut EventLoop<'_, P, L>,
@@ -178,7 +173,8 @@ fn serve_due<N: Names, G: Gate<N>, P: EndpointPorts, L: RequestLog>(
         let Some(key) = connections.due.pop_front() else {
             return;
         };
-        let is_given_up = is_cut(context.gate, seats, connections.seat_of(key));
+        let limits_drains = context.settings.limits_drains;
+        let is_given_up = is_cut(context.gate, limits_drains, seats, connections.seat_of(key));
         let over = connections.serve(key, is_given_up);
         leave_at(context.gate, seats, over);
         connections.note_left(over);

@@ -1,5 +1,5 @@
 //! How the requests of seats enter and leave at the gate.
-ghost use Rattle.std.specs.Prelude.{◌≡◌, ◌<◌, IfOk, Some, map, slice_get, true};
+ghost use Rattle.std.specs.Prelude.{◌≡◌, ◌<◌, IfOk, Some, false, map, slice_get, true};
 ghost use Rattle.std.specs.Option.{ForSome};
 ghost use Rattle.bg_ledger.specs.declared.holding.Holding.{Holding};
 ghost use Rattle.bg_event_loop.specs.Seats.{AllUsed, emptied};
@@ -65,13 +65,18 @@ fn empty<N: Names, G: Gate<N>>(gate: &G, seat: &mut Seat<N>)
     }
 }
 
-/// Whether the request of a seat, if there is such a seat, is given up, since it drained for too long.
+/// Whether the request of a seat, if there is such a seat, is given up, since it drained for too long. The gate is asked only if
+/// draining is limited: that takes a lock, and without a limit no request is given up.
 pub(crate) fn is_cut<N: Names, G: Gate<N>>(
     gate: &G,
+    limits_drains: bool,
     seats: &mut [Seat<N>],
     number: Option<usize>,
 ) -> bool
     ensures used { AllUsed seats.old seats.new }
+    ensures unchanged { seats.new ≡ seats.old }
+    ensures unlimited { limits_drains ≡ false → result ≡ true → ForSome number (λ n. (seat : Holding)
+        → slice_get seats.old n ≡ Some seat → seat.number ≡ 0) }
     ensures gives_up { result ≡ true → ForSome number (λ n. (seat : Holding) → slice_get seats.old n ≡ Some seat
         → 0 < seat.number → G.gives_up gate.now seat) }
 {
@@ -85,5 +90,5 @@ pub(crate) fn is_cut<N: Names, G: Gate<N>>(
     if !seat.is_in() {
         return true;
     }
-    gate.may_go_on(seat) == GoOn::Cut
+    limits_drains && gate.may_go_on(seat) == GoOn::Cut
 }

@@ -48,6 +48,9 @@ pub struct LoopSettings {
     pub most_waiting: usize,
     /// Whether a request that is inside is given up if its client has ended its input.
     pub aborts_on_close: bool,
+    /// Whether the book limits how long requests drain (`drainLimitSeconds`). The gate is asked only then whether a request goes
+    /// on: without a limit, each does.
+    pub limits_drains: bool,
     /// The time, in milliseconds, for which a shutdown keeps connections of which no byte came.
     pub grace_millis: u64,
     /// The time, in milliseconds, after which a shutdown closes the connections that are left.
@@ -55,12 +58,14 @@ pub struct LoopSettings {
 }
 
 impl LoopSettings {
-    /// The usual settings: each connection, of either side, carries one request, and a refusal has an empty body.
+    /// The usual settings: each connection, of either side, carries one request, a refusal has an empty body, and the gate is
+    /// asked whether requests go on.
     pub fn usual(service: Service) -> LoopSettings
         ensures service { result.service ≡ service }
         ensures clients { keeps result.clients.persistence ≡ false }
         ensures endpoints { keeps result.endpoints.persistence ≡ false }
         ensures refusals { result.clients.refusal_body ≡ body.Empty }
+        ensures drains { result.limits_drains ≡ true }
     {
         LoopSettings {
             service,
@@ -88,6 +93,7 @@ impl LoopSettings {
             },
             most_waiting: 1_024,
             aborts_on_close: false,
+            limits_drains: true,
             grace_millis: 1_000,
             closing_millis: 60_000,
         }

@@ -2,10 +2,16 @@
 
 use crate::endpoint_ports::EndpointPorts;
 use crate::event_loop::EventLoop;
+use crate::events::Source;
 use crate::request_log::RequestLog;
 use bg_client_side::Entered;
+use bg_sockets::Watched;
+use libc::net::{EPOLLET, EPOLLIN};
 use std::alloc::Global;
 use std::collections::VecDeque;
+use std::io;
+use std::io::ErrorKind;
+use std::os::fd::RawFd;
 
 /// Since when the requests of a loop wait, and what the other loops know of that.
 #[derive(Drop)]
@@ -19,6 +25,8 @@ pub(crate) struct Waiting {
     known: Option<u64>,
     /// Whether a request has entered or left, or waits no more, since the other loops were told.
     has_changed: bool,
+    /// Whether the other loops know that this one is asleep.
+    is_asleep: bool,
 }
 
 impl Waiting {
@@ -29,6 +37,7 @@ impl Waiting {
             since: VecDeque::new(alloc),
             known: None,
             has_changed: false,
+            is_asleep: false,
         }
     }
 }
@@ -92,8 +101,50 @@ impl<'a, P: EndpointPorts, L: RequestLog> EventLoop<'a, P, L> {
         }
     }
 
-    /// Ends the waits of the other loops if a request may enter there now, since one has entered or left here, or waits no
-    /// more.
+    /// Watches what ends a wait for events: the signal of the port, and that of this loop. An error if a system call fails, or if
+    /// the port has no loop of this number.
+    pub(crate) fn watch_signals(&self) -> io::Result<()> {
+        let Some(own) = self.port.signal_descriptor_of(self.waiting.number) else {
+            return Err(io::Error::from(ErrorKind::Other));
+        };
+        self.watch_signal(own)?;
+        self.watch_signal(self.port.signal_descriptor())
+    }
+
+    fn watch_signal(&self, descriptor: RawFd) -> io::Result<()> {
+        self.set.add(Watched {
+            descriptor,
+            events: EPOLLIN | EPOLLET,
+            number: Source::Signal.number(),
+        })
+    }
+
+    /// Begins to wait for events, and gives the longest wait in milliseconds. If a request waits here, the other loops know from
+    /// then on that this loop is asleep, and wake it as soon as the request may enter.
+    pub(crate) fn begin_wait(&mut self) -> i32 {
+        self.tell_waiting();
+        let longest = self.longest_wait();
+        if longest == 0 || self.waiting.has_changed {
+            return 0;
+        }
+        if let Some(since) = self.waiting.known {
+            if !self.port.falls_asleep(self.waiting.number, since) {
+                return 0;
+            }
+            self.waiting.is_asleep = true;
+        }
+        longest
+    }
+
+    /// Notes that a wait for events is over.
+    pub(crate) fn end_wait(&mut self) {
+        if self.waiting.is_asleep {
+            self.waiting.is_asleep = false;
+            self.port.note_awake(self.waiting.number);
+        }
+    }
+
+    /// Wakes another loop if a request may enter there now, since one has entered or left here, or waits no more.
     pub(crate) fn pass_on(&mut self) {
         self.tell_waiting();
         if self.waiting.has_changed {

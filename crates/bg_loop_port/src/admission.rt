@@ -1,45 +1,84 @@
 //! Which request of a port enters next.
 ghost use Rattle.std.specs.Prelude.{◌≡◌, ◌+◌, nat_le};
 
-use std::alloc::{AllocError, Global};
+use crate::longest_waiting::LongestWaiting;
+use crate::waiting_loop::{NONE_WAITS, WaitingLoop};
+use std::alloc::Global;
+use std::io;
+use std::os::fd::RawFd;
 use std::sync::atomic::{AtomicU64, Ordering};
 
 /// A request may enter before one of another loop that has waited for at most so many milliseconds longer. Without that, each
 /// free place would have to wait until the loop whose turn it is has been woken.
 const TOLERANCE_MILLIS: u64 = 20;
 
-/// What is noted of a loop at which no request waits.
-const NONE_WAITS: u64 = u64::MAX;
-
 /// The requests of a port that are inside, and since when those of each loop wait. Moments are milliseconds from the start of
 /// the port.
+///
+/// A loop that is awake looks in each round whether a request of it may enter, so only a loop that sleeps is woken, and the one
+/// alone whose request has waited longest. No request waits for good while a place is free, since all steps are in one order
+/// (`SeqCst`):
+///
+/// - Before it sleeps, a loop notes since when its request waits, then that it is asleep, and only then looks whether a place is
+///   free ([`Admission::falls_asleep`]). Who frees a place first counts the request less, then reads since when requests wait,
+///   and then whether the loop is asleep. So if the loop finds no place, the place is freed later, and who frees it finds the
+///   loop asleep.
+/// - A loop whose request enters or waits no more, or waits since another moment, looks for the next loop in the same way
+///   ([`Admission::wake_next`]). So if several places are free, the loops wake one another in turn, and a loop that found a
+///   place free but the request of another loop before its own is woken after that one.
 #[derive(Drop)]
 pub(crate) struct Admission {
     inside: AtomicU64,
     most: u64,
-    /// For each loop, since when the request waits that has waited longest there.
-    waiting: Vec<AtomicU64>,
+    loops: Vec<WaitingLoop>,
 }
 
 impl Admission {
-    /// No request is inside, and none waits at any of so many loops. At most `most` requests may be inside. The only error is an
-    /// allocation failure.
-    pub(crate) fn new(alloc: Global, most: u64, loops: usize) -> Result<Admission, AllocError> {
-        let mut waiting = Vec::with_capacity(alloc, loops)?;
-        for _ in 0..loops {
-            waiting.push(AtomicU64::new(NONE_WAITS))?;
+    /// No request is inside, and none waits at any of so many loops, which are awake. At most `most` requests may be inside. An
+    /// error if a system call or an allocation fails.
+    pub(crate) fn new(alloc: Global, most: u64, count: usize) -> io::Result<Admission> {
+        let mut loops = Vec::with_capacity(alloc, count)?;
+        for _ in 0..count {
+            loops.push(WaitingLoop::new()?)?;
         }
         Ok(Admission {
             inside: AtomicU64::new(0),
             most,
-            waiting,
+            loops,
         })
     }
 
     /// Notes since when the request waits that has waited longest at the loop of this number, if one waits.
     pub(crate) fn note_waiting(&self, number: usize, since: Option<u64>) {
-        if let Some(waiting) = self.waiting.get(number) {
-            waiting.store(since.unwrap_or(NONE_WAITS), Ordering::SeqCst);
+        if let Some(waiting) = self.loops.get(number) {
+            waiting.note_since(since);
+        }
+    }
+
+    /// Notes that the loop of this number is asleep, unless its request may enter, which waits since this moment. Gives whether
+    /// it is asleep.
+    pub(crate) fn falls_asleep(&self, number: usize, since: u64) -> bool {
+        self.note_asleep(number, true);
+        // only now: a place that becomes free later finds the loop asleep
+        let may_enter = self.may_enter(since);
+        if may_enter {
+            self.note_asleep(number, false);
+        }
+        !may_enter
+    }
+
+    /// Notes whether the loop of this number is asleep.
+    pub(crate) fn note_asleep(&self, number: usize, is_asleep: bool) {
+        if let Some(waiting) = self.loops.get(number) {
+            waiting.note_asleep(is_asleep);
+        }
+    }
+
+    /// The descriptor that is readable after the loop of this number was woken, if there is such a loop.
+    pub(crate) fn descriptor(&self, number: usize) -> Option<RawFd> {
+        match self.loops.get(number) {
+            Some(waiting) => Some(waiting.descriptor()),
+            None => None,
         }
     }
 
@@ -69,11 +108,27 @@ impl Admission {
         self.inside.fetch_sub(1, Ordering::SeqCst);
     }
 
-    /// Whether fewer than the most requests are inside while one waits at another loop than that of this number.
-    pub(crate) fn has_place_for_others(&self, number: usize) -> bool {
-        self.has_place()
-            && self.waiting.iter().enumerate().any(|(other, since)| other != number
-                && since.load(Ordering::SeqCst) != NONE_WAITS)
+    /// If fewer than the most requests are inside, looks for the loop whose request has waited longest, other than that of this
+    /// number, and wakes it if it is asleep. Gives the loop that was woken.
+    pub(crate) fn wake_next(&self, number: usize) -> Option<usize> {
+        if !self.has_place() {
+            return None;
+        }
+        let next = self.longest_waiting(number)?;
+        if self.loops.get(next)?.wake() {
+            Some(next)
+        } else {
+            None
+        }
+    }
+
+    /// The loop whose request has waited longest, other than that of this number, if a request waits at one.
+    fn longest_waiting(&self, number: usize) -> Option<usize> {
+        let mut longest = LongestWaiting::none(number);
+        for (other, waiting) in self.loops.iter().enumerate() {
+            longest = longest.or(other, waiting.since());
+        }
+        longest.found()
     }
 
     fn has_place(&self) -> bool {
@@ -83,8 +138,8 @@ impl Admission {
     /// Since when the request waits that has waited longest of all.
     fn earliest(&self) -> u64 {
         let mut earliest = NONE_WAITS;
-        for since in self.waiting.iter() {
-            earliest = earliest.min(since.load(Ordering::SeqCst));
+        for waiting in self.loops.iter() {
+            earliest = earliest.min(waiting.since());
         }
         earliest
     }

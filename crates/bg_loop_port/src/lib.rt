@@ -5,11 +5,15 @@
 mod accept;
 mod admission;
 mod loads_of_loops;
+mod longest_waiting;
 mod loop_port;
 #[cfg(test)]
 mod order;
 #[cfg(test)]
 mod two_loops;
+mod waiting_loop;
+#[cfg(test)]
+mod wakes;
 
 pub use accept::Accepted;
 pub use loop_port::{CutAnswers, LoopPort, LoopPortSettings};

@@ -41,7 +41,7 @@ pub struct LoopPort {
     is_closed: AtomicBool,
     /// Whether a graceful shutdown has begun.
     is_shut_down: AtomicBool,
-    /// What ends the waits of the loops.
+    /// What ends the waits of all loops.
     signal: Signal,
     admission: Admission,
     /// What gives the moments of the port.
@@ -161,10 +161,16 @@ impl LoopPort {
         self.listener.as_raw_fd()
     }
 
-    /// The descriptor that is readable after a shutdown has begun, after the port was closed, after a request may enter that waits
-    /// at another loop, or after a loop has left clients to the others. It is watched for edges.
+    /// The descriptor that is readable after a shutdown has begun, after the port was closed, or after a loop has left clients to
+    /// the others. All loops watch it for edges.
     pub fn signal_descriptor(&self) -> RawFd {
         self.signal.descriptor()
+    }
+
+    /// The descriptor that is readable after [`LoopPort::pass_on`] has woken the loop of this number. That loop alone watches it,
+    /// for edges. `None` if the port has no such loop.
+    pub fn signal_descriptor_of(&self, number: usize) -> Option<RawFd> {
+        self.admission.descriptor(number)
     }
 
     /// The moment: milliseconds from the start of the port.
@@ -194,12 +200,22 @@ impl LoopPort {
         self.admission.leave();
     }
 
-    /// Posts the signal if fewer than the most requests are inside while one waits at another loop than that of this number. A
-    /// loop calls this after a request of it has entered or left, or waits no more.
+    /// Notes that the loop of this number is asleep, unless its request may enter that has waited longest, since this moment.
+    /// Gives whether it is asleep. A loop at which a request waits calls this before it waits for events, after
+    /// [`LoopPort::note_waiting`], and waits only if the answer is yes.
+    pub fn falls_asleep(&self, number: usize, since: u64) -> bool {
+        self.admission.falls_asleep(number, since)
+    }
+
+    /// Notes that the loop of this number is awake: it looks in its next round whether a request of it may enter.
+    pub fn note_awake(&self, number: usize) {
+        self.admission.note_asleep(number, false);
+    }
+
+    /// Wakes the loop whose request has waited longest, other than that of this number, if it is asleep and fewer than the most
+    /// requests are inside. A loop calls this after a request of it has entered or left, or waits no more.
     pub fn pass_on(&self, number: usize) {
-        if self.admission.has_place_for_others(number) {
-            self.signal.post();
-        }
+        self.admission.wake_next(number);
     }
 
     /// Notes that what the connections of a loop come to has changed. A loop begins with nothing, and ends with nothing.

@@ -16,15 +16,14 @@ fn the_longest_waiting_enters_first_but_for_the_tolerance(rt: HostRuntime) {
     let first_enters = admission.enter(101);
     admission.note_waiting(0, Some(102));
     let third_is_refused = !admission.may_enter(102) && !admission.enter(102);
-    let has_no_place = !admission.has_place_for_others(1);
     admission.leave();
-    let has_place = admission.has_place_for_others(1) && !admission.has_place_for_others(0);
+    let third_enters = admission.may_enter(102) && admission.enter(102);
     assert_eq!(rt;
         (later_is_refused, later_enters, first_enters),
         (true, true, true)
     );
     assert_eq!(rt;
-        (third_is_refused, has_no_place, has_place),
-        (true, true, true)
+        (third_is_refused, third_enters),
+        (true, true)
     );
 }

@@ -17,8 +17,8 @@ const SPARE: usize = 8;
 /// The number of descriptors of a client port without its connections: its listener, and its signal.
 const OF_A_PORT: usize = 2;
 
-/// The same of an event loop: its epoll set.
-const OF_A_LOOP: usize = 1;
+/// The same of an event loop: its epoll set, and its signal.
+const OF_A_LOOP: usize = 2;
 
 /// The number of descriptors of a request that is inside: the connection of its client, and the one to an endpoint. If
 /// connections are kept, as many connections to endpoints may be there without a request.

@@ -122,6 +122,7 @@ fn settings_of<R>(context: &ServeContext<R>, service: Service) -> LoopSettings {
         },
         most_waiting: bounds.connections as usize,
         aborts_on_close: context.words.abort_on_close,
+        limits_drains: context.strategy.drain_limit.is_some(),
         grace_millis: millis(u64::from(context.words.shutdown_grace)),
         ..usual
     }
