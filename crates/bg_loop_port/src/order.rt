@@ -22,8 +22,5 @@ fn the_longest_waiting_enters_first_but_for_the_tolerance(rt: HostRuntime) {
         (later_is_refused, later_enters, first_enters),
         (true, true, true)
     );
-    assert_eq!(rt;
-        (third_is_refused, third_enters),
-        (true, true)
-    );
+    assert_eq!(rt; (third_is_refused, third_enters), (true, true));
 }

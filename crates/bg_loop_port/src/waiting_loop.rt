@@ -46,8 +46,8 @@ impl WaitingLoop {
 
     /// Ends the wait of the loop if it is asleep. Gives whether it was. Of several calls, one alone finds it asleep.
     pub(crate) fn wake(&self) -> bool {
-        let was_asleep =
-            self.is_asleep.load(Ordering::SeqCst) && self.is_asleep.swap(false, Ordering::SeqCst);
+        let was_asleep = self.is_asleep.load(Ordering::SeqCst)
+            && self.is_asleep.swap(false, Ordering::SeqCst);
         if was_asleep {
             self.signal.post();
         }

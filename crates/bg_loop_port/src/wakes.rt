@@ -75,7 +75,10 @@ fn the_signal_of_the_loop_alone_is_posted(rt: HostRuntime) {
     admission.note_asleep(2, true);
     admission.wake_next(0);
     let again = posted(&set);
-    assert_eq!(rt; [before, first, awake, again], [None, Some(2), None, Some(2)]);
+    assert_eq!(rt;
+        [before, first, awake, again],
+        [None, Some(2), None, Some(2)]
+    );
 }
 
 /// Watches the signal of a loop.
@@ -139,9 +142,7 @@ fn late_waits_of(admission: &Admission, set: &EpollSet, number: usize, since: u6
         if admission.enter(since) {
             return late;
         }
-        if admission.falls_asleep(number, since)
-            && set.wait(&mut [NO_EVENT; 1], LATE_MILLIS) == 0
-        {
+        if admission.falls_asleep(number, since) && set.wait(&mut [NO_EVENT; 1], LATE_MILLIS) == 0 {
             late = late.saturating_add(1);
         }
         admission.note_asleep(number, false);
