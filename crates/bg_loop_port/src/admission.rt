@@ -1,5 +1,5 @@
 //! Which request of a port enters next.
-ghost use Rattle.std.specs.Prelude.{◌≡◌, ◌+◌, nat_le};
+ghost use Rattle.std.specs.Prelude.{◌≡◌, ◌+◌, nat_le, not};
 
 use crate::longest_waiting::LongestWaiting;
 use crate::waiting_loop::{NONE_WAITS, WaitingLoop};
@@ -58,13 +58,26 @@ impl Admission {
     /// Notes that the loop of this number is asleep, unless its request may enter, which waits since this moment. Gives whether
     /// it is asleep.
     pub(crate) fn falls_asleep(&self, number: usize, since: u64) -> bool {
+        self.falls_asleep_unless(number, || self.may_enter(since))
+    }
+
+    /// Notes that the loop of this number is asleep, and only then asks whether its request may enter: so who frees a place after
+    /// the answer finds the loop asleep. Gives whether it is asleep: it is not if its request may enter.
+    pub(crate) fn falls_asleep_unless<F: FnOnce() -> bool>(
+        &self,
+        number: usize,
+        may_enter: F,
+    ) -> bool
+        requires { F.pre may_enter }
+        ensures { F.post may_enter (not result) }
+    {
         self.note_asleep(number, true);
-        // only now: a place that becomes free later finds the loop asleep
-        let may_enter = self.may_enter(since);
-        if may_enter {
+        if may_enter() {
             self.note_asleep(number, false);
+            false
+        } else {
+            true
         }
-        !may_enter
     }
 
     /// Notes whether the loop of this number is asleep.

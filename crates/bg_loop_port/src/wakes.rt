@@ -105,47 +105,79 @@ fn posted(set: &EpollSet) -> Option<u64> {
 }
 
 #[test]
+fn a_place_that_is_freed_after_the_last_look_wakes_the_loop(rt: HostRuntime) {
+    let Ok(admission) = Admission::new(rt.alloc(), 1, 2) else {
+        panic!(rt; "no memory");
+    };
+    let enters = admission.enter(10);
+    admission.note_waiting(1, Some(10));
+    let mut woken = None;
+    let is_asleep = admission.falls_asleep_unless(1, || {
+        let may_enter = admission.may_enter(10);
+        admission.leave();
+        woken = admission.wake_next(0);
+        may_enter
+    });
+    assert_eq!(rt; (enters, is_asleep, woken), (true, true, Some(1)));
+}
+
+#[test]
+fn a_loop_whose_request_may_enter_stays_awake(rt: HostRuntime) {
+    let Ok(admission) = Admission::new(rt.alloc(), 1, 2) else {
+        panic!(rt; "no memory");
+    };
+    admission.note_waiting(1, Some(10));
+    let is_asleep = admission.falls_asleep(1, 10);
+    let woken = admission.wake_next(0);
+    assert_eq!(rt; (is_asleep, woken), (false, None));
+}
+
+#[test]
 fn no_loop_sleeps_for_good_while_its_request_may_enter(rt: HostRuntime) {
     let Ok(admission) = Admission::new(rt.alloc(), 1, 2) else {
         panic!(rt; "no memory");
     };
-    assert_eq!(rt; late_waits(&rt, &admission), (0, 0));
+    assert_eq!(rt; are_late(&rt, &admission), (false, false));
 }
 
-/// How many waits of two loops nobody ended.
-fn late_waits<R: Threads + Sync>(rt: &R, admission: &Admission) -> (u64, u64) {
-    join(rt, || take_turns(admission, 0), || take_turns(admission, 1))
+/// Whether each of two loops has waited although nobody ended its wait.
+fn are_late<R: Threads + Sync>(rt: &R, admission: &Admission) -> (bool, bool) {
+    join(
+        rt,
+        || takes_turns_late(admission, 0),
+        || takes_turns_late(admission, 1),
+    )
 }
 
-/// Lets the requests of a loop enter and leave, one after the other. Gives how many waits nobody ended.
-fn take_turns(admission: &Admission, number: usize) -> u64 {
+/// Lets the requests of a loop enter and leave, one after the other, until nobody ends a wait. Gives whether that happened.
+fn takes_turns_late(admission: &Admission, number: usize) -> bool {
     let Ok(set) = EpollSet::new() else {
-        return u64::MAX;
+        return true;
     };
     watch(&set, admission, number);
-    let mut late = 0u64;
     for turn in 0..TURNS {
         admission.note_waiting(number, Some(turn));
-        late = late.saturating_add(late_waits_of(admission, &set, number, turn));
+        if enters_late(admission, &set, number, turn) {
+            return true;
+        }
         admission.note_waiting(number, None);
         admission.wake_next(number);
         admission.leave();
         admission.wake_next(number);
     }
-    late
+    false
 }
 
-/// Lets a request enter as soon as it may. Gives how many waits nobody ended.
-fn late_waits_of(admission: &Admission, set: &EpollSet, number: usize, since: u64) -> u64 {
-    let mut late = 0u64;
+/// Lets a request enter as soon as it may, if nobody fails to end a wait for that. Gives whether somebody does.
+fn enters_late(admission: &Admission, set: &EpollSet, number: usize, since: u64) -> bool {
     for _ in 0..u64::MAX {
         if admission.enter(since) {
-            return late;
+            return false;
         }
         if admission.falls_asleep(number, since) && set.wait(&mut [NO_EVENT; 1], LATE_MILLIS) == 0 {
-            late = late.saturating_add(1);
+            return true;
         }
         admission.note_asleep(number, false);
     }
-    late
+    true
 }
