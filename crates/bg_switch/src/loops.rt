@@ -1,5 +1,5 @@
 //! Serves the clients of both services by event loops.
-ghost use Rattle.std.specs.Prelude.{◌≡◌, ◌*◌, ◌<◌, ◌^◌};
+ghost use Rattle.std.specs.Prelude.{◌≡◌, ◌*◌, ◌<◌, ◌^◌, is_some};
 ghost use Rattle.bg_event_loop.specs.Seats.{AllServed};
 ghost use Rattle.bg_forward.specs.Seats.{AllOut};
 
@@ -103,8 +103,11 @@ fn serve_port<'a, N: Names + Send + Sync, R: Threads + Wait + Clock + Sync>(
     run_event_loops(context.rt, &loop_context, seats, loops);
 }
 
-/// The settings of the event loops of a port. The bounds are those of the port.
-fn settings_of<R>(context: &ServeContext<R>, service: Service) -> LoopSettings {
+/// The settings of the event loops of a port. The bounds are those of the port. The gate is asked whether requests go on if the
+/// strategy has a drain limit.
+fn settings_of<R>(context: &ServeContext<R>, service: Service) -> LoopSettings
+    ensures { result.limits_drains ≡ is_some context.now.strategy.now.drain_limit }
+{
     let usual = kept_or_closed(context, service).with_refusal_body(context.refusal_body);
     let bounds = bounds_of(context.words, context.loops);
     LoopSettings {
