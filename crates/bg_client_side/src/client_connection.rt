@@ -5,11 +5,11 @@ ghost use Rattle.bg_http.specs.Persistences.{keeps};
 ghost use Rattle.bg_http_read.specs.ArrivingHeads.{BeginsWith};
 ghost use Rattle.bg_http_read.specs.RefusedHeads.{is_sound_head};
 ghost use Rattle.bg_client_side.specs.Clients.{accepted, stays_after};
-ghost use Rattle.bg_client_side.specs.Stages.{has_left, is_idle, is_inside, owes_continue, reads, takes_bytes, to_write, was_whole};
+ghost use Rattle.bg_client_side.specs.Stages.{has_left, is_idle, is_inside, owes_continue, reads, takes_bytes, to_write, waiting_request, was_whole};
 
 use crate::facts::{ClientFacts, ClientSettings, later};
 use crate::stage::Stage;
-use bg_http::{Persistence, RefusalBody, RequestHead};
+use bg_http::{Persistence, RefusalBody, Request, RequestHead};
 use bg_http_read::RequestStream;
 use std::alloc::Global;
 use std::marker::Model;
@@ -112,6 +112,16 @@ impl ClientConnection {
         ensures { result ≡ is_inside self.now.stage }
     {
         self.stage.is_inside()
+    }
+
+    /// The request that waits for a seat, if one does.
+    pub fn waiting_request(&self) -> Option<&Request>
+        ensures { option_copied result ≡ waiting_request self.now.stage }
+    {
+        match &self.stage {
+            Stage::Waiting(request) => Some(request),
+            _ => None,
+        }
     }
 
     /// Whether the connection failed while its request was inside, so that the request may be given up.

@@ -5,11 +5,9 @@ ghost use Rattle.bg_both_sides.specs.ClientEvents.{entered};
 ghost use Rattle.bg_both_sides.specs.EndpointEvents.{RefusesEntered};
 
 use crate::client::Client;
-use crate::request_log::RequestLog;
 use crate::sockets::{Input, read, write};
 use bg_client_side::Fed;
 use bg_sockets::is_drained;
-use std::alloc::Global;
 use std::net::Shutdown;
 
 /// The interim response that some clients await before they send a body (RFC 9110 section 10.1.1).
@@ -124,13 +122,12 @@ impl Client {
         }
     }
 
-    /// Refuses the request that waits for a seat with 503. Keeps its method and target, if they are logged.
-    pub(crate) fn refuse_waiting<L: RequestLog>(&mut self, alloc: Global, log: &L, now: u64)
+    /// Refuses the request that waits for a seat with 503.
+    pub(crate) fn refuse_waiting(&mut self, now: u64)
         ensures { (refuses : Bool) × (reply : Option Reply) × RefusesEntered (entered self.old.sides).endpoint now
             (entered self.old.sides).client refuses reply self.new.sides }
     {
         self.sides.enter();
-        self.keep_line(alloc, log);
         self.sides.refuse(now);
     }
 

@@ -240,6 +240,7 @@ impl<'a, P: EndpointPorts, L: RequestLog> EventLoop<'a, P, L> {
         match fed {
             Fed::Whole => {
                 client.record.note_whole(self.now);
+                client.keep_line(self.alloc, self.log);
                 if client.ready.reset {
                     client.sides.fail();
                 } else if !self.begin_to_wait(key) {
@@ -256,7 +257,7 @@ impl<'a, P: EndpointPorts, L: RequestLog> EventLoop<'a, P, L> {
     /// Refuses the request of a client, which is whole, with 503.
     fn refuse_waiting(&mut self, key: usize) {
         if let Some(client) = self.clients.get_mut(key) {
-            client.refuse_waiting(self.alloc, self.log, self.now);
+            client.refuse_waiting(self.now);
             client.end_request(self.log, Cause::Refused(Reason::Memory), self.now);
         }
     }

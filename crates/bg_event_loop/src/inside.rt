@@ -37,7 +37,6 @@ impl<'a, P: EndpointPorts, L: RequestLog> EventLoop<'a, P, L> {
             return Err(Fed::NotReading);
         };
         client.sides.enter();
-        client.keep_line(self.alloc, self.log);
         let why = match ticket {
             Ok(ticket) => {
                 client.record.note_entered(ticket, self.now);

@@ -11,12 +11,12 @@ use bg_http::RequestHead;
 use std::alloc::Global;
 
 impl Client {
-    /// Keeps the method and the target of the request that entered, if they are logged.
+    /// Keeps the method and the target of the request that waits for a seat, if they are logged. Its client may go before it enters.
     pub(crate) fn keep_line<L: RequestLog>(&mut self, alloc: Global, log: &L)
         ensures { self.new.sides ≡ self.old.sides }
     {
         if log.logs_lines()
-            && let Some(request) = self.sides.request()
+            && let Some(request) = self.sides.client().waiting_request()
         {
             self.record.keep_line(alloc, request);
         }

@@ -119,6 +119,7 @@ impl RequestRecord {
     /// Notes that the request is not answered although its client stays. It is logged as one that was not read.
     pub(crate) fn note_dropped(&mut self) {
         self.is_whole = false;
+        self.line = None;
     }
 
     /// Notes what the request got as it entered.
