@@ -3,12 +3,13 @@ ghost use Rattle.std.specs.Prelude.{◌≡◌, ◌≢◌, ◌⊎◌, ◌↔◌, 
 ghost use Rattle.sqlite_disk.specs.Disk.{MoreFaults};
 ghost use Rattle.sqlite_trees.specs.View.{doubt, IsShaped};
 ghost use Rattle.sqlite_trees.specs.declared.store.Shape.TheVariants as shape;
+ghost use Rattle.sqlite_trees.specs.declared.error.StoreError.{StoreError};
 ghost use Rattle.sqlite_wal.specs.Files.{image_at};
 ghost use Rattle.sqlite_catalog.specs.Listing.{IsSound};
 ghost use Rattle.sqlite.specs.Held.{state};
 ghost use Rattle.sqlite.specs.Files.{file_state};
 ghost use Rattle.sqlite.specs.Steps.{over_memory};
-ghost use Rattle.sqlite.specs.State.{HasCleanDisk, IsLive, Opens};
+ghost use Rattle.sqlite.specs.State.{HasCleanDisk, IsLive, Opens, store_error};
 ghost use Rattle.bg_journal_store.specs.declared.fault.JournalFault.TheVariants.{OtherSchema, OtherVersion};
 ghost use Rattle.bg_journal_store.specs.Faults.{fault_of as fault_in};
 ghost use Rattle.bg_journal_store.specs.Failures.{FailsToAppend, FailsToRead};
@@ -19,6 +20,7 @@ use crate::fault::{JournalFault, fault_of};
 use crate::reading::{SELECT_ENTRIES, SELECT_SETTINGS, read_texts};
 use crate::schema::{is_empty, is_journal};
 use sqlite::{Alter, Connection, Error, ErrorCode, FileFrom, FileStore, MemStore, Start, params};
+use sqlite_disk::Disk;
 use std::alloc::Global;
 use std::marker::Model;
 
@@ -89,6 +91,20 @@ impl<S: Start> Journal<FileStore<FileFrom<S>>> {
                 Ok(Journal { conn })
             }
             Err((error, _)) => Err(fault_of(error)),
+        }
+    }
+}
+
+impl<D: Disk + Drop> Journal<FileStore<D>> {
+    /// Closes the journal, and moves what its log still has into the database, whose file then has all texts without the log.
+    /// After an error the two files still have them together.
+    pub fn close(self) -> Result<(), JournalFault>
+        ensures { IfErr result (λ fault. (cause : StoreError) × (fault ≡ fault_in (store_error cause))) }
+    {
+        let Journal { conn } = self;
+        match conn.close() {
+            Ok(()) => Ok(()),
+            Err(error) => Err(fault_of(error)),
         }
     }
 }

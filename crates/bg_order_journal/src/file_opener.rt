@@ -20,4 +20,9 @@ impl OpensJournal<FileStore<FileFrom<Unknown>>> for FileOpener<'_> {
     fn open(&self) -> Result<Journal<FileStore<FileFrom<Unknown>>>, JournalFault> {
         Journal::open(self.rt, self.path, Unknown)
     }
+
+    fn empty_log(&self) -> Result<(), JournalFault> {
+        let journal = Journal::open(self.rt, self.path, Unknown)?;
+        journal.close()
+    }
 }

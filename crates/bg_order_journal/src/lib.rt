@@ -18,5 +18,5 @@ pub use first_row::settings_of;
 pub use opens_journal::OpensJournal;
 pub use recorded::recorded_strategy;
 pub use start_fault::StartFault;
-pub use starting::{Resumption, begin_journal, open_journal};
+pub use starting::{Resumption, begin_in_file, begin_journal, open_journal};
 pub use stored_orders::StoredOrders;

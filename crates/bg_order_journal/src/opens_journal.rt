@@ -13,4 +13,7 @@ pub trait OpensJournal<S: Alter>: Drop {
     fn open(&self) -> Result<Journal<S>, JournalFault>
         ensures { IfOk result (λ journal. HasCleanDisk (state S.Store journal)
             → IsJournal (state S.Store journal)) };
+
+    /// Opens the database, moves what its log still has into its file, and closes it.
+    fn empty_log(&self) -> Result<(), JournalFault>;
 }

@@ -5,6 +5,7 @@ ghost use Rattle.sqlite.specs.State.{HasCleanDisk};
 ghost use Rattle.bg_order_journal.specs.Ties.{IsTied, IsTiedAs, Ties};
 
 use crate::opens_journal::OpensJournal;
+use crate::start_fault::StartFault;
 use bg_journal_store::{Journal, JournalFault};
 use sqlite::Alter;
 use std::alloc::Global;
@@ -20,6 +21,28 @@ pub(crate) fn open_rows<S: Alter + Drop, O: OpensJournal<S>>(
     let mut journal = opener.open()?;
     let rows = journal.read_all(alloc)?;
     Ok((journal, rows))
+}
+
+/// Closes a journal with these rows, so that the file of its database has them without a log, and opens it again. The error
+/// is `Changed` if it has other rows then.
+pub(crate) fn reopened<S: Alter + Drop, O: OpensJournal<S>>(
+    alloc: Global,
+    opener: &O,
+    journal: Journal<S>,
+    rows: &[String],
+) -> Result<Journal<S>, StartFault>
+    ensures { IfOk result (λ again. HasCleanDisk (state S.Store again)
+        → Ties (state S.Store again) (map string_bytes rows.now) []) }
+{
+    // No other connection may have the database open.
+    drop(journal);
+    opener.empty_log()?;
+    let (journal, found) = open_rows(alloc, opener)?;
+    if are_same(&found, rows) {
+        Ok(journal)
+    } else {
+        Err(StartFault::Changed)
+    }
 }
 
 /// Appends the first row to a journal without rows.

@@ -27,6 +27,9 @@ pub enum StartFault {
     /// A journal cannot be begun, since it has rows.
     #[error("the journal has orders already")]
     NotNew,
+    /// The journal has other rows than those that were read before it was closed and opened again.
+    #[error("another process has changed the journal meanwhile")]
+    Changed,
     #[error("out of memory")]
     OutOfMemory,
 }

@@ -61,6 +61,21 @@ impl<S: Alter + Drop, O: OpensJournal<S>> Resumption<S, O> {
         } = self;
         DeskJournal::resumed(orders, &entries)
     }
+
+    /// The orders, after what the log of the database still has was moved into its file: the file alone then has all of the
+    /// journal. It stays open. The error is `Changed` if another process has changed it meanwhile.
+    pub fn into_file(self) -> Result<StoredOrders<S, O>, StartFault>
+        ensures rows { IfOk result (λ orders. orders.1.0 ≡ self.orders.1.0) }
+        ensures settled { IfOk result (λ orders. orders.1.1 ≡ []) }
+    {
+        let Resumption {
+            orders,
+            first: _,
+            entries: _,
+            count: _,
+        } = self;
+        orders.without_log()
+    }
 }
 
 /// Opens a journal, and reads what a book is resumed from. `None` if the journal has no rows: then [`begin_journal`] begins it
@@ -110,6 +125,29 @@ pub fn begin_journal<S: Alter + Drop, O: OpensJournal<S>>(
     let mut only = Vec::new(alloc);
     only.push(row)?;
     Ok(StoredOrders::opened(alloc, opener, journal, only))
+}
+
+/// Begins a journal, as [`begin_journal`] does, in the file of its database alone: its log has nothing of it. Gives it as a start
+/// resumes it.
+pub fn begin_in_file<S: Alter + Drop, O: OpensJournal<S>>(
+    alloc: Global,
+    opener: O,
+    strategy: &Strategy,
+    first: FirstRevision,
+) -> Result<Resumption<S, O>, StartFault>
+    ensures rows { IfOk result (λ begun. begun.orders.1.0
+        ≡ first_row_of (strategy_text strategy.now) first.name first.ports ∷ []) }
+    ensures settled { IfOk result (λ begun. begun.orders.1.1 ≡ []) }
+    ensures first { IfOk result (λ begun. begun.first ≡ first) }
+    ensures none { IfOk result (λ begun. begun.entries.items ≡ []) }
+{
+    let orders = begin_journal(alloc, opener, strategy, &first)?.without_log()?;
+    Ok(Resumption {
+        orders,
+        first,
+        entries: Vec::new(alloc),
+        count: 0,
+    })
 }
 
 /// Appends the first row to a journal with these rows, unless it is the only one already.

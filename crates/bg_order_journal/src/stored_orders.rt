@@ -1,12 +1,13 @@
 //! The orders that a database keeps.
-ghost use Rattle.std.specs.Prelude.{◌≡◌, ◌≢◌, ◌∷◌, ◌++◌, ◌+◌, ◌≤◌, [], drop, true, false, length, map, string_bytes, vec_capacity, vec_len};
+ghost use Rattle.std.specs.Prelude.{IfOk, ◌≡◌, ◌≢◌, ◌∷◌, ◌++◌, ◌+◌, ◌≤◌, [], drop, true, false, length, map, string_bytes, vec_capacity, vec_len};
 ghost use Rattle.sqlite.specs.Held.{state};
 ghost use Rattle.sqlite.specs.State.{HasCleanDisk};
 ghost use Rattle.bg_order_journal.specs.Ties.{IsTied, MayFind, Ties, doubt_in};
 
 use crate::opens_journal::OpensJournal;
-use crate::rows::{append_again, append_row};
-use bg_journal_store::Journal;
+use crate::rows::{append_again, append_row, reopened};
+use crate::start_fault::StartFault;
+use bg_journal_store::{Journal, JournalFault};
 use bg_script::OrderJournal;
 use sqlite::Alter;
 use std::alloc::Global;
@@ -76,6 +77,28 @@ impl<S: Alter, O: OpensJournal<S>> StoredOrders<S, O> {
             rows,
             doubt: None,
         }
+    }
+}
+
+impl<S: Alter + Drop, O: OpensJournal<S>> StoredOrders<S, O> {
+    /// Moves what the log of the database still has into its file, so that the file alone has all rows, and opens the database
+    /// again. The error is `Changed` if it has other rows then.
+    pub(crate) fn without_log(self) -> Result<StoredOrders<S, O>, StartFault>
+        ensures rows { IfOk result (λ orders. orders.1.0 ≡ self.1.0) }
+        ensures settled { IfOk result (λ orders. orders.1.1 ≡ []) }
+    {
+        let StoredOrders {
+            alloc,
+            opener,
+            journal,
+            rows,
+            doubt: _,
+        } = self;
+        let Some(journal) = journal else {
+            return Err(StartFault::Journal(JournalFault::Closed));
+        };
+        let again = reopened(alloc, &opener, journal, &rows)?;
+        Ok(StoredOrders::opened(alloc, opener, again, rows))
     }
 }
 
