@@ -1,6 +1,6 @@
 """`bg_switch serve --journal`: what a start resumes after a kill, a disk that fails or is full, the
-journals that are refused, what `bg_switch journal` tells, and kills at random under orders and
-requests."""
+journals that are refused, what `bg_switch journal` tells, journals that are restarted, and kills at
+random."""
 import contextlib
 import itertools
 import os
@@ -9,10 +9,11 @@ import random
 import resource
 import signal
 import sqlite3
+import subprocess
 import tempfile
 import threading
 import time
-from collections.abc import Iterator
+from collections.abc import Iterator, Sequence
 from typing import Any
 
 from refused_memory import refuse
@@ -20,6 +21,7 @@ from support import PROGRAM, TOP, checks, clients, processes
 from support.checks import check
 from support.endpoints import Endpoint, by_target
 from support.journals import (
+    FILES,
     FailingDisk,
     Failure,
     build_object,
@@ -53,6 +55,10 @@ KEEPS = "keeps each order again"
 KILLS, KILLS_BY_HAND, KILLS_EACH = 12, 500, 4
 SHORTEST_LIFE, LONGEST_LIFE = 0.05, 0.6
 PAUSE = 0.004
+# How many restarts of a journal are killed, in the gate and by hand.
+KILLED_RESTARTS, KILLED_RESTARTS_BY_HAND = 30, 300
+# The files of a restart without room have so many bytes more, run by run, up to so many.
+MORE_BYTES, MOST_BYTES = 2_048, 65_536
 CLIENTS = 4
 SEED = random.SystemRandom().randrange(10**9)
 
@@ -337,6 +343,225 @@ def all_memory_refused_at_a_start() -> None:
     refuse_memory(1)
 
 
+def restarted(path: str, rollout: str, *words: str) -> processes.Run:
+    """A run of `bg_switch journal --restart`."""
+    return processes.run_to_end([PROGRAM, "journal", "--restart", *words, path], rollout)
+
+
+def check_not_restarted(
+    name: str, path: str, reason: str, *words: str, rollout: str = BY_HAND
+) -> None:
+    """Checks that a journal is not restarted, why, and that its file stays as it is."""
+    content = content_of(path) if os.path.exists(path) else None
+    run = restarted(path, rollout, *words)
+    told = f"bg_switch: the journal {path} can't be restarted: {reason}"
+    check(name, (run.printed, told in run.told, run.status), (REFUSED, True, 1))
+    now = content_of(path) if os.path.exists(path) else None
+    check(f"{name}: the file", now == content, True)
+    check(f"{name}: no other file", left_beside(path), [])
+
+
+def left_beside(path: str) -> list[str]:
+    """The files beside a journal but its log and what is no part of a restart."""
+    folder, name = os.path.split(path)
+    return sorted(file for file in os.listdir(folder) if file.startswith(f"{name}."))
+
+
+def copies_of(path: str) -> list[str]:
+    """The copies of a journal that are beside it, in the order in which they were made."""
+    folder, name = os.path.split(path)
+    numbers = [file.removeprefix(f"{name}.") for file in os.listdir(folder)]
+    return [f"{path}.{number}" for number in sorted(filter(str.isdigit, numbers), key=int)]
+
+
+def begun_with(path: str, lines: Sequence[str]) -> str:
+    """Begins a journal with these orders, which are carried out. Gives the report at its end."""
+    with journaled(path) as switch:
+        with contextlib.closing(switch.operator()) as operator:
+            for line in lines:
+                check(line, operator.answer_to(line).split()[0], "ok")
+            return operator.report()
+
+
+# A revision that is promoted, and a later one that is not. The journal has a row for each order.
+PROMOTED = (
+    "open one 9001",
+    "available 1 1",
+    "tick 30",
+    "deploy two 9002",
+    "available 2 1",
+    "promote",
+    "tick 99",
+    "deploy three 9003",
+)
+ROWS_BEFORE = len(PROMOTED)
+
+
+def other_settings() -> None:
+    """A journal begins anew with the stable revision and other settings, and a copy is kept."""
+    with a_folder() as folder:
+        path = f"{folder}/journal"
+        was = begun_with(path, PROMOTED)
+        os.chmod(path, 0o640)
+        pathlib.Path(f"{path}.1").write_text("a file of somebody else")
+        later = BY_HAND.replace("}}}", ', "scaleDownDelaySeconds": 7}}}')
+        run = restarted(path, later)
+        rows = rows_in(path)
+        check("one row", (len(rows), rows[0].splitlines()[-1]), (1, "deploy 1 two 9002"))
+        new = report_by_rule(rows, strategy_of(later))
+        check("the journal is restarted", run, (new, "", 0))
+        check("the journal is judged", judged(path), (new, "", 0))
+        check("no other file is left", left_beside(path), ["journal.1", "journal.2"])
+        check("no file is overwritten", content_of(f"{path}.1"), b"a file of somebody else")
+        check("its mode", [os.stat(it).st_mode & 0o777 for it in (path, f"{path}.2")], [0o640] * 2)
+        check("the copy is judged", judged(f"{path}.2"), (was, "", 0))
+        check_refused("the strategy before", path, "the journal is one of another strategy")
+        with journaled(path, later) as switch:
+            check("the report of a start", report_of(switch), new)
+            for line in ("available 1 1", "tick 5", "deploy three 9003"):
+                check(line, switch.answer_to(line).split()[0], "ok")
+            newer = report_of(switch)
+        check("the journal goes on", judged(path), (newer, "", 0))
+        os.replace(f"{path}.2", path)
+        os.unlink(f"{path}-wal")
+        check("the copy in its place", judged(path), (was, "", 0))
+
+
+def other_replicas() -> None:
+    """Other replicas need as many ports; a second restart keeps a second copy."""
+    with a_folder() as folder:
+        path = f"{folder}/journal"
+        was = begun_with(path, PROMOTED)
+        ports = "a revision has one port for each replica"
+        check_not_restarted("no ports for two replicas", path, ports, rollout=OTHER)
+        for words in ("9001", "9001,9001", "9001,0"):
+            check_not_restarted(f"ports {words}", path, ports, "--ports", words, rollout=OTHER)
+        for words in ("9001 9002", "9001,", "9001,70000"):
+            reason = "--ports is no list of ports"
+            check_not_restarted(f"ports {words}", path, reason, "--ports", words, rollout=OTHER)
+        check("the journal is as it was", judged(path), (was, "", 0))
+        run = restarted(path, OTHER, "--ports", "9002,9012")
+        rows = rows_in(path)
+        check("two ports", rows[0].splitlines()[-1], "deploy 1 two 9002 9012")
+        check("two replicas", run, (report_by_rule(rows, strategy_of(OTHER)), "", 0))
+        check("the other replicas again", restarted(path, BY_HAND, "--ports", "9002").status, 0)
+        check("two copies", copies_of(path), [f"{path}.1", f"{path}.2"])
+        check("the first copy", judged(f"{path}.1").printed, was)
+        check("the second copy", judged(f"{path}.2").printed, run.printed)
+
+
+def journals_that_are_not_restarted() -> None:
+    """A journal that is open, not there, not begun, damaged, or none; a strategy with a fault; and a
+    disk without room."""
+    with a_folder() as folder:
+        path = f"{folder}/journal"
+        check_not_restarted("a journal that is not there", path, "it is not there, or is empty")
+        check("it is not made", os.listdir(folder), [])
+        with journaled(path) as switch:
+            check_not_restarted(
+                "a journal that is open", path, "another process has the journal open"
+            )
+            check("it goes on", switch.answer_to("report"), NO_BOOK)
+        check_not_restarted("a journal that was not begun", path, "no book was opened with it yet")
+        was = begun_with(path, PROMOTED)
+        run = restarted(path, "{}")
+        check("no strategy", (run.printed, run.status), ("fault Missing spec\n", 1))
+        check_without_room(path, was)
+        move_log(path)
+        whole = content_of(path)
+        middle = len(whole) // 2
+        pathlib.Path(path).write_bytes(
+            whole[:middle] + bytes([whole[middle] ^ 1]) + whole[middle + 1 :]
+        )
+        check_not_restarted("a damaged journal", path, "the database is damaged")
+        pathlib.Path(path).write_bytes(b"no database, but a text of some length\n" * 300)
+        check_not_restarted("a text", path, "the file is no database that obeys its schema")
+
+
+def restarted_in(most: int, path: str) -> processes.Run:
+    """A run that restarts a journal, and whose files may have so many bytes at most."""
+
+    def prepare() -> None:
+        ignore_the_limit()
+        resource.setrlimit(resource.RLIMIT_FSIZE, (most, most))
+
+    words = [BUILT, "journal", "--restart", path]
+    with subprocess.Popen(
+        words,
+        stdin=subprocess.PIPE,
+        stdout=subprocess.PIPE,
+        stderr=subprocess.PIPE,
+        text=True,
+        preexec_fn=prepare,
+    ) as process:
+        output = processes.output_of(process, BY_HAND)
+    return processes.Run(*output, process.returncode)
+
+
+def check_without_room(path: str, was: str) -> None:
+    """There is no room to move the log into the file, for the copy, or for the new journal."""
+    for most in range(0, MOST_BYTES, MORE_BYTES):
+        run = restarted_in(most, path)
+        if run.status == 0:
+            break
+        check(f"files of {most} bytes", (run.printed, copies_of(path)), (REFUSED, []))
+        check(f"the journal after files of {most} bytes", judged(path), (was, "", 0))
+    check("files of more bytes", (run.status, most > MORE_BYTES), (0, True))
+    check("the copy", judged(f"{path}.1").printed, was)
+
+
+def kill_at_random(words: Sequence[str], longest: float) -> bool:
+    """Starts a program and kills it after at most so many seconds. Gives whether it had ended."""
+    with subprocess.Popen(
+        words, stdin=subprocess.PIPE, stdout=subprocess.DEVNULL, stderr=subprocess.DEVNULL
+    ) as process:
+        with contextlib.suppress(BrokenPipeError):
+            assert process.stdin is not None
+            process.stdin.write(BY_HAND.encode())
+            process.stdin.close()
+        time.sleep(random.uniform(0, longest))
+        process.kill()
+    return process.returncode == 0
+
+
+def kill_restarts(kills: int) -> None:
+    """A journal is restarted by programs that are killed at random moments: its file has the old one or
+    the new one whole, and if it is the new one, the copy has the old one. The next restart goes through.
+    """
+    with a_folder() as folder:
+        path = f"{folder}/journal"
+        was, ended, changed = begun_with(path, PROMOTED), 0, 0
+        kept = {end: content_of(path + end) for end in FILES}
+        begun = time.monotonic()
+        new = restarted(path, BY_HAND).printed
+        longest = 1.2 * (time.monotonic() - begun)
+        for _ in range(kills):
+            for file in os.listdir(folder):
+                os.unlink(f"{folder}/{file}")
+            for end, content in kept.items():
+                pathlib.Path(path + end).write_bytes(content)
+            ended += kill_at_random([BUILT, "journal", "--restart", path], longest)
+            rows = rows_in(path)
+            check("the rows of one of both", len(rows) in (1, ROWS_BEFORE), True)
+            is_new = len(rows) == 1
+            changed += is_new
+            check("a journal after a kill", judged(path), (new if is_new else was, "", 0))
+            if is_new:
+                check("the copy is whole", judged(f"{path}.1"), (was, "", 0))
+            check("the next restart", restarted(path, BY_HAND), (new, "", 0))
+            last = judged(copies_of(path)[-1])
+            check("its copy", last, (new if is_new else was, "", 0))
+        print(f"live_journal: {kills} kills of restarts, {changed} changed, {ended} had ended")
+
+
+def restarts_that_are_killed() -> None:
+    kill_restarts(KILLED_RESTARTS)
+
+
+def many_restarts_that_are_killed() -> None:
+    kill_restarts(KILLED_RESTARTS_BY_HAND)
+
+
 class Drill:
     """A journal under operators and clients at random, whose switch is killed again and again."""
 
@@ -463,7 +688,15 @@ if __name__ == "__main__":
             a_file_that_may_not_grow,
             memory_refused_at_a_start,
             kills_at_random,
+            other_settings,
+            other_replicas,
+            journals_that_are_not_restarted,
+            restarts_that_are_killed,
         ],
         at_once=3,
-        by_hand=[many_kills_at_random, all_memory_refused_at_a_start],
+        by_hand=[
+            many_kills_at_random,
+            many_restarts_that_are_killed,
+            all_memory_refused_at_a_start,
+        ],
     )

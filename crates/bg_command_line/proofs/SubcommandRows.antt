@@ -295,14 +295,28 @@ abbrev pub journal : Shape
 journal = built_sub journal_app.top
 
 journal_keeps : Each (Keeps journal.rules) journal.rules
-journal_keeps = (word_keeps journal.rules true (codes "file") refl, (help_keeps journal.rules, tt))
+journal_keeps = (
+  flag_keeps journal.rules false (codes "restart") refl,
+  (
+    text_keeps journal.rules false (codes "ports") refl,
+    (word_keeps journal.rules true (codes "file") refl, (help_keeps journal.rules, tt)),
+  ),
+)
+
+journal_defaults : Each (DefaultKeeps journal.rules) journal.rules
+journal_defaults = (
+  flag_default_keeps journal.rules false (codes "restart") refl,
+  (
+    no_default_keeps journal.rules (held (text_rule (codes "ports"))) refl,
+    (no_default_keeps journal.rules (held (word_rule_required_if true (codes "file"))) refl, (help_default_keeps journal.rules, tt)),
+  ),
+)
 
 -- the file is given
 pub journal_known : (words : List Text) → level_fault journal [] nothing_held words false [] ≡ []
     → is_some (first_of (codes "file") (rows_after journal.rules [] words)) ≡ true
 journal_known words e =
     let rows = rows_after journal.rules [] words in
-    let good : AreGood journal.rules rows = leaf_good journal words refl journal_keeps
-    (no_default_keeps journal.rules (held (word_rule_required_if true (codes "file"))) refl, (help_default_keeps journal.rules, tt)) e in
+    let good : AreGood journal.rules rows = leaf_good journal words refl journal_keeps journal_defaults e in
     let given = first_given (is_given (codes "file") rows) _ (all_given journal words refl e) in
     given_has journal.rules (codes "file") rows good given.0

@@ -18,7 +18,7 @@ use Rattle.bg_command_line.specs.declared.invocation.Connections.TheVariants.{Co
 use Rattle.bg_command_line.specs.declared.invocation.ControlSocket.{ControlSocket}
 use Rattle.bg_command_line.specs.declared.invocation.Flags.{Flags}
 use Rattle.bg_command_line.specs.declared.invocation.Invocation.{Invocation}
-use Rattle.bg_command_line.specs.declared.invocation.Invocation.TheVariants.{Check, Journal, Replay, Serve}
+use Rattle.bg_command_line.specs.declared.invocation.Invocation.TheVariants.{Check, Journal, Replay, RestartJournal, Serve}
 use Rattle.bg_command_line.specs.declared.invocation.KeepAlive.{KeepAlive}
 use Rattle.bg_command_line.specs.declared.invocation.ServeSettings.{ServeSettings}
 use Rattle.bg_command_line.specs.declared.invocation.InvocationFault.{InvocationFault}
@@ -90,9 +90,11 @@ check_app = new_app (codes "check")
 abbrev pub replay_app : App
 replay_app = with_rule (new_app (codes "replay")) (number_rule (codes "seats") 8)
 
--- `journal FILE`
+-- `journal [--restart] [--ports PORTS] FILE`
 abbrev pub journal_app : App
-journal_app = with_rule (new_app (codes "journal")) (word_rule_required_if true (codes "file"))
+journal_app = with_rule (with_rule (with_rule (new_app (codes "journal")) (flag_rule (codes "restart")))
+    (text_rule (codes "ports")))
+    (word_rule_required_if true (codes "file"))
 
 -- `--active P [--preview P]`
 abbrev pub with_port_rules : App → App
@@ -312,6 +314,11 @@ IsInvocationOf flags name rows (Replay seats) = (name ≡ codes "replay")
     × (seats ≡ unwrap_or (number_of (codes "seats") rows) 4) × IsBetween 1 8 seats
 IsInvocationOf flags name rows (Journal path) =
     (name ≡ codes "journal") × (first_of (codes "file") rows ≡ Some path.now)
+    × (has_flag (codes "restart") rows ≡ false)
+IsInvocationOf flags name rows (RestartJournal path ports) =
+    (name ≡ codes "journal") × (first_of (codes "file") rows ≡ Some path.now)
+    × (has_flag (codes "restart") rows ≡ true)
+    × (option_map (λ text. text.now) ports ≡ first_of (codes "ports") rows)
 IsInvocationOf flags name rows (Serve settings) = (name ≡ codes "serve") × IsServe flags rows settings
 
 -- the words are accepted, and the invocation is the subcommand of their matches

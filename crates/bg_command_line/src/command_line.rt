@@ -48,7 +48,10 @@ connection on, and a response from the dial on, until it is whole: 1 to 3600; 60
 /// The notes in the help of the program.
 const NOTES: &str = "\
 check has no words of its own. replay takes --seats N: how many requests can be open at once, 1 to 8;
-4 where it isn't given. journal takes FILE: the file of a journal that no process has open.
+4 where it isn't given. journal takes FILE: the file of a journal that no process has open. With --restart,
+a journal that begins with the Rollout on standard input and the revision that is stable takes its place,
+and FILE.1, or the first number that is free, becomes a copy of the old one. --ports PORTS, as 9001,9002, gives
+that revision other ports, as many as there are replicas; it has no effect without --restart.
 serve takes, on ports of 127.0.0.1:
   --active P   port of clients whose requests go to the active revision, 1 to 65535; has to be given
   --preview P  that of the revision under preview, 1 to 65535; no such port where it isn't given
@@ -100,7 +103,8 @@ serve takes, on ports of 127.0.0.1:
                closed after the last
   --forever    in the place of --count: the workers end at a graceful shutdown
 A line quit ends the operators' side of serve, and with --count not the workers'.
-The strategy comes on standard input of check, replay and serve, as `kubectl get rollout NAME -o json` writes it.
+The strategy comes on standard input of check, replay, serve and journal --restart, as
+`kubectl get rollout NAME -o json` writes it.
 Status: 0; 1 after a fault, and where the run ends early; 2 after words that are no order, and after
 this help.";
 
@@ -131,7 +135,7 @@ fn replay_command<'a>(alloc: Global) -> Result<Command<'a>, AllocError>
     with_options(alloc, named, &[seats])
 }
 
-/// `journal FILE`.
+/// `journal [--restart] [--ports PORTS] FILE`.
 fn journal_command<'a>(alloc: Global) -> Result<Command<'a>, AllocError>
     ensures app { IfOk result (λ c. app_of c ≡ journal_app) }
     ensures local { IfOk result (λ c. (fields_of c).has_globals ≡ false) }
@@ -139,13 +143,25 @@ fn journal_command<'a>(alloc: Global) -> Result<Command<'a>, AllocError>
     let named = Command::new(alloc, "journal").about(
         "Judges a journal of serve, and writes the report of its end, or its first fault",
     );
+    let restart = CommandOption {
+        name: "restart",
+        value: OptionValue::Nothing,
+        required: false,
+        help: "Put a new journal in its place, which begins with the Rollout on standard input and the stable revision",
+    };
+    let ports = CommandOption {
+        name: "ports",
+        value: OptionValue::Text("PORTS"),
+        required: false,
+        help: "With --restart: the ports of the stable revision from then on, as 9001,9002; those that it has where it isn't given",
+    };
     let file = CommandOption {
         name: "file",
         value: OptionValue::Word("FILE"),
         required: true,
         help: "The file of the journal; no process may have it open",
     };
-    with_options(alloc, named, &[file])
+    with_options(alloc, named, &[restart, ports, file])
 }
 
 /// `serve --active P [--preview P] [--control-socket-mode MODE] [--control-socket-group GROUP] [--preview-concurrency M]

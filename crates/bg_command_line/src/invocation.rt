@@ -14,9 +14,20 @@ pub enum Invocation<'a> {
     /// Write what the strategy on standard input means.
     Check,
     /// Answer the script after the strategy, with this many seats, 1 to 8.
-    Replay { seats: u8 },
+    Replay {
+        seats: u8,
+    },
     /// Judge the journal in the file of this path, and write the report of its end.
-    Journal { path: &'a str },
+    Journal {
+        path: &'a str,
+    },
+    /// Put a new journal in the place of the one in the file of this path: it begins with the strategy on standard input and the
+    /// revision that is stable in the old one, of which a copy is kept.
+    RestartJournal {
+        path: &'a str,
+        /// The text of the ports of the stable revision from then on; `None` stands for those that it has.
+        ports: Option<&'a str>,
+    },
     /// Forward the requests of clients, controlled by the lines of operators.
     Serve(ServeSettings<'a>),
 }

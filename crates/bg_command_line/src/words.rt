@@ -36,7 +36,7 @@ const DEFAULT_ENDPOINT_KEPT_SECONDS: u16 = 60;
 const DEFAULT_KEPT_REQUESTS: u32 = 1_000;
 
 /// Reads the program's words. The first word is the program's name. The others are `check`; `replay
-/// [--seats N]` with N from 1 to 8, and 4 seats if no number is given; `journal FILE`; or `serve --active P [--preview
+/// [--seats N]` with N from 1 to 8, and 4 seats if no number is given; `journal [--restart] [--ports PORTS] FILE`; or `serve --active P [--preview
 /// P]` with `--control P` or `--control-socket PATH` or both, with ports from 1 to 65535, either `--workers N` with N from 1 to 7 or `--concurrency N`
 /// with N from 1 to 1023, and either `--count K` with K from 1 to 1,000,000 or `--forever`. `serve` also takes
 /// `--preview-concurrency M` and `--endpoint-limit M` with M from 1 to 1023, `--threads N` with N from 1 to 64,
@@ -164,8 +164,12 @@ fn invocation_of<'a>(flags: Flags, name: &str, matches: &ArgMatches<'a>) -> Invo
             seats: seats_of(matches),
         }
     } else if name == "journal" {
-        Invocation::Journal {
-            path: required_text(matches, "file"),
+        let path = required_text(matches, "file");
+        if has_flag(matches, "restart") {
+            let ports = argument_text(matches, "ports");
+            Invocation::RestartJournal { path, ports }
+        } else {
+            Invocation::Journal { path }
         }
     } else {
         serve_of(flags, matches)

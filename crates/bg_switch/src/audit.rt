@@ -3,19 +3,20 @@ ghost use Rattle.std.specs.Prelude.{◌≡◌, IfOk, OnOk};
 ghost use Rattle.bg_ledger.specs.Blanks.{AreAllFor};
 ghost use Rattle.bg_switch.specs.Resumed.{ReportsEnd};
 
-use crate::journal::{FileResumption, JournalRefusal, resumed_book, write_refusal};
+use crate::journal::{JournalRefusal, resumed_book, write_refusal};
+use crate::journal_files::has_bytes;
 use crate::serve::written;
 use bg_book::ResumeFault;
 use bg_ledger::{Blanks, Names};
-use bg_order_journal::{FileOpener, open_journal, recorded_strategy};
+use bg_order_journal::{FileOpener, OpensJournal, Resumption, open_journal, recorded_strategy};
 use bg_report::report;
 use bg_script::RunEnd;
 use bg_strategy::Strategy;
+use sqlite::{Alter, FileFrom, FileStore, Unknown};
 use std::alloc::Global;
+use std::io;
 use std::io::Write;
 use std::marker::Brand;
-use std::rt::Files;
-use std::{fs, io};
 
 /// Judges the journal in the file at a path, and writes the report of the state that it ends with. Returns the exit status: 1 if
 /// the journal has a fault, or is not there or not begun, which it tells on `errors`. The only error is `WriteFailed`.
@@ -36,7 +37,8 @@ pub fn judge_journal<W: Write, E: Write>(
         written(writeln!(output, "fault Journal"))?;
         return Ok(1);
     }
-    match judged(rt.alloc(), FileOpener { rt, path }, output) {
+    let opener = FileOpener { rt, path };
+    match judged::<FileStore<FileFrom<Unknown>>, FileOpener, W>(rt.alloc(), opener, output) {
         Ok(reported) => {
             written(reported)?;
             Ok(0)
@@ -45,38 +47,30 @@ pub fn judge_journal<W: Write, E: Write>(
     }
 }
 
-/// Whether there is a file at a path that is not empty: to open another one would make a journal of it.
-fn has_bytes<R: Files>(rt: &R, path: &str) -> bool {
-    match fs::metadata(rt, path) {
-        Ok(metadata) => metadata.len() > 0,
-        Err(_) => false,
-    }
-}
-
 /// Judges a journal. Gives whether the report was written, or why no book can be resumed from the journal.
-fn judged<W: Write>(
+fn judged<S: Alter + Drop, O: OpensJournal<S>, W: Write>(
     alloc: Global,
-    opener: FileOpener,
+    opener: O,
     output: &mut W,
 ) -> Result<io::Result<()>, JournalRefusal> {
-    let Some(strategy) = recorded_strategy(alloc, &opener)? else {
+    let Some(strategy) = recorded_strategy::<S, O>(alloc, &opener)? else {
         return Err(JournalRefusal::NotBegun);
     };
-    match open_journal(alloc, opener, &strategy)? {
+    match open_journal::<S, O>(alloc, opener, &strategy)? {
         Some(resumption) => {
             let blanks = Blanks::new();
-            Ok(report_end::<Brand, W>(alloc, &strategy, blanks, &resumption, output)?)
+            Ok(report_end::<Brand, S, O, W>(alloc, &strategy, blanks, &resumption, output)?)
         }
         None => Err(JournalRefusal::NotBegun),
     }
 }
 
 /// Resumes a book with one seat from a journal, and writes its report.
-fn report_end<N: Names, W: Write>(
+pub fn report_end<N: Names, S: Alter, O: OpensJournal<S>, W: Write>(
     alloc: Global,
     strategy: &Strategy,
     blanks: Blanks,
-    resumption: &FileResumption,
+    resumption: &Resumption<S, O>,
     output: &mut W,
 ) -> Result<io::Result<()>, ResumeFault>
     requires blanks { AreAllFor N.Names blanks }
@@ -84,7 +78,7 @@ fn report_end<N: Names, W: Write>(
     ensures { IfOk result (λ reported. OnOk reported (ReportsEnd strategy.now resumption.now.first
         resumption.now.entries.items (W.contents output.old) (W.contents output.new))) }
 {
-    let (book, seats) = resumed_book::<N>(alloc, strategy, 1, blanks, resumption)?;
+    let (book, seats) = resumed_book::<N, S, O>(alloc, strategy, 1, blanks, resumption)?;
     let reported = report(&book, output);
     let _history = book.close(seats);
     Ok(reported)

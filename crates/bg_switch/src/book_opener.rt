@@ -4,19 +4,19 @@ ghost use Rattle.bg_forward.specs.Seats.{AllOut};
 ghost use Rattle.bg_ledger.specs.Blanks.{AreAllFor};
 ghost use Rattle.bg_rollout.specs.Gathering.{are_all};
 
-use crate::context::ServeContext;
+use crate::context::{JournaledContext, ServeContext};
 use crate::journal::{
-    FileOrders, FileResumption, JournalRefusal, begun_journal, note_other_settings, note_resumed,
-    resumed_book,
+    JournalRefusal, begun_journal, note_other_settings, note_resumed, resumed_book,
 };
 use crate::operators::Operator;
 use crate::serve::{write_listening, written};
 use crate::serving::serve_beside_operators;
 use bg_book::{Book, Desk, Limits, ResumeFault, RolloutOpening};
 use bg_ledger::{Blanks, Names, Seat};
-use bg_order_journal::open_journal;
+use bg_order_journal::{OpensJournal, Resumption, open_journal};
 use bg_report::report;
-use bg_script::{Answer, DeskJournal, FirstRevision, LinesEnd, RunEnd};
+use bg_script::{Answer, DeskJournal, FirstRevision, LinesEnd, OrderJournal, RunEnd};
+use sqlite::Alter;
 use std::io;
 use std::io::Write;
 use std::marker::Brand;
@@ -27,34 +27,35 @@ use std::time::Clock;
 
 /// Resumes the book of the journal, if there is one and it has orders, and serves clients by it to the end. Else awaits an
 /// `open`. The error says why the journal cannot be used; then nothing was written.
-pub fn serve_by_journal<'a, R, W: Write>(
-    context: &ServeContext<'a, R>,
+pub fn serve_by_journal<R, S: Alter + Drop, O: OpensJournal<S> + Copy, W: Write>(
+    context: &JournaledContext<R, O>,
     output: &mut W,
 ) -> Result<Result<(), RunEnd>, JournalRefusal>
 where
     R: Net<Listener = TcpListener, Stream = TcpStream> + Threads + Wait + Clock + Sync,
 {
+    let serve = context.serve;
     let Some(opener) = context.journal else {
-        return Ok(await_open(context, output));
+        return Ok(await_open::<R, S, O, W>(context, output));
     };
-    match open_journal(context.alloc, opener, context.strategy) {
+    match open_journal::<S, O>(serve.alloc, opener, serve.strategy) {
         Ok(Some(resumption)) => {
             let blanks = Blanks::new();
-            Ok(resume_and_serve::<Brand, R, W>(context, blanks, resumption, output)?)
+            Ok(resume_and_serve::<Brand, R, S, O, W>(serve, blanks, resumption, output)?)
         }
-        Ok(None) => Ok(await_open(context, output)),
+        Ok(None) => Ok(await_open::<R, S, O, W>(context, output)),
         Err(fault) => {
-            note_other_settings(context, opener);
+            note_other_settings::<R, S, O>(serve, &opener);
             Err(JournalRefusal::Start(fault))
         }
     }
 }
 
 /// Resumes a book from a journal, and serves clients by it to the end.
-fn resume_and_serve<'a, N: Names + Send + Sync, R, W: Write>(
+fn resume_and_serve<'a, N: Names + Send + Sync, R, S: Alter + Drop, O: OpensJournal<S>, W: Write>(
     context: &ServeContext<'a, R>,
     blanks: Blanks,
-    resumption: FileResumption<'a>,
+    resumption: Resumption<S, O>,
     output: &mut W,
 ) -> Result<Result<(), RunEnd>, ResumeFault>
 where
@@ -62,7 +63,7 @@ where
     requires blanks { AreAllFor N.Names blanks }
     requires seats { 1 ≤ context.now.seats → context.now.seats ≤ 2048 → N.seats ≡ context.now.seats }
 {
-    let opened = resumed_book::<N>(
+    let opened = resumed_book::<N, S, O>(
         context.alloc,
         context.strategy,
         context.seats,
@@ -74,10 +75,10 @@ where
 }
 
 /// Writes `listening`, and serves clients to the end by a book that was resumed.
-fn serve_resumed<'a, N: Names + Send + Sync, R, W: Write>(
+fn serve_resumed<'a, N: Names + Send + Sync, R, J: OrderJournal, W: Write>(
     context: &ServeContext<'a, R>,
     opened: (Book<N>, Vec<Seat<N>>),
-    journal: DeskJournal<FileOrders<'a>>,
+    journal: DeskJournal<J>,
     output: &mut W,
 ) -> Result<(), RunEnd>
 where
@@ -100,15 +101,19 @@ where
 
 /// Writes `listening`, and answers the lines of operators, until one opens a book. Clients are then served by that book to the
 /// end. Without a book, the run ends at `quit`.
-fn await_open<'a, R, W: Write>(context: &ServeContext<'a, R>, output: &mut W) -> Result<(), RunEnd>
+fn await_open<R, S: Alter + Drop, O: OpensJournal<S> + Copy, W: Write>(
+    context: &JournaledContext<R, O>,
+    output: &mut W,
+) -> Result<(), RunEnd>
 where
     R: Net<Listener = TcpListener, Stream = TcpStream> + Threads + Wait + Clock + Sync,
 {
     write_listening(output)?;
-    let rt = context.rt;
-    let mut operator = Operator::new(rt, context.alloc, context.notices);
+    let serve = context.serve;
+    let rt = serve.rt;
+    let mut operator = Operator::new(rt, serve.alloc, serve.notices);
     for _ in rt.forever() {
-        if let Some(ended) = answer_opener(context, &mut operator, output) {
+        if let Some(ended) = answer_opener::<R, S, O, W>(context, &mut operator, output) {
             return ended;
         }
     }
@@ -117,22 +122,22 @@ where
 
 /// Answers a line of an operator. Gives how the run ended, if it is done: clients were served to the end, or the
 /// line is `quit`.
-fn answer_opener<'a, R, W: Write>(
-    context: &ServeContext<'a, R>,
+fn answer_opener<R, S: Alter + Drop, O: OpensJournal<S> + Copy, W: Write>(
+    context: &JournaledContext<R, O>,
     operator: &mut Operator<R>,
     output: &mut W,
 ) -> Option<Result<(), RunEnd>>
 where
     R: Net<Listener = TcpListener, Stream = TcpStream> + Threads + Wait + Clock + Sync,
 {
-    let control = &context.ports.control;
+    let control = &context.serve.ports.control;
     let first = match operator.before_open(control) {
         Ok(LinesEnd::Open(first)) => first,
         Ok(LinesEnd::Quit) => return Some(Ok(())),
         Ok(LinesEnd::SpeaksHttp | LinesEnd::End) | Err(_) => return None,
     };
     let blanks = Blanks::new();
-    match open_and_serve::<Brand, R, W>(context, blanks, &first, operator, output) {
+    match open_and_serve::<Brand, R, S, O, W>(context, blanks, &first, operator, output) {
         Ok(ended) => Some(ended),
         Err(refusal) => {
             operator.answer_open(control, &refusal);
@@ -143,8 +148,8 @@ where
 
 /// Opens the book, begins the journal if there is one, and serves clients to the end. The error is the answer to the `open`
 /// if the book was not opened, or the journal could not be begun.
-fn open_and_serve<'a, N: Names + Send + Sync, R, W: Write>(
-    context: &ServeContext<'a, R>,
+fn open_and_serve<N: Names + Send + Sync, R, S: Alter + Drop, O: OpensJournal<S> + Copy, W: Write>(
+    context: &JournaledContext<R, O>,
     blanks: Blanks,
     first: &FirstRevision,
     operator: &mut Operator<R>,
@@ -153,25 +158,27 @@ fn open_and_serve<'a, N: Names + Send + Sync, R, W: Write>(
 where
     R: Net<Listener = TcpListener, Stream = TcpStream> + Threads + Wait + Clock + Sync,
     requires blanks { AreAllFor N.Names blanks }
-    requires seats { 1 ≤ context.now.seats → context.now.seats ≤ 2048 → N.seats ≡ context.now.seats }
+    requires seats { 1 ≤ context.now.serve.now.seats → context.now.serve.now.seats ≤ 2048
+        → N.seats ≡ context.now.serve.now.seats }
 {
+    let serve = context.serve;
     let opening = RolloutOpening {
-        strategy: context.strategy,
+        strategy: serve.strategy,
         name: first.name.get(),
         ports: first.ports.get(),
-        seats: context.seats,
+        seats: serve.seats,
         limits: Limits::usual(),
     };
-    match Book::<N>::open_with_many_seats(context.alloc, &opening, blanks) {
-        Ok(opened) => begin_and_serve(context, opened, first, operator, output),
+    match Book::<N>::open_with_many_seats(serve.alloc, &opening, blanks) {
+        Ok(opened) => { begin_and_serve::<N, R, S, O, W>(context, opened, first, operator, output) }
         Err(fault) => Err(Answer::OpenRefused(fault)),
     }
 }
 
 /// Begins the journal of a book that was just opened, if there is one, and serves clients to the end. If the journal cannot be
 /// begun, the book is closed, and the error is the answer to the `open`.
-fn begin_and_serve<'a, N: Names + Send + Sync, R, W: Write>(
-    context: &ServeContext<'a, R>,
+fn begin_and_serve<N: Names + Send + Sync, R, S: Alter + Drop, O: OpensJournal<S> + Copy, W: Write>(
+    context: &JournaledContext<R, O>,
     opened: (Book<N>, Vec<Seat<N>>),
     first: &FirstRevision,
     operator: &mut Operator<R>,
@@ -182,8 +189,8 @@ where
     requires all { are_all N.seats opened.1.items ≡ true }
     requires out { AllOut opened.1.items }
 {
-    match begun_journal(context, first) {
-        Ok(journal) => Ok(serve_book(context, opened, operator, journal, output)),
+    match begun_journal::<R, S, O>(context, first) {
+        Ok(journal) => Ok(serve_book(context.serve, opened, operator, journal, output)),
         Err(_) => {
             let (book, seats) = opened;
             let _history = book.close(seats);
@@ -193,11 +200,11 @@ where
 }
 
 /// Serves clients by an open book to the end. Then writes the report and the number of calls.
-fn serve_book<'a, N: Names + Send + Sync, R, W: Write>(
+fn serve_book<'a, N: Names + Send + Sync, R, J: OrderJournal, W: Write>(
     context: &ServeContext<'a, R>,
     opened: (Book<N>, Vec<Seat<N>>),
     operator: &mut Operator<R>,
-    journal: Option<DeskJournal<FileOrders<'a>>>,
+    journal: Option<DeskJournal<J>>,
     output: &mut W,
 ) -> Result<(), RunEnd>
 where

@@ -4,7 +4,6 @@ use bg_access_log::AccessLog;
 use bg_command_line::{MessageTimeout, ServeSettings};
 use bg_endpoints::Directory;
 use bg_forward::RefusalBody;
-use bg_order_journal::FileOpener;
 use bg_ports::{EventLoops, Notices, Ports};
 use bg_strategy::Strategy;
 use std::alloc::Global;
@@ -35,8 +34,13 @@ pub struct ServeContext<'a, R> {
     pub directory: Option<&'a Directory>,
     /// What refusals have as their bodies.
     pub refusal_body: RefusalBody,
-    /// What opens the journal of orders, if there is one.
-    pub journal: Option<FileOpener<'a>>,
     /// The notices on standard error.
     pub notices: &'a Notices<'a>,
+}
+
+/// What a book is opened by: what the threads share, and what opens the journal of orders, if there is one.
+#[derive(Drop)]
+pub struct JournaledContext<'c, 'a, R, O: Drop> {
+    pub serve: &'c ServeContext<'a, R>,
+    pub journal: Option<O>,
 }

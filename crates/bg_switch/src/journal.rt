@@ -9,26 +9,21 @@ ghost use Rattle.bg_rollout.specs.Refusals.{usual_limits};
 ghost use Rattle.bg_strategy_text.specs.Texts.{strategy_text};
 ghost use Rattle.bg_switch.specs.Resumed.{IsResumed};
 
-use crate::context::ServeContext;
+use crate::context::{JournaledContext, ServeContext};
 use crate::serve::written;
 use bg_book::{Book, Limits, ResumeFault, RolloutOpening};
 use bg_ledger::{Blanks, Names, Seat};
 use bg_order_journal::{
-    FileOpener, Resumption, StartFault, StoredOrders, begin_journal, recorded_strategy, settings_of,
+    OpensJournal, Resumption, StartFault, StoredOrders, begin_journal, recorded_strategy,
+    settings_of,
 };
 use bg_ports::{Notices, Resumed};
 use bg_script::{DeskJournal, FirstRevision, RunEnd};
 use bg_strategy::Strategy;
-use sqlite::{FileFrom, FileStore, Unknown};
+use sqlite::Alter;
 use std::alloc::Global;
 use std::io::Write;
 use thiserror::Error;
-
-/// The orders of a journal in a file.
-pub type FileOrders<'r> = StoredOrders<FileStore<FileFrom<Unknown>>, FileOpener<'r>>;
-
-/// A journal in a file from which a book is resumed.
-pub type FileResumption<'r> = Resumption<FileStore<FileFrom<Unknown>>, FileOpener<'r>>;
 
 /// Why a switch is not started with its journal. The file is as it was.
 #[derive(Clone, Copy, Debug, PartialEq, Eq, Drop, Error)]
@@ -57,12 +52,12 @@ impl From<ResumeFault> for JournalRefusal {
 }
 
 /// The book with this number of seats that is resumed from a journal, and its seats.
-pub fn resumed_book<N: Names>(
+pub fn resumed_book<N: Names, S: Alter, O: OpensJournal<S>>(
     alloc: Global,
     strategy: &Strategy,
     seats: u32,
     blanks: Blanks,
-    resumption: &FileResumption,
+    resumption: &Resumption<S, O>,
 ) -> Result<(Book<N>, Vec<Seat<N>>), ResumeFault>
     requires blanks { AreAllFor N.Names blanks }
     requires seats { 1 ≤ seats → seats ≤ 2048 → N.seats ≡ seats }
@@ -85,22 +80,23 @@ pub fn resumed_book<N: Names>(
 
 /// Begins the journal of a book that was just opened with this revision; `None` without a journal. A notice tells why it
 /// cannot be begun.
-pub fn begun_journal<'a, R>(
-    context: &ServeContext<'a, R>,
+pub fn begun_journal<R, S: Alter + Drop, O: OpensJournal<S> + Copy>(
+    context: &JournaledContext<R, O>,
     first: &FirstRevision,
-) -> Result<Option<DeskJournal<FileOrders<'a>>>, StartFault>
+) -> Result<Option<DeskJournal<StoredOrders<S, O>>>, StartFault>
     ensures given { IfOk result (λ begun. is_some begun ≡ is_some context.now.journal) }
     ensures row { IfOk result (λ begun. IfSome begun (λ made. made.journal.1.0
-        ≡ first_row (strategy_text context.now.strategy.now) first.now.name first.now.ports ∷ [])) }
+        ≡ first_row (strategy_text context.now.serve.now.strategy.now) first.now.name first.now.ports ∷ [])) }
     ensures none { IfOk result (λ begun. IfSome begun (λ made. made.known ≡ 0)) }
 {
     let Some(opener) = context.journal else {
         return Ok(None);
     };
-    match begin_journal(context.alloc, opener, context.strategy, first) {
+    let serve = context.serve;
+    match begin_journal(serve.alloc, opener, serve.strategy, first) {
         Ok(orders) => Ok(Some(DeskJournal::resumed(orders, &[]))),
         Err(fault) => {
-            note_refused(context.alloc, context.notices, &fault);
+            note_refused(serve.alloc, serve.notices, &fault);
             Err(fault)
         }
     }
@@ -125,8 +121,11 @@ pub fn note_resumed<N: Names>(notices: &Notices, book: &Book<N>, orders: usize) 
 }
 
 /// Writes a notice of each setting by which the strategy that a journal names, if it names one, differs from that of the run.
-pub fn note_other_settings<R>(context: &ServeContext<R>, opener: FileOpener) {
-    let Ok(Some(kept)) = recorded_strategy(context.alloc, &opener) else {
+pub fn note_other_settings<R, S: Alter + Drop, O: OpensJournal<S>>(
+    context: &ServeContext<R>,
+    opener: &O,
+) {
+    let Ok(Some(kept)) = recorded_strategy(context.alloc, opener) else {
         return;
     };
     let Ok(kept) = settings_of(context.alloc, &kept) else {

@@ -6,11 +6,13 @@ mod book_opener;
 mod buffered_output;
 mod context;
 mod journal;
+mod journal_files;
 mod kernel_clock;
 mod lines_at_desk;
 mod loops;
 mod operator_users;
 mod operators;
+mod restart;
 mod revision_ports;
 mod serve;
 mod serving;
@@ -18,6 +20,7 @@ mod serving;
 use crate::audit::judge_journal;
 use crate::buffered_output::{check_buffered, replay_buffered};
 use crate::operator_users::operator_users;
+use crate::restart::{Restart, restart_journal};
 use crate::serve::{RunSettings, serve};
 use bg_access_log::AccessLog;
 use bg_command_line::{
@@ -65,6 +68,11 @@ fn main(rt: HostRuntime) -> ExitCode {
         Invocation::Replay { seats } => replayed(&rt, seats),
         Invocation::Journal { path } => {
             judge_journal(&rt, path, &mut rt.stdout(), &mut rt.stderr())
+        }
+        Invocation::RestartJournal { path, ports } => {
+            let (mut input, mut output, mut errors) = (rt.stdin(), rt.stdout(), rt.stderr());
+            let restart = Restart { path, ports };
+            restart_journal(&rt, &restart, &mut input, &mut output, &mut errors)
         }
         Invocation::Serve(words) => {
             let (mut input, mut output, mut errors) = (rt.stdin(), rt.stdout(), rt.stderr());

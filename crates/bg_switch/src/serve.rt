@@ -1,7 +1,7 @@
 //! `serve`: clients at the client ports, and operators at the control port.
 
 use crate::book_opener::serve_by_journal;
-use crate::context::ServeContext;
+use crate::context::{JournaledContext, ServeContext};
 use crate::journal::{JournalRefusal, write_refusal};
 use bg_access_log::AccessLog;
 use bg_book::Limits;
@@ -17,6 +17,7 @@ use bg_ports::{
 use bg_revisions::Service;
 use bg_script::{Finding, RunEnd, finding_of_input, write_finding};
 use bg_strategy::Strategy;
+use sqlite::{FileFrom, FileStore, Unknown};
 use std::alloc::Global;
 use std::io;
 use std::io::{Read, Write};
@@ -76,7 +77,7 @@ where
 }
 
 /// Writes the fault of the strategy. Returns the exit status.
-fn write_fault<W: Write>(finding: &Finding, output: &mut W) -> Result<u8, RunEnd> {
+pub(crate) fn write_fault<W: Write>(finding: &Finding, output: &mut W) -> Result<u8, RunEnd> {
     written(write_finding(finding, output))?;
     Ok(finding.status())
 }
@@ -184,10 +185,13 @@ where
         log: settings.log,
         directory: directory.as_ref(),
         refusal_body: RefusalBody::of_pages(words.error_pages),
-        journal: settings.journal,
         notices: &notices,
     };
-    serve_by_journal(&context, output)
+    let journaled = JournaledContext {
+        serve: &context,
+        journal: settings.journal,
+    };
+    serve_by_journal::<R, FileStore<FileFrom<Unknown>>, FileOpener, W>(&journaled, output)
 }
 
 /// The number of seats of the active service. Each of its event loops has as many as requests may be inside at a time, so
