@@ -8,3 +8,4 @@ pub mod LongLines
 pub mod LineReadings
 pub mod TimeLimits
 mod HttpLineCases
+mod WholeLines

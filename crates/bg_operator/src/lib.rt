@@ -2,14 +2,15 @@
 //! line.
 //!
 //! [`part_before_script`] and [`whole_input`] read the bytes of a strategy from any buffered reader,
-//! [`OperatorLines`] reads one line after the other, and [`parse_line`] gives the command of a line. A
-//! line of more than 4,096 bytes and a strategy of more than 1,048,576 bytes are reported as too large,
+//! [`OperatorLines`] reads one line after the other, and [`parse_line`] gives the command of a line. A [`Line`] is one
+//! that the caller found, and is read once. A line of more than 4,096 bytes and a strategy of more than 1,048,576 bytes are reported as too large,
 //! and are not stored.
 #![tactic(auto)]
 
 mod before;
 mod command;
 mod http_lines;
+mod line;
 mod line_fault;
 mod lines;
 mod operator_lines;
@@ -21,6 +22,7 @@ mod vocabulary;
 mod words;
 
 pub use command::Command;
+pub use line::Line;
 pub use line_fault::LineFault;
 pub use lines::{Found, next_line};
 pub use operator_lines::OperatorLines;

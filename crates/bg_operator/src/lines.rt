@@ -48,7 +48,7 @@ pub fn next_line<B: BufRead>(reader: &mut B, line: &mut Vec<u8>) -> Result<Found
 }
 
 /// Removes the CR at a line's end, if there is one.
-fn strip_return(line: &mut Vec<u8>)
+pub(crate) fn strip_return(line: &mut Vec<u8>)
     ensures { line.new.items ≡ strip_last 13 line.old.items }
 {
     let length = line.len();

@@ -1,14 +1,12 @@
 //! The lines of an operator, read one after the other.
-ghost use Rattle.std.specs.Prelude.{◌≡◌, ◌≤◌, List, ℕ, IfOk, length, false};
+ghost use Rattle.std.specs.Prelude.{◌≡◌, List, ℕ, IfOk, false};
 ghost use Rattle.bg_operator.specs.Reading.{Gives, Known};
-ghost use Rattle.bg_operator.specs.HttpLines.{speaks_http};
 ghost use Rattle.bg_operator.specs.OperatorLines.{NextIs, last_speaks_http};
 
 use crate::command::Command;
-use crate::http_lines::is_field_or_request;
+use crate::line::read_text;
 use crate::line_fault::LineFault;
 use crate::lines::{Found, next_line};
-use crate::parsing::parse_line;
 use crate::read_fault::ReadFault;
 use std::alloc::Global;
 use std::io::BufRead;
@@ -81,16 +79,8 @@ fn line_read(alloc: Global, found: Found, line: &[u8]) -> (Option<Result<Command
         Found::End => (None, false),
         Found::TooLong => (Some(Err(LineFault::TooLong)), false),
         Found::Line => {
-            let read = parse_line(alloc, line);
-            let http = is_http_fault(&read, line);
+            let (read, http) = read_text(alloc, line);
             (Some(read), http)
         }
     }
-}
-
-/// Whether a line with this result gives no command and is a line of HTTP.
-fn is_http_fault(read: &Result<Command, LineFault>, line: &[u8]) -> bool
-    ensures { length line.now ≤ 4096 → result ≡ speaks_http read.now line.now }
-{
-    read.is_err() && is_field_or_request(line)
 }
