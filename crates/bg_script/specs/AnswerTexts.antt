@@ -3,6 +3,7 @@ use Rattle.std.specs.Prelude.{ℕ, Bool, true, false, List, ◌++◌, codes}
 use Rattle.std.specs.Fmt.{decimal}
 use Rattle.bg_rollout.specs.FaultNames.{open_fault_name}
 use Rattle.bg_operator.specs.FaultNames.{line_fault_name}
+use Rattle.bg_book.specs.declared.calls.Reply.TheVariants.{Done}
 use Rattle.bg_report.specs.Replies.{refused, reply_text}
 use Rattle.bg_script.specs.declared.answer.Answer.{Answer}
 use Rattle.bg_script.specs.declared.answer.Answer.TheVariants.{Opened, OpenRefused, NotOpen, AlreadyOpen, Made, Compacted, MarkedDown, BadPorts, NotHere, TooLate, Unsaved, JournalFailed, OutOfMemory, Unread}
@@ -28,3 +29,17 @@ answer_text (Unread fault) = codes "fault " ++ line_fault_name fault ++ codes "\
 abbrev pub is_fault : Answer → Bool
 is_fault (Unread fault) = true
 is_fault _ = false
+
+-- the line was carried out: it opened the book, gave an event that the book took, or told which ports are down
+abbrev pub was_carried_out : Answer → Bool
+was_carried_out Opened = true
+was_carried_out (Made (Done outcomes)) = true
+was_carried_out (MarkedDown count) = true
+was_carried_out (Unsaved outcomes) = true
+was_carried_out _ = false
+
+-- the journal is known to lack an order, or not known to keep it
+abbrev pub lacks_order : Answer → Bool
+lacks_order (Unsaved outcomes) = true
+lacks_order JournalFailed = true
+lacks_order _ = false

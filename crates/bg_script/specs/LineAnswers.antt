@@ -30,7 +30,8 @@ EndsLines stage read lines_end.End = ⊥
 abbrev pub StepIs : Stage → Result Command LineFault → Stage → LineResult → Type 0
 StepIs stage read next (line_result.Said said) = ReadStep stage read (Said said) next
 StepIs stage read next line_result.Report = (read ≡ Ok command.Report) × (next ≡ stage)
-StepIs stage read next (line_result.Ends end) = EndsLines stage read end × (next ≡ stage)
+StepIs stage read next (line_result.Opens revision) = EndsLines stage read (lines_end.Open revision) × (next ≡ stage)
+StepIs stage read next line_result.Quits = EndsLines stage read lines_end.Quit × (next ≡ stage)
 
 -- from first to last the answer to a line with this result was written
 pub record WroteAnswer (stage : Stage) (read : Result Command LineFault)
@@ -40,12 +41,25 @@ pub record WroteAnswer (stage : Stage) (read : Result Command LineFault)
   pub appended : Appends first last (written_text written)
   pub fault_is : is_fault ≡ is_fault_written written
 
--- a line with this result was answered, or ends the answering
+-- from first to last a line with this result was answered so, and this is the stage; or it ends the answering, and nothing
+-- was written
 abbrev pub LineIsAnswered : Stage → Result Command LineFault → Option (List ℕ) → Option (List ℕ)
+    → Stage → LineResult → Type 0
+LineIsAnswered stage read first last next (line_result.Said said) =
+    ReadStep stage read (Said said) next × Appends first last (answer_text said)
+LineIsAnswered stage read first last next line_result.Report =
+    (read ≡ Ok command.Report) × WroteAnswer stage read first last next false
+LineIsAnswered stage read first last next (line_result.Opens revision) =
+    EndsLines stage read (lines_end.Open revision) × (next ≡ stage) × (last ≡ first)
+LineIsAnswered stage read first last next line_result.Quits =
+    EndsLines stage read lines_end.Quit × (next ≡ stage) × (last ≡ first)
+
+-- the same, by whether a fault was written
+abbrev pub LineIsDone : Stage → Result Command LineFault → Option (List ℕ) → Option (List ℕ)
     → Stage → AfterLine → Type 0
-LineIsAnswered stage read first last next (after_line.GoesOn is_fault) =
+LineIsDone stage read first last next (after_line.GoesOn is_fault) =
     WroteAnswer stage read first last next is_fault
-LineIsAnswered stage read first last next (after_line.Ends end) =
+LineIsDone stage read first last next (after_line.Ends end) =
     EndsLines stage read end × (next ≡ stage) × (last ≡ first)
 
 -- whether no line of a control connection is answered after this one: it is a fault and a line of HTTP

@@ -1,7 +1,7 @@
 //! The answers to the lines of a script or of a control connection, and how they are written.
 ghost use Rattle.std.specs.Prelude.{◌≡◌, OnOk};
 ghost use Rattle.std.specs.Io.KnownBytes.{Appends};
-ghost use Rattle.bg_script.specs.AnswerTexts.{answer_text, is_fault as is_fault_of};
+ghost use Rattle.bg_script.specs.AnswerTexts.{answer_text, is_fault as is_fault_of, lacks_order as lacks_order_of, was_carried_out as was_carried_out_of};
 
 use bg_book::{OpenFault, Reply};
 use bg_operator::LineFault;
@@ -47,6 +47,26 @@ impl Answer {
         ensures { result ≡ is_fault_of self }
     {
         matches!(self, Answer::Unread(_))
+    }
+
+    /// Whether the line was carried out: it opened the book, gave an event that the book took, or told which ports are down.
+    pub fn was_carried_out(self) -> bool
+        ensures { result ≡ was_carried_out_of self }
+    {
+        matches!(
+            self,
+            Answer::Opened
+                | Answer::Made(Reply::Done(_))
+                | Answer::MarkedDown(_)
+                | Answer::Unsaved(_)
+        )
+    }
+
+    /// Whether the journal is known to lack an order, or not known to keep it.
+    pub fn lacks_order(self) -> bool
+        ensures { result ≡ lacks_order_of self }
+    {
+        matches!(self, Answer::Unsaved(_) | Answer::JournalFailed)
     }
 }
 

@@ -3,7 +3,7 @@ ghost use Rattle.std.specs.Prelude.{◌≡◌, ◌&&◌, IfOk, OnOk};
 ghost use Rattle.std.specs.Io.KnownBytes.{Keeps};
 ghost use Rattle.bg_operator.specs.OperatorLines.{last_speaks_http};
 ghost use Rattle.bg_operator.specs.Reading.{Known};
-ghost use Rattle.bg_script.specs.LineAnswers.{AnswersLines, LineIsAnswered, MayEnd, StepIs};
+ghost use Rattle.bg_script.specs.LineAnswers.{AnswersLines, LineIsAnswered, LineIsDone, MayEnd, StepIs};
 ghost use Rattle.bg_script.specs.LineSteps.{MayFollow, is_connection};
 
 use crate::answer::{Answer, write_answer};
@@ -42,14 +42,16 @@ pub enum LinesEnd {
 }
 
 /// What a line leads to.
-#[derive(Drop)]
-pub(crate) enum LineResult {
+#[derive(Debug, Drop)]
+pub enum LineResult {
     /// This answer.
     Said(Answer),
-    /// The report of the stage.
+    /// The report, or why there is none.
     Report,
-    /// The end of the lines.
-    Ends(LinesEnd),
+    /// The line is an `open`, and no book is open. It is left to the caller.
+    Opens(FirstRevision),
+    /// The line is `quit`, which is not answered.
+    Quits,
 }
 
 /// What comes after a line.
@@ -80,7 +82,7 @@ pub(crate) fn step<S: LineStage>(stage: &mut S, read: Result<Command, LineFault>
             if stage.is_open() {
                 LineResult::Said(Answer::AlreadyOpen)
             } else {
-                LineResult::Ends(LinesEnd::Open(FirstRevision { name, ports }))
+                LineResult::Opens(FirstRevision { name, ports })
             }
         }
         Ok(Command::Control(event)) => LineResult::Said(stage.event(event)),
@@ -97,17 +99,18 @@ pub(crate) fn step<S: LineStage>(stage: &mut S, read: Result<Command, LineFault>
         Ok(Command::Down { ports }) => LineResult::Said(stage.down(ports)),
         Ok(Command::Report) => LineResult::Report,
         Ok(Command::Compact) => LineResult::Said(stage.compact()),
-        Ok(Command::Quit) => LineResult::Ends(LinesEnd::Quit),
+        Ok(Command::Quit) => LineResult::Quits,
         Err(fault) => LineResult::Said(Answer::Unread(fault)),
     }
 }
 
-/// Carries out a line at a stage, and writes the answer. The answer of a control connection is flushed.
-fn answer_line<S: LineStage, W: Write>(
+/// Carries out a line at a stage, and writes the answer. The answer of a control connection is flushed. An `open` without an
+/// open book and a `quit` are left to the caller, and nothing is written. The error is that the write failed.
+pub fn answer_line<S: LineStage, W: Write>(
     stage: &mut S,
     read: Result<Command, LineFault>,
     writer: &mut W,
-) -> Result<AfterLine, RunEnd>
+) -> Result<LineResult, RunEnd>
     ensures answered { IfOk result (LineIsAnswered (S.stage stage.old) read
         (W.contents writer.old) (W.contents writer.new) (S.stage stage.new)) }
     ensures next { MayFollow (S.stage stage.old) (S.stage stage.new) }
@@ -116,16 +119,35 @@ fn answer_line<S: LineStage, W: Write>(
         LineResult::Said(answer) => {
             write_answer(&answer, writer)?;
             flush(stage, writer)?;
-            Ok(AfterLine::GoesOn {
-                is_fault: answer.is_fault(),
-            })
+            Ok(LineResult::Said(answer))
         }
         LineResult::Report => {
             stage.report(writer)?;
             flush(stage, writer)?;
-            Ok(AfterLine::GoesOn { is_fault: false })
+            Ok(LineResult::Report)
         }
-        LineResult::Ends(end) => Ok(AfterLine::Ends(end)),
+        LineResult::Opens(first) => Ok(LineResult::Opens(first)),
+        LineResult::Quits => Ok(LineResult::Quits),
+    }
+}
+
+/// Answers a line, and tells whether the next one may come.
+fn after_line<S: LineStage, W: Write>(
+    stage: &mut S,
+    read: Result<Command, LineFault>,
+    writer: &mut W,
+) -> Result<AfterLine, RunEnd>
+    ensures done { IfOk result (LineIsDone (S.stage stage.old) read
+        (W.contents writer.old) (W.contents writer.new) (S.stage stage.new)) }
+    ensures next { MayFollow (S.stage stage.old) (S.stage stage.new) }
+{
+    match answer_line(stage, read, writer)? {
+        LineResult::Said(answer) => Ok(AfterLine::GoesOn {
+            is_fault: answer.is_fault(),
+        }),
+        LineResult::Report => Ok(AfterLine::GoesOn { is_fault: false }),
+        LineResult::Opens(first) => Ok(AfterLine::Ends(LinesEnd::Open(first))),
+        LineResult::Quits => Ok(AfterLine::Ends(LinesEnd::Quit)),
     }
 }
 
@@ -167,7 +189,7 @@ pub(crate) fn answer_lines<S: LineStage, B: BufRead, W: Write>(
             });
         };
         let is_last = ends_connection(stage, lines);
-        match answer_line(stage, read, writer)? {
+        match after_line(stage, read, writer)? {
             AfterLine::GoesOn { is_fault } => faulted |= is_fault,
             AfterLine::Ends(end) => return Ok(LinesAnswered { end, faulted }),
         }

@@ -2,7 +2,8 @@
 //!
 //! [`check`] says what a strategy means; [`replay`] answers the lines of a script by a book of that
 //! strategy. Both write exact texts and return the exit status. A [`RunEnd`] says why a run ended
-//! early. [`answer_before_open`] and [`answer_at_desk`] answer the lines of a control connection
+//! early. [`answer_line`] answers one line that was read, at any [`LineStage`], and gives the answer as a value.
+//! [`answer_before_open`] and [`answer_at_desk`] answer the lines of a control connection
 //! while no book is open, and by a book that workers share. A [`MarksDown`] takes the ports of a line
 //! `down`, and a [`BootClock`] says whether a line `before` comes in time. [`answer_at_journaled_desk`] answers an order
 //! after its entries were appended to an [`OrderJournal`].
@@ -24,7 +25,7 @@ mod run_end;
 mod stages;
 
 pub use answer::{Answer, write_answer};
-pub use answering::{FirstRevision, LinesEnd};
+pub use answering::{FirstRevision, LineResult, LinesEnd, answer_line};
 pub use boot_clock::BootClock;
 pub use checking::{check, finding_of_input};
 pub use control_connection::{
@@ -37,4 +38,4 @@ pub use marks_down::MarksDown;
 pub use order_journal::OrderJournal;
 pub use replaying::replay;
 pub use run_end::RunEnd;
-pub use stages::AtDesk;
+pub use stages::{AtDesk, LineStage, ScriptSettings, WithoutBook};

@@ -19,7 +19,7 @@ use std::sync::Wait;
 use std::sync::atomic::{AtomicU64, Ordering};
 
 /// A stage of a script or of a control connection, which carries out the commands of lines.
-pub(crate) trait LineStage {
+pub trait LineStage {
     /// The stage as definitions see it.
     ghost stage: { Self → Stage };
 
@@ -78,7 +78,7 @@ pub struct ScriptSettings<'a> {
 
 /// No book is open.
 #[derive(Drop)]
-pub(crate) enum WithoutBook<'a> {
+pub enum WithoutBook<'a> {
     /// In a script, whose books have these settings.
     Script(&'a ScriptSettings<'a>),
     /// At a control connection.

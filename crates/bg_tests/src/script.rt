@@ -8,3 +8,4 @@ mod large_inputs;
 mod runs;
 mod strategy_parts;
 mod streams;
+mod whole_lines;

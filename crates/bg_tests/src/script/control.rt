@@ -7,9 +7,10 @@ use crate::history::gathered::expect_audited;
 use crate::script::streams::Unflushed;
 use bg_book::{Book, Desk, Limits, RolloutOpening};
 use bg_ledger::{Blanks, Names};
-use bg_operator::OperatorLines;
+use bg_operator::{Line, OperatorLines};
 use bg_script::{
-    AtDesk, BootClock, ControlEnd, LinesEnd, MarksDown, RunEnd, answer_at_desk, answer_before_open,
+    AtDesk, BootClock, ControlEnd, LineResult, LinesEnd, MarksDown, RunEnd, answer_at_desk,
+    answer_before_open, answer_line,
 };
 use std::alloc::{AllocError, Global};
 use std::cell::RefCell;
@@ -19,16 +20,16 @@ use std::sync::Wait;
 use std::sync::atomic::{AtomicU64, Ordering};
 use std::test::Fail;
 
-const BEFORE: &str =
+pub(super) const BEFORE: &str =
     "tick 1\nenter 0 active\nleave 0\njump\nreport\ndown 9001\ndown\nbefore 9 tick 1\nbefore 9 report\nopen\nopen v1 9001 9002\ntick 2\n";
 
-const BEFORE_ANSWERS: &str =
+pub(super) const BEFORE_ANSWERS: &str =
     "refused NotOpen\nrefused NotHere\nrefused NotHere\nfault UnknownWord\nrefused NotOpen\nrefused NotOpen\nrefused NotOpen\nrefused NotOpen\nfault BadWord\nfault WrongCount\n";
 
-const AT_DESK: &str =
+pub(super) const AT_DESK: &str =
     "open v1 9001 9002\nenter 0 active\nleave 0\navailable 1 2\ntick 3\ntick 2\ntick\nreport\r\nquit now\nquit\nreport\n";
 
-const AT_DESK_ANSWERS: &str =
+pub(super) const AT_DESK_ANSWERS: &str =
     "refused AlreadyOpen\nrefused NotHere\nrefused NotHere\nok 0\nok 0\nrefused MomentBack\nfault WrongCount
 moment 3
 phase steady
@@ -119,11 +120,21 @@ impl BootClock for CountingClock {
     }
 }
 
+/// How lines are answered.
+#[derive(Clone, Copy, Drop)]
+enum Way {
+    /// Those of a reader, one after the other.
+    Together,
+    /// Each by itself, up to `quit`.
+    OneByOne,
+}
+
 fn answer<N: Names, R: Wait>(
     rt: &R,
     alloc: Global,
     limits: Limits,
     lines: &mut &[u8],
+    way: Way,
     blanks: Blanks,
 ) -> Result<Answered, Fail>
     requires blanks { AreAllFor N.Names blanks }
@@ -156,7 +167,10 @@ fn answer<N: Names, R: Wait>(
         refused_for_room: &refused,
         receiver: &written,
     };
-    let end = answer_at_desk(at_desk, &mut taken, lines, &mut answers);
+    let end = match way {
+        Way::Together => answer_at_desk(at_desk, &mut taken, lines, &mut answers),
+        Way::OneByOne => one_by_one(alloc, at_desk, lines, &mut answers),
+    };
     let history = desk.into_book().close(seats);
     expect_audited(alloc, &history, &strategy)?;
     Ok(Answered {
@@ -183,7 +197,36 @@ pub(super) fn answer_within<R: Wait>(
     limits: Limits,
     lines: &mut &[u8],
 ) -> Result<Answered, Fail> {
-    answer::<Brand, R>(rt, alloc, limits, lines, Blanks::new())
+    answer::<Brand, R>(rt, alloc, limits, lines, Way::Together, Blanks::new())
+}
+
+/// Answers these lines, each of which was found whole, by itself, up to `quit`.
+pub(super) fn answer_each<R: Wait>(rt: &R, alloc: Global, lines: &str) -> Result<Answered, Fail> {
+    let mut lines = lines.as_bytes();
+    answer::<Brand, R>(
+        rt,
+        alloc,
+        Limits::usual(),
+        &mut lines,
+        Way::OneByOne,
+        Blanks::new(),
+    )
+}
+
+/// Answers each line by itself, up to `quit`.
+fn one_by_one<N: Names, R: Wait>(
+    alloc: Global,
+    mut at_desk: AtDesk<N, R, CountingClock, Written>,
+    lines: &mut &[u8],
+    answers: &mut Vec<u8>,
+) -> Result<ControlEnd, RunEnd> {
+    for text in lines.split_inclusive(|byte| *byte == b'\n') {
+        let line = Line::new(alloc, text)?;
+        if let LineResult::Quits = answer_line(&mut at_desk, line.read, answers)? {
+            return Ok(ControlEnd::Quit);
+        }
+    }
+    Ok(ControlEnd::End)
 }
 
 #[test]
