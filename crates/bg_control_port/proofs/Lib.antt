@@ -4,3 +4,4 @@ pub mod Bounded
 pub mod Firsts
 pub mod LineLemmas
 pub mod Stepping
+mod GivenInOrder

@@ -2,7 +2,7 @@
 use Rattle.std.proofs.Common.{◌≡◌, ◌==◌, ℕ, ◌+◌, ◌<◌, Bool, true, false, not, cond, List, [], ◌∷◌, ◌++◌, length, drop, take, nat_le, nat_lt, map}
 use Rattle.std.proofs.Common.{Some, None, refl, ap, ◌∙◌, arith, inl, inr, ◌⊎◌}
 use Rattle.std.specs.List.{position_or_len}
-use Rattle.bg_control_port.specs.Lines.{after_break, behind, break_at, given, given_for, given_with, lines, spaces, with_first}
+use Rattle.bg_control_port.specs.Lines.{after_break, behind, break_at, given, given_for, given_with, lines, with_first, Whole, Bytes, TooLong}
 
 -- no byte is a line break
 abbrev pub NoBreak : List ℕ → Type 0
@@ -93,9 +93,9 @@ lines_none byte (next ∷ text) n =
     ap (λ t. cond t ((byte ∷ []) ∷ lines (next ∷ text)) (with_first byte (lines (next ∷ text)))) n.0
     ∙ ap (λ ls. with_first byte ls) (lines_none next text n.1)
 
--- what is given for a line with a line break, and for a line without one
-abbrev pub given_text : List ℕ → List ℕ → List ℕ
-given_text text line = cond (nat_le 4098 (length text)) spaces line
+-- what is read for a line with a line break, and for a line without one
+abbrev pub given_text : List ℕ → List ℕ → Whole
+given_text text line = cond (nat_le 4098 (length text)) TooLong (Bytes line)
 
 pub given_some : (text rest : List ℕ) → NoBreak text
     → given (text ++ 10 ∷ rest) ≡ given_text text (text ++ 10 ∷ []) ∷ given rest

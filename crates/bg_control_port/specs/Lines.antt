@@ -1,5 +1,5 @@
--- The lines of a whole input, and what is given of each.
-use Rattle.std.specs.Prelude.{ℕ, ◌+◌, Bool, List, [], ◌∷◌, ◌==◌, if◌then◌else◌, drop, is_some, length, map, nat_le, position, replicate, Option, Some, None}
+-- The lines of a whole input, and as what each is read.
+use Rattle.std.specs.Prelude.{ℕ, ◌+◌, Bool, List, [], ◌∷◌, ◌==◌, if◌then◌else◌, drop, is_some, length, map, nat_le, position, Option, Some, None}
 
 -- a byte stands before these lines
 abbrev pub with_first : ℕ → List (List ℕ) → List (List ℕ)
@@ -26,18 +26,19 @@ behind (Some index) bytes = drop (index + 1) bytes
 abbrev pub after_break : List ℕ → List ℕ
 after_break bytes = behind (break_at bytes) bytes
 
--- what is given for a line that is too long
-abbrev pub spaces : List ℕ
-spaces = replicate 4098 32
+-- a whole line as it is read: its bytes, or that it was too long
+pub data Whole : Type 0 where
+  Bytes : (bytes : List ℕ) → Whole
+  TooLong : Whole
 
--- what is given for a line: the line, or so many spaces if no line break is among its first 4,098 bytes
-abbrev pub given_with : Option ℕ → List ℕ → List ℕ
-given_with None line = if nat_le 4098 (length line) then spaces else line
-given_with (Some index) line = if nat_le 4098 index then spaces else line
+-- what is read for a line: the line, or that it is too long if no line break is among its first 4,098 bytes
+abbrev pub given_with : Option ℕ → List ℕ → Whole
+given_with None line = if nat_le 4098 (length line) then TooLong else Bytes line
+given_with (Some index) line = if nat_le 4098 index then TooLong else Bytes line
 
-abbrev pub given_for : List ℕ → List ℕ
+abbrev pub given_for : List ℕ → Whole
 given_for line = given_with (break_at line) line
 
--- all that is given for an input
-abbrev pub given : List ℕ → List (List ℕ)
+-- all that is read for an input
+abbrev pub given : List ℕ → List Whole
 given bytes = map given_for (lines bytes)

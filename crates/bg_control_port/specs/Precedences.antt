@@ -5,57 +5,46 @@ use Rattle.bg_control_port.specs.Stages.{place_of}
 use Rattle.bg_control_port.specs.Steps.{asked, given_line}
 use Rattle.bg_control_port.specs.Turns.{precedence_after, precedes, row_after}
 use Rattle.bg_control_port.specs.declared.connection.Connection.{Connection}
-use Rattle.bg_control_port.specs.declared.connections.turns.Asker.{Asker}
-use Rattle.bg_control_port.specs.declared.connections.turns.NextLine.{NextLine}
-use Rattle.bg_control_port.specs.declared.connections.turns.NextLine.TheVariants as next
+use Rattle.bg_control_port.specs.declared.connections.turns.Asked.{Asked}
 use Rattle.bg_control_port.specs.declared.turn.Precedence.{Precedence}
 use Rattle.bg_control_port.specs.declared.turn.Place.{Place}
-
--- the place in an order of the connection at a place
-abbrev pub place_at : Precedence → Option Connection → Option Place
-place_at order None = None
-place_at order (Some c) = place_of order c
 
 -- a place does not go before another one
 abbrev pub IsNotBefore : Option Place → Place → Type 0
 IsNotBefore None first = ⊤
 IsNotBefore (Some other) first = precedes other first ≡ false
 
--- a key has this place in an order, and none goes before it
-pub record IsFirst (order : Precedence) (places : List (Option Connection)) (key : ℕ) (place : Place) : Type 0 where
-  pub within : key < length places
-  pub place_is : place_at order (at places key) ≡ Some place
-  pub least : (other : ℕ) → other < length places → IsNotBefore (place_at order (at places other)) place
+module _ {L : Type 0} where
+  -- the place in an order of the connection at a place
+  abbrev pub place_at : Precedence → Option (Connection L) → Option Place
+  place_at order None = None
+  place_at order (Some c) = place_of order c
 
--- the order of the next line
-abbrev pub next_order : Register → Precedence
-next_order register = precedence_after register.urgent_in_a_row
+  -- a key has this place in an order, and none goes before it
+  pub record IsFirst (order : Precedence) (places : List (Option (Connection L))) (key : ℕ) (place : Place) : Type 0 where
+    pub within : key < length places
+    pub place_is : place_at order (at places key) ≡ Some place
+    pub least : (other : ℕ) → other < length places → IsNotBefore (place_at order (at places other)) place
 
--- the line of this connection is given, and it is the next one
-pub record Gives (old new : Register) (line : List ℕ) (asker : Asker) : Type 0 where
-  pub connection : Connection
-  pub place : Place
-  pub was : at old.places asker.key ≡ Some connection
-  pub first : IsFirst (next_order old) old.places asker.key place
-  pub line_is : given_line connection ≡ Some line
-  pub peer_is : asker.peer ≡ connection.peer
-  pub now : new ≡ record old {
-    places = slice_set old.places asker.key (Some (asked connection));
-    urgent_in_a_row = row_after old.urgent_in_a_row place.is_ahead;
-  }
+  -- the order of the next line
+  abbrev pub next_order : Register L → Precedence
+  next_order register = precedence_after register.urgent_in_a_row
 
--- the connection of the next line has left
-pub record Loses (old new : Register) (key : ℕ) : Type 0 where
-  pub place : Place
-  pub first : IsFirst (next_order old) old.places key place
-  pub now : new ≡ record old {
-    places = slice_set old.places key None;
-    urgent_in_a_row = row_after old.urgent_in_a_row place.is_ahead;
-  }
+  -- the line of this connection is given, and it is the next one
+  pub record Gives (old new : Register L) (given : Asked L) : Type 0 where
+    pub connection : Connection L
+    pub place : Place
+    pub was : at old.places given.asker.key ≡ Some connection
+    pub first : IsFirst (next_order old) old.places given.asker.key place
+    pub line_is : given_line connection ≡ Some given.line
+    pub peer_is : given.asker.peer ≡ connection.peer
+    pub now : new ≡ record old {
+      places = slice_set old.places given.asker.key (Some (asked connection));
+      urgent_in_a_row = row_after old.urgent_in_a_row place.is_ahead;
+    }
 
--- the next line
-abbrev pub TakesTurn : Register → Register → List ℕ → NextLine → Type 0
-TakesTurn old new line next.Nothing =
-    (new ≡ old) × EachIndex old.places (λ key. place_at (next_order old) (at old.places key) ≡ None)
-TakesTurn old new line (next.Given asker) = Gives old new line asker
-TakesTurn old new line (next.Left key) = Loses old new key
+  -- the next line, if one waits
+  abbrev pub TakesTurn : Register L → Register L → Option (Asked L) → Type 0
+  TakesTurn old new None =
+      (new ≡ old) × EachIndex old.places (λ key. place_at (next_order old) (at old.places key) ≡ None)
+  TakesTurn old new (Some given) = Gives old new given

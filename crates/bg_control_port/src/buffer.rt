@@ -2,8 +2,9 @@
 ghost use Rattle.std.specs.Prelude.{◌≡◌, ◌==◌, ◌++◌, [], IfOk, drop, length, position, take};
 ghost use Rattle.bg_control_port.specs.Fronts.{front, line_length};
 ghost use Rattle.bg_control_port.specs.Lines.{after_break, has_break};
-ghost use Rattle.bg_control_port.specs.Steps.{bytes_of, left_by};
+ghost use Rattle.bg_control_port.specs.Steps.{left_by, line_in, whole_of};
 
+use crate::reading::WholeLine;
 use std::alloc::{AllocError, Global};
 use std::marker::Model;
 
@@ -22,9 +23,9 @@ pub enum Front {
     TooLong,
 }
 
-/// A line that can be given.
+/// A whole line that can be read.
 #[derive(Clone, Copy, Drop, PartialEq, Eq)]
-pub enum WholeLine {
+pub enum Found {
     /// The first bytes of the input, this many.
     First(usize),
     /// A line that is too long, and was skipped.
@@ -94,23 +95,22 @@ impl Buffer {
         self.bytes.drain(..count.min(self.bytes.len()));
     }
 
-    /// Puts a whole line into `line`, with its line end, and removes it. For a line that was skipped, as many spaces are
-    /// given as make a line too long. The only error is an allocation failure.
-    pub fn give(&mut self, whole: WholeLine, line: &mut Vec<u8>) -> Result<(), AllocError>
-        ensures line { IfOk result (λ _. line.new.items ≡ bytes_of whole self.old) }
-        ensures left { IfOk result (λ _. self.new ≡ left_by whole self.old) }
+    /// A whole line that was found, with its line end.
+    pub fn line(&self, found: Found) -> WholeLine<'_>
+        ensures { whole_of result ≡ line_in found self.now }
     {
-        line.clear();
-        match whole {
-            WholeLine::First(count) => {
-                line.extend_from_slice(self.first(count))?;
-                self.take(count);
-                Ok(())
-            }
-            WholeLine::Skipped => {
-                line.extend_from_slice(&[b' '; LONGEST_LINE])?;
-                Ok(())
-            }
+        match found {
+            Found::First(count) => WholeLine::Bytes(self.first(count)),
+            Found::Skipped => WholeLine::TooLong,
+        }
+    }
+
+    /// Removes a whole line that was found.
+    pub fn take_line(&mut self, found: Found)
+        ensures { self.new ≡ left_by found self.old }
+    {
+        if let Found::First(count) = found {
+            self.take(count);
         }
     }
 

@@ -1,13 +1,13 @@
 //! The state of a connection of an operator.
 ghost use Rattle.std.specs.Prelude.{◌≡◌, [], IfNone, IfSome, None};
 ghost use Rattle.bg_control_port.specs.Bounds.{is_given_up};
-ghost use Rattle.bg_control_port.specs.Stages.{interest_of, line_at, place_of, rest_at};
+ghost use Rattle.bg_control_port.specs.Stages.{interest_of, place_of, rest_at};
 ghost use Rattle.bg_control_port.specs.declared.connection.Stage.TheVariants as stage;
 
 mod steps;
 
 use crate::bounds::has_passed;
-use crate::buffer::{Buffer, WholeLine};
+use crate::buffer::{Buffer, Found};
 use crate::peer::Peer;
 use crate::reply::{AfterReply, Reply};
 use crate::turn::{Place, Precedence};
@@ -18,13 +18,15 @@ const LONGEST_REPLY_SILENCE: u64 = 10_000;
 
 /// What happens next with a connection.
 #[derive(Drop)]
-pub enum Stage {
+pub enum Stage<L: Drop> {
     /// A line is awaited.
     Awaits,
     /// A line that is too long is skipped.
     Skips,
-    /// A whole line waits to be answered. It is ahead if it is urgent.
-    Waits(WholeLine, Place),
+    /// A whole line came, and was not read yet. This is its number.
+    Came(Found, u64),
+    /// A line that was read waits to be answered. It is ahead if it is urgent.
+    Waits(L, Place),
     /// Its line is being answered.
     Asked,
     /// A reply was not taken whole. No further line is read until it is.
@@ -49,10 +51,10 @@ pub struct Moment {
     pub number: u64,
 }
 
-/// The state of a connection. Moments are milliseconds from the start of the port.
+/// The state of a connection, whose lines are read as `L`. Moments are milliseconds from the start of the port.
 #[derive(Drop)]
-pub struct Connection {
-    stage: Stage,
+pub struct Connection<L: Drop> {
+    stage: Stage<L>,
     /// What came of its input and was not taken. No more is read while a whole line of it waits.
     input: Buffer,
     /// Who is at its other end.
@@ -61,9 +63,9 @@ pub struct Connection {
     moved: u64,
 }
 
-impl Connection {
+impl<L: Drop> Connection<L> {
     /// A connection of this peer that was accepted now.
-    pub fn new(alloc: Global, peer: Peer, now: u64) -> Connection
+    pub fn new(alloc: Global, peer: Peer, now: u64) -> Connection<L>
         ensures { result ≡ record { stage = stage.Awaits; input = []; peer = peer; moved = now } }
     {
         Connection {
@@ -80,25 +82,14 @@ impl Connection {
         self.peer
     }
 
-    /// What it waits for; `None` if its line waits or is being answered.
+    /// What it waits for; `None` if a whole line of it came, waits or is being answered.
     pub fn interest(&self) -> Option<Interest>
         ensures { result ≡ interest_of self.now.stage }
     {
         match self.stage {
             Stage::Awaits | Stage::Skips => Some(Interest::Input),
-            Stage::Waits(..) | Stage::Asked => None,
+            Stage::Came(..) | Stage::Waits(..) | Stage::Asked => None,
             Stage::Replies(..) => Some(Interest::Output),
-        }
-    }
-
-    /// Its whole line that waits, with its line end; `None` if none waits, or if the line is skipped.
-    pub fn line(&self) -> Option<&[u8]>
-        ensures some { IfSome result (λ line. line_at self.now ≡ Some line.now) }
-        ensures none { IfNone result (line_at self.now ≡ None) }
-    {
-        match self.stage {
-            Stage::Waits(WholeLine::First(length), _) => Some(self.input.first(length)),
-            _ => None,
         }
     }
 
@@ -116,7 +107,7 @@ impl Connection {
         }
     }
 
-    /// Its place in an order. A connection has one in the order of the lines if its whole line waits, and in that of
+    /// Its place in an order. A connection has one in the order of the lines if its line waits, and in that of
     /// the silence unless an urgent line of it waits or its line is being answered.
     pub fn place(&self, order: Precedence) -> Option<Place>
         ensures { result ≡ place_of order self.now }
@@ -131,7 +122,7 @@ impl Connection {
             (Precedence::Silence, Stage::Asked) => None,
             (Precedence::Silence, Stage::Waits(_, place)) if place.is_ahead => None,
             (Precedence::Silence, at) => Some(Place {
-                is_ahead: !matches!(at, Stage::Waits(..)),
+                is_ahead: !matches!(at, Stage::Came(..) | Stage::Waits(..)),
                 number: self.moved,
             }),
         }

@@ -2,39 +2,42 @@
 ghost use Rattle.std.specs.Prelude.{◌≡◌, ◌<◌, ◌≤◌, EachIndex, IfErr, IfNone, IfOk, IfSome, None, count_by, is_some, length, replicate, slice_set};
 ghost use Rattle.std.specs.Option.{option_copied};
 ghost use Rattle.bg_control_port.specs.Bounds.{IsBounded};
-ghost use Rattle.bg_control_port.specs.Registers.{Enters, Takes, at, came_by, changed, ended_by, leaves, replied_by, urgent_by, without, wrote_by};
+ghost use Rattle.bg_control_port.specs.Registers.{Enters, ReadsIn, Takes, at, came_by, changed, ended_by, leaves, replied_by, without, wrote_by};
 
 mod room;
+#[cfg(test)]
+mod tests;
 mod turns;
 
 use crate::bounds::MOST_CONNECTIONS;
 use crate::connection::{Connection, Moment};
 use crate::peer::Peer;
+use crate::reading::ReadsLines;
 use crate::reply::Reply;
 pub use room::is_long;
 use std::alloc::{AllocError, Global};
 use std::marker::Model;
 use std::mem;
-pub use turns::{Asker, NextLine};
+pub use turns::{Asked, Asker};
 
-/// The connections of operators, each at its key. The caller reads and writes their sockets, and says what came of it.
+/// The connections of operators, each at its key, whose lines are read as `L`. The caller reads and writes their sockets, and says what came of it.
 /// Moments are milliseconds from the start of the port.
 #[derive(Drop)]
-pub struct Connections {
+pub struct Connections<L: Drop> {
     alloc: Global,
-    places: Vec<Option<Connection>>,
+    places: Vec<Option<Connection<L>>>,
     /// The number of the next whole line.
     next_number: u64,
     /// How many of the last lines were given before others since they are urgent.
     urgent_in_a_row: u32,
 }
 
-impl Model for Connections {
+impl<L: Drop> Model for Connections<L> {
     ghost use Rattle.std.specs.Prelude.{◌≤◌, ℕ, length};
     ghost use Rattle.bg_control_port.specs.Bounds.{IsBounded};
     ghost use Rattle.bg_control_port.specs.Registers.{Register, at};
 
-    ghost Value = { Register };
+    ghost Value = { Register L };
 
     ghost view = { λ c. record {
       places = c.places.items;
@@ -46,9 +49,9 @@ impl Model for Connections {
         (length c.places.items ≤ 1024) × ((key : ℕ) → IsBounded (at c.places.items key)) };
 }
 
-impl Connections {
+impl<L: Drop> Connections<L> {
     /// No connections, and places for 1,024. The only error is an allocation failure.
-    pub fn new(alloc: Global) -> Result<Connections, AllocError>
+    pub fn new(alloc: Global) -> Result<Connections<L>, AllocError>
         ensures { IfOk result (λ connections. connections ≡ record {
           places = replicate 1024 None;
           next_number = 0;
@@ -76,7 +79,7 @@ impl Connections {
     }
 
     /// The connection of a key.
-    pub fn get(&self, key: usize) -> Option<&Connection>
+    pub fn get(&self, key: usize) -> Option<&Connection<L>>
         ensures { option_copied result ≡ at self.now.places key }
     {
         self.places.get(key)?.as_ref()
@@ -104,7 +107,7 @@ impl Connections {
     }
 
     /// Puts this into the place of a key, and gives what was there.
-    fn replace(&mut self, key: usize, place: Option<Connection>) -> Option<Connection>
+    fn replace(&mut self, key: usize, place: Option<Connection<L>>) -> Option<Connection<L>>
         requires within { key < length self.old.places }
         requires bounded { IsBounded place }
         ensures place { self.new ≡ record self.old { places = slice_set self.old.places key place } }
@@ -114,7 +117,7 @@ impl Connections {
     }
 
     /// Takes the connection of a key out of its place, with the moment of the step that it is taken for.
-    fn take(&mut self, key: usize, now: u64) -> Option<(Connection, Moment)>
+    fn take(&mut self, key: usize, now: u64) -> Option<(Connection<L>, Moment)>
         ensures some { IfSome result (λ taken. Takes self.old self.new key now taken.0 taken.1) }
         ensures none { IfNone result (at self.old.places key ≡ None) }
         ensures kept { IfNone result (self.new ≡ self.old) }
@@ -151,13 +154,22 @@ impl Connections {
         }
     }
 
-    /// Notes that the line of a connection that waits is urgent. A line that is skipped never is.
-    pub fn note_urgent(&mut self, key: usize, now: u64)
-        ensures { self.new ≡ changed urgent_by now self.old key }
+    /// Reads the whole line of a connection, if one came and was not read yet. Then it waits. The only error is an allocation
+    /// failure, after which the connection has left.
+    pub fn read<P: ReadsLines<L>>(
+        &mut self,
+        reader: &P,
+        key: usize,
+        now: u64,
+    ) -> Result<(), AllocError>
+        ensures read { IfOk result (λ _. ReadsIn (P.reads reader.now) (P.puts_first reader.now) now (at self.old.places key) self.old self.new key) }
+        ensures failed { IfErr result (λ _. self.new ≡ changed leaves now self.old key) }
     {
         if let Some((connection, _moment)) = self.take(key, now) {
-            self.replace(key, Some(connection.with_urgency()));
+            let connection = connection.read(reader)?;
+            self.replace(key, Some(connection));
         }
+        Ok(())
     }
 
     /// Notes the reply to the line that was given, and that so many bytes of it were taken at once. The rest is kept. The

@@ -2,10 +2,10 @@
 
 use crate::bounds::MOST_CONNECTIONS;
 use crate::connection::Interest;
-use crate::connections::{Asker, Connections, NextLine, is_long};
+use crate::connections::{Asked, Connections, is_long};
 use crate::peer::Peer;
-use crate::priority::LinePriority;
 use crate::readiness::Readiness;
+use crate::reading::ReadsLines;
 use crate::reply::Reply;
 use crate::turn::Precedence;
 use crate::writing::write_reply;
@@ -24,21 +24,21 @@ pub struct PortContext<'a, P> {
     /// The moment, in milliseconds from the start of the port.
     pub now: u64,
     pub readiness: &'a Readiness,
-    /// Says which lines are urgent.
-    pub priority: &'a P,
+    /// Reads the lines, and says which are urgent.
+    pub reader: &'a P,
 }
 
-/// The connections of operators with their sockets.
+/// The connections of operators with their sockets, whose lines are read as `L`.
 #[derive(Drop)]
-pub struct Operators {
-    connections: Connections,
+pub struct Operators<L: Drop> {
+    connections: Connections<L>,
     /// The socket of each connection, at its key.
     streams: Vec<Option<OwnedFd>>,
 }
 
-impl Operators {
+impl<L: Drop> Operators<L> {
     /// No connections. Allocates the memory for 1,024. The only error is an allocation failure.
-    pub fn new(alloc: Global) -> Result<Operators, AllocError> {
+    pub fn new(alloc: Global) -> Result<Operators<L>, AllocError> {
         let mut streams = Vec::with_capacity(alloc, MOST_CONNECTIONS)?;
         for _ in 0..MOST_CONNECTIONS {
             streams.push(None)?;
@@ -50,7 +50,7 @@ impl Operators {
     }
 
     /// Their state.
-    pub fn connections(&self) -> &Connections {
+    pub fn connections(&self) -> &Connections<L> {
         &self.connections
     }
 
@@ -75,7 +75,7 @@ impl Operators {
     }
 
     /// Handles that a connection is ready.
-    pub fn attend<P: LinePriority>(&mut self, key: usize, has_ended: bool, port: &PortContext<P>) {
+    pub fn attend<P: ReadsLines<L>>(&mut self, key: usize, has_ended: bool, port: &PortContext<P>) {
         let Some(connection) = self.connections.get(key) else {
             return;
         };
@@ -87,7 +87,7 @@ impl Operators {
     }
 
     /// Reads what has arrived.
-    fn read<P: LinePriority>(&mut self, key: usize, has_ended: bool, port: &PortContext<P>) {
+    fn read<P: ReadsLines<L>>(&mut self, key: usize, has_ended: bool, port: &PortContext<P>) {
         let mut piece = [0u8; PIECE];
         let Some(stream) = self.stream(key) else {
             return;
@@ -109,24 +109,27 @@ impl Operators {
     }
 
     /// Writes more of the reply that was not taken whole.
-    fn write<P: LinePriority>(&mut self, key: usize, port: &PortContext<P>) {
-        let (Some(stream), Some(connection)) = (self.stream(key), self.connections.get(key)) else {
-            return;
-        };
-        let Some(rest) = connection.rest() else {
-            return;
-        };
-        match write_reply(stream, rest) {
-            Ok(count) => {
+    fn write<P: ReadsLines<L>>(&mut self, key: usize, port: &PortContext<P>) {
+        match self.write_rest(key) {
+            Some(Ok(count)) => {
                 self.connections.wrote(key, count, port.now);
                 self.go_on(key, true, port);
             }
-            Err(_) => self.end(key),
+            Some(Err(_)) => self.end(key),
+            None => {}
         }
     }
 
+    /// Writes what fits of the reply that was not taken whole, and gives the number of these bytes; `None` if there is no such
+    /// reply.
+    fn write_rest(&self, key: usize) -> Option<io::Result<usize>> {
+        let stream = self.stream(key)?;
+        let rest = self.connections.get(key)?.rest()?;
+        Some(write_reply(stream, rest))
+    }
+
     /// Gives the reply to the line that was taken from a connection. What its socket does not take is kept.
-    pub fn reply<P: LinePriority>(&mut self, key: usize, reply: Reply, port: &PortContext<P>) {
+    pub fn reply<P: ReadsLines<L>>(&mut self, key: usize, reply: Reply, port: &PortContext<P>) {
         let Some(stream) = self.stream(key) else {
             return;
         };
@@ -140,43 +143,36 @@ impl Operators {
         }
     }
 
-    /// Goes on with a connection after a step: closes its socket if it has left, asks whether its next line is urgent,
-    /// and watches what it waits for again if `may_be_ready`. What is ready already is reported after what is ready
-    /// elsewhere.
-    fn go_on<P: LinePriority>(&mut self, key: usize, may_be_ready: bool, port: &PortContext<P>) {
-        let (Some(stream), Some(connection)) = (self.stream(key), self.connections.get(key)) else {
-            self.end(key);
-            return;
-        };
-        let watched = match connection.interest() {
-            Some(Interest::Input) if may_be_ready => port.readiness.watch_input(stream, key),
-            Some(Interest::Output) if may_be_ready => port.readiness.watch_output(stream, key),
-            _ => Ok(()),
-        };
-        let is_urgent = match connection.line() {
-            Some(line) => port.priority.is_urgent(line),
-            None => false,
-        };
-        if is_urgent {
-            self.connections.note_urgent(key, port.now);
-        }
-        if watched.is_err() {
-            // a connection that cannot be watched is closed
+    /// Goes on with a connection after a step: watches what it waits for again if `may_be_ready`, and reads its next line if
+    /// that is whole. What is ready already is reported after what is ready elsewhere. The socket of a connection that has
+    /// left is closed, and so is a connection that cannot be watched, or without memory for its line.
+    fn go_on<P: ReadsLines<L>>(&mut self, key: usize, may_be_ready: bool, port: &PortContext<P>) {
+        let is_watched = self.is_watched(key, may_be_ready, port.readiness);
+        let read = self.connections.read(port.reader, key, port.now);
+        if !is_watched || read.is_err() {
             self.end(key);
         }
     }
 
-    /// Takes the next line, and returns whose it is; `None` if no line waits, or for want of memory, after which its
-    /// connection is closed.
-    pub fn take_line(&mut self, line: &mut Vec<u8>) -> Option<Asker> {
-        match self.connections.take_line(line) {
-            NextLine::Given(asker) => Some(asker),
-            NextLine::Left(key) => {
-                self.end(key);
-                None
-            }
-            NextLine::Nothing => None,
-        }
+    /// Watches what a connection waits for again if `may_be_ready`. False if the connection has left or cannot be watched.
+    fn is_watched(&self, key: usize, may_be_ready: bool, readiness: &Readiness) -> bool {
+        let Some(stream) = self.stream(key) else {
+            return false;
+        };
+        let Some(connection) = self.connections.get(key) else {
+            return false;
+        };
+        let watched = match connection.interest() {
+            Some(Interest::Input) if may_be_ready => readiness.watch_input(stream, key),
+            Some(Interest::Output) if may_be_ready => readiness.watch_output(stream, key),
+            _ => Ok(()),
+        };
+        watched.is_ok()
+    }
+
+    /// Takes the next line; `None` if no line waits.
+    pub fn take_line(&mut self) -> Option<Asked<L>> {
+        self.connections.take_line()
     }
 
     /// Closes a connection.

@@ -3,13 +3,13 @@
 use crate::acceptor::Acceptor;
 use crate::admission::{Admission, Admitted};
 use crate::bounds::most_connections;
-use crate::connections::Asker;
+use crate::connections::{Asked, Asker};
 use crate::events::ControlEvents;
 use crate::listener::{ControlListeners, Entrance, Listener};
 use crate::operators::{Operators, PortContext};
 use crate::peer::Peer;
-use crate::priority::LinePriority;
 use crate::readiness::{MOST_READY, Readiness, Ready};
+use crate::reading::ReadsLines;
 use crate::reply::Reply;
 use crate::turn::Precedence;
 use bg_peers::{SystemLookup, Users};
@@ -28,24 +28,25 @@ const MOST_ACCEPTS: usize = 64;
 /// The number of milliseconds between two calls of [`ControlEvents::second_passed`].
 const SECOND: u64 = 1_000;
 
-/// The port and the socket at which operators connect. One thread answers their lines; other threads may share it.
+/// The port and the socket at which operators connect, whose lines are read as `L`. One thread answers their lines; other
+/// threads may share it.
 #[derive(Drop)]
-pub struct ControlPort {
+pub struct ControlPort<L: Drop> {
     readiness: Readiness,
-    state: Mutex<State>,
+    state: Mutex<State<L>>,
     clock: PortClock,
 }
 
 /// The state that changes.
 #[derive(Drop)]
-struct State {
+struct State<L: Drop> {
     alloc: Global,
     /// `None` if there is no port, and after it was closed.
     port: Option<Acceptor<TcpListener>>,
     /// `None` if there is no socket, and after it was closed.
     socket: Option<Acceptor<UnixListener>>,
     admission: Admission,
-    operators: Operators,
+    operators: Operators<L>,
     /// When the next call of `second_passed` is due.
     next_second: u64,
 }
@@ -62,7 +63,7 @@ struct News {
     second_passed: bool,
 }
 
-impl ControlPort {
+impl<L: Drop> ControlPort<L> {
     /// The port and the socket of these listeners. The port is for these users; `None` stands for all users. Allocates the
     /// memory for 1,024 connections. An error if this allocation or the clock fails, if the system cannot create an epoll
     /// set or watch a listener, or if a listener cannot be made non-blocking.
@@ -75,7 +76,7 @@ impl ControlPort {
         alloc: Global,
         listeners: ControlListeners,
         operators: Option<Users>,
-    ) -> io::Result<ControlPort> {
+    ) -> io::Result<ControlPort<L>> {
         let readiness = Readiness::new()?;
         let state = State {
             alloc,
@@ -92,14 +93,15 @@ impl ControlPort {
         })
     }
 
-    /// Waits for the next line, puts it into `line` with its line end, and returns its connection.
+    /// Waits for the next line, and returns it with its connection. A line is read ([`ReadsLines`]) as soon as it is whole,
+    /// once. If there is no memory for it, its connection is closed.
     ///
     /// A connection has one line answered, and then the next connection, in the order in which their lines
-    /// came. An urgent line ([`LinePriority`]) goes before all that wait, but not before an earlier line of its
+    /// came. An urgent line ([`ReadsLines::is_urgent`]) goes before all that wait, but not before an earlier line of its
     /// own connection; after 16 such lines in a row, the line that came first goes.
     ///
     /// A line is the bytes up to a line break, LF, or up to the end of the input if there are any. A line of which
-    /// 4,098 bytes have no line break is too long: it is skipped, and 4,098 spaces stand for it.
+    /// 4,098 bytes have no line break is too long: it is skipped, and read as such ([`WholeLine::TooLong`](crate::WholeLine)).
     ///
     /// The previous line has to be answered before, by [`ControlPort::reply`] or [`ControlPort::end`]. No line
     /// of a connection is given before its last reply was taken whole. Until then the port keeps up to 65,536 bytes
@@ -112,17 +114,16 @@ impl ControlPort {
     /// never. If an accept fails, the port closes the connection that has been silent for the longest time, if
     /// that is two seconds or more and no whole line of it waits. A failed accept is tried again every
     /// 100 milliseconds.
-    pub fn next<R: Clock + Wait, E: ControlEvents, P: LinePriority>(
+    pub fn next<R: Clock + Wait, E: ControlEvents, P: ReadsLines<L>>(
         &self,
         rt: &R,
         events: &E,
-        priority: &P,
-        line: &mut Vec<u8>,
-    ) -> Asker {
+        reader: &P,
+    ) -> Asked<L> {
         for _ in rt.forever() {
-            self.attend(rt, events, priority);
-            if let Some(asker) = self.state.lock(rt).operators.take_line(line) {
-                return asker;
+            self.attend(rt, events, reader);
+            if let Some(asked) = self.state.lock(rt).operators.take_line() {
+                return asked;
             }
         }
         unreachable!()
@@ -130,14 +131,14 @@ impl ControlPort {
 
     /// Gives the reply to a line. The connection is closed if it fails, if the reply is one after which it
     /// closes, or if more than 65,536 bytes would have to be kept.
-    pub fn reply<R: Clock + Wait, P: LinePriority>(
+    pub fn reply<R: Clock + Wait, P: ReadsLines<L>>(
         &self,
         rt: &R,
         asker: Asker,
         reply: Reply,
-        priority: &P,
+        reader: &P,
     ) {
-        let context = self.context(rt, priority);
+        let context = self.context(rt, reader);
         self.state
             .lock(rt)
             .operators
@@ -159,24 +160,24 @@ impl ControlPort {
     }
 
     /// What the handling of connections needs at this moment.
-    fn context<'a, R: Clock, P>(&'a self, rt: &R, priority: &'a P) -> PortContext<'a, P> {
+    fn context<'a, R: Clock, P>(&'a self, rt: &R, reader: &'a P) -> PortContext<'a, P> {
         PortContext {
             now: self.clock.now(rt),
             readiness: &self.readiness,
-            priority,
+            reader,
         }
     }
 
     /// Waits until a socket is ready, unless a line waits, and handles what is ready and what is due.
-    fn attend<R: Clock + Wait, E: ControlEvents, P: LinePriority>(
+    fn attend<R: Clock + Wait, E: ControlEvents, P: ReadsLines<L>>(
         &self,
         rt: &R,
         events: &E,
-        priority: &P,
+        reader: &P,
     ) {
         let mut ready = [Ready::Listener(Entrance::Port); MOST_READY];
         let count = self.readiness.wait(self.millis_to_wait(rt), &mut ready);
-        let context = self.context(rt, priority);
+        let context = self.context(rt, reader);
         let mut state = self.state.lock(rt);
         let news = state.attend(&ready[..count], &context);
         drop(state);
@@ -217,9 +218,9 @@ impl ControlPort {
     }
 }
 
-impl State {
+impl<L: Drop> State<L> {
     /// Handles what is ready, accepts connections if that is due, and closes those that take no reply.
-    fn attend<P: LinePriority>(&mut self, ready: &[Ready], context: &PortContext<P>) -> News {
+    fn attend<P: ReadsLines<L>>(&mut self, ready: &[Ready], context: &PortContext<P>) -> News {
         for one in ready {
             match *one {
                 // its connections are accepted after all else, so that no key of a connection that was closed is given
@@ -329,11 +330,11 @@ fn pause_of<L: Listener + Drop>(acceptor: &Option<Acceptor<L>>, now: u64) -> u64
 }
 
 /// Accepts the connections that have come. Returns a failure that has to be reported.
-fn accept_arrived<L: Listener + Drop>(
-    acceptor: &mut Option<Acceptor<L>>,
-    operators: &mut Operators,
+fn accept_arrived<A: Listener + Drop, L: Drop>(
+    acceptor: &mut Option<Acceptor<A>>,
+    operators: &mut Operators<L>,
     now: u64,
-    arrived: &mut Vec<L::Stream>,
+    arrived: &mut Vec<A::Stream>,
 ) -> Option<io::Error> {
     let acceptor = acceptor.as_mut()?;
     for _ in 0..MOST_ACCEPTS {

@@ -9,6 +9,7 @@ use bg_command_line::{Connections, ServeSettings};
 use bg_control_port::{ControlPort, SocketFile};
 use bg_endpoints::OwnPorts;
 use bg_loop_port::{LoopPort, LoopPortSettings};
+use bg_operator::Line;
 use bg_peers::Users;
 use bg_revisions::Service;
 use std::alloc::Global;
@@ -22,7 +23,7 @@ pub struct Ports {
     active: LoopPort,
     preview: Option<LoopPort>,
     /// The port and the socket at which operators connect.
-    pub control: ControlPort,
+    pub control: ControlPort<Line>,
     /// The file of the control socket, if there is one.
     socket_file: Option<SocketFile>,
     /// The numbers of the ports.

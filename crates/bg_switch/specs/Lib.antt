@@ -1,4 +1,5 @@
 pub mod Decisions
+pub mod OperatorLines
 pub mod Restarted
 pub mod Resumed
 pub mod RevisionLists

@@ -15,7 +15,7 @@ use bg_book::{Book, Desk, Limits, ResumeFault, RolloutOpening};
 use bg_ledger::{Blanks, Names, Seat};
 use bg_order_journal::{OpensJournal, Resumption, open_journal};
 use bg_report::report;
-use bg_script::{Answer, DeskJournal, FirstRevision, LinesEnd, OrderJournal, RunEnd};
+use bg_script::{Answer, DeskJournal, FirstRevision, LineResult, OrderJournal, RunEnd};
 use sqlite::Alter;
 use std::io;
 use std::io::Write;
@@ -132,9 +132,9 @@ where
 {
     let control = &context.serve.ports.control;
     let first = match operator.before_open(control) {
-        Ok(LinesEnd::Open(first)) => first,
-        Ok(LinesEnd::Quit) => return Some(Ok(())),
-        Ok(LinesEnd::SpeaksHttp | LinesEnd::End) | Err(_) => return None,
+        Ok(LineResult::Opens(first)) => first,
+        Ok(LineResult::Quits) => return Some(Ok(())),
+        Ok(LineResult::Said(_) | LineResult::Report) | Err(_) => return None,
     };
     let blanks = Blanks::new();
     match open_and_serve::<Brand, R, S, O, W>(context, blanks, &first, operator, output) {

@@ -8,7 +8,6 @@ mod context;
 mod journal;
 mod journal_files;
 mod kernel_clock;
-mod lines_at_desk;
 mod loops;
 mod operator_users;
 mod operators;

@@ -1,48 +1,51 @@
 //! The lines of operators, answered one after the other.
 ghost use Rattle.std.specs.Prelude.{◌≡◌};
 ghost use Rattle.bg_switch.specs.Decisions.{is_decision, is_order, makes_decision};
+ghost use Rattle.bg_switch.specs.OperatorLines.{IsReadFor};
 ghost use Rattle.bg_switch.specs.Rollbacks.{ends_attempt, is_rollback, is_unsuccessful};
 
 use crate::context::ServeContext;
 use crate::kernel_clock::KernelClock;
-use crate::lines_at_desk::{AnswersLines, InMemory};
 use crate::revision_ports::{DownPorts, update_directory};
 use bg_book::{Control, Desk};
-use bg_control_port::{AfterReply, Asker, ControlPort, LinePriority, Reply};
+use bg_control_port::{AfterReply, Asked, Asker, ControlPort, ReadsLines, Reply, WholeLine};
 use bg_history::AnalysisResult;
 use bg_ledger::Names;
-use bg_operator::{Command, LineFault, OperatorLines};
+use bg_operator::{Command, Line, LineFault};
 use bg_ports::Notices;
 use bg_script::{
-    Answer, AtDesk, AtJournaledDesk, ControlEnd, DeskJournal, LinesEnd, OrderJournal, RunEnd,
-    answer_before_open, write_answer,
+    Answer, AtDesk, AtJournaledDesk, DeskJournal, LineResult, LineStage, OrderJournal, RunEnd,
+    WithoutBook, answer_line, write_answer,
 };
-use std::alloc::Global;
+use std::alloc::{AllocError, Global};
 use std::sync::Wait;
 use std::time::Clock;
 
-/// What the reply to a line that was carried out begins with.
-const CARRIED_OUT: &[u8] = b"ok ";
+/// What has to be known of a line while it is answered.
+#[derive(Drop)]
+struct LineNotes {
+    /// Whose line it is.
+    asker: Asker,
+    /// The line, without its line end.
+    text: Vec<u8>,
+    /// Whether it opens the book, changes the rollout by a decision, or ends the program.
+    makes_decision: bool,
+    /// Whether it gives an event to the book.
+    is_order: bool,
+    /// What comes after its reply.
+    after: AfterReply,
+}
 
-/// What the reply to an order begins with that was carried out, and that the journal is not known to keep.
-const UNSAVED: &[u8] = b"unsaved ";
-
-/// What the reply to an order begins with that was not carried out, since the journal lacks an earlier one.
-const JOURNAL_FAILED: &[u8] = b"refused JournalFailed";
-
-/// Reads and answers the lines of operators.
+/// Answers the lines of operators.
 #[derive(Drop)]
 pub struct Operator<'c, R: Clock + Wait> {
     rt: &'c R,
     notices: &'c Notices<'c>,
-    lines: OperatorLines,
-    rollbacks: RollbacksFirst,
-    /// The line that is being answered, with its line end.
-    line: Vec<u8>,
-    /// The reply to it.
+    reader: LineReader,
+    /// The reply to the line that is being answered.
     reply: Vec<u8>,
-    /// Whose line it is, until it is answered.
-    asker: Option<Asker>,
+    /// The line that is being answered.
+    asked: Option<LineNotes>,
 }
 
 impl<'c, R: Clock + Wait> Operator<'c, R> {
@@ -51,121 +54,117 @@ impl<'c, R: Clock + Wait> Operator<'c, R> {
         Operator {
             rt,
             notices,
-            lines: OperatorLines::new(alloc),
-            rollbacks: RollbacksFirst { alloc },
-            line: Vec::new(alloc),
+            reader: LineReader { alloc },
             reply: Vec::new(alloc),
-            asker: None,
+            asked: None,
         }
     }
 
     /// Waits for the next line of any operator.
-    fn next(&mut self, control: &ControlPort) {
-        self.reply.clear();
-        let asker = control.next(self.rt, self.notices, &self.rollbacks, &mut self.line);
-        self.asker = Some(asker);
+    fn next(&mut self, control: &ControlPort<Line>) -> Result<Command, LineFault> {
+        let Asked { asker, line } = control.next(self.rt, self.notices, &self.reader);
+        let Line {
+            text,
+            read,
+            speaks_http,
+        } = line;
+        self.asked = Some(LineNotes {
+            asker,
+            text,
+            makes_decision: makes_decision(&read),
+            is_order: is_order(&read),
+            after: if speaks_http {
+                AfterReply::Closes
+            } else {
+                AfterReply::GoesOn
+            },
+        });
+        read
     }
 
-    /// Answers the next line while no book is open.
-    pub fn before_open(&mut self, control: &ControlPort) -> Result<LinesEnd, RunEnd> {
-        self.next(control);
-        let mut line = self.line.as_slice();
-        let end = answer_before_open(&mut self.lines, &mut line, &mut self.reply);
-        match &end {
-            Ok(LinesEnd::Open(_)) => {}
-            Ok(LinesEnd::Quit) => self.note_decision(),
-            Ok(LinesEnd::End) => self.deliver(control, AfterReply::GoesOn),
-            Ok(LinesEnd::SpeaksHttp) => self.deliver(control, AfterReply::Closes),
-            Err(_) => self.end(control),
-        }
-        end
-    }
-
-    /// Waits for the next line, and makes its reply by the book of a desk.
-    fn next_at_desk<D: AnswersLines>(
+    /// Waits for the next line, and answers it at a stage. The reply is made, and not given yet.
+    fn answer_next<S: LineStage>(
         &mut self,
-        control: &ControlPort,
-        at_desk: &mut D,
-    ) -> Result<ControlEnd, RunEnd> {
-        self.next(control);
-        let mut line = self.line.as_slice();
-        at_desk.answer(&mut self.lines, &mut line, &mut self.reply)
+        control: &ControlPort<Line>,
+        stage: &mut S,
+    ) -> Result<LineResult, RunEnd> {
+        let read = self.next(control);
+        self.reply.clear();
+        answer_line(stage, read, &mut self.reply)
     }
 
-    /// Gives the reply that was made to the line. Returns whether the line is `quit`.
-    fn quits(&mut self, control: &ControlPort, end: Result<ControlEnd, RunEnd>) -> bool {
-        match end {
-            Ok(ControlEnd::Quit) => {
-                self.note_decision();
-                return true;
-            }
-            Ok(ControlEnd::End) => self.deliver(control, AfterReply::GoesOn),
-            Ok(ControlEnd::SpeaksHttp) => self.deliver(control, AfterReply::Closes),
+    /// Answers the next line while no book is open. An `open` is left to the caller.
+    pub fn before_open(&mut self, control: &ControlPort<Line>) -> Result<LineResult, RunEnd> {
+        let result = self.answer_next(control, &mut WithoutBook::Connection);
+        self.finish(control, &result);
+        result
+    }
+
+    /// Gives the reply that was made to the line. The connection of a line that could not be answered is closed.
+    fn finish(&mut self, control: &ControlPort<Line>, done: &Result<LineResult, RunEnd>) {
+        match done {
+            Ok(LineResult::Said(answer)) => self.deliver(control, Some(*answer)),
+            Ok(LineResult::Report) => self.deliver(control, None),
+            Ok(LineResult::Opens(_)) => {}
+            Ok(LineResult::Quits) => self.note_decision(),
             Err(_) => self.end(control),
         }
-        false
     }
 
     /// Answers the `open` that was the last line. Does nothing if there was none, since a journal opened the book.
-    pub fn answer_open(&mut self, control: &ControlPort, answer: &Answer) {
+    pub fn answer_open(&mut self, control: &ControlPort<Line>, answer: &Answer) {
         self.reply.clear();
         match write_answer(answer, &mut self.reply) {
-            Ok(()) => self.deliver(control, AfterReply::GoesOn),
+            Ok(()) => self.deliver(control, Some(*answer)),
             Err(_) => self.end(control),
         }
     }
 
     /// Gives the reply to the connection whose line it answers. Writes a notice of the line if it was carried out, and one of
-    /// the journal if it lacks an order.
-    fn deliver(&mut self, control: &ControlPort, after: AfterReply) {
-        if self.reply.starts_with(CARRIED_OUT) || self.reply.starts_with(UNSAVED) {
-            self.note_decision();
+    /// the journal if it lacks an order. A report has no answer.
+    fn deliver(&mut self, control: &ControlPort<Line>, answer: Option<Answer>) {
+        if let Some(answer) = answer {
+            if answer.was_carried_out() {
+                self.note_decision();
+            }
+            self.note_journal(answer);
         }
-        self.note_journal();
-        if let Some(asker) = self.asker.take() {
+        if let Some(asked) = self.asked.take() {
             let reply = Reply {
                 bytes: self.reply.as_slice(),
-                after,
+                after: asked.after,
             };
-            control.reply(self.rt, asker, reply, &self.rollbacks);
+            control.reply(self.rt, asked.asker, reply, &self.reader);
         }
     }
 
-    /// Notes whether the journal lacks an order, as far as the reply tells.
-    fn note_journal(&self) {
-        if self.reply.starts_with(UNSAVED) || self.reply.starts_with(JOURNAL_FAILED) {
+    /// Notes whether the journal lacks an order, as far as the answer tells.
+    fn note_journal(&self, answer: Answer) {
+        if answer.lacks_order() {
             self.notices.note_journal(true);
-        } else if self.notices.lacks_order() && self.carries_out_order() {
+        } else if self.notices.lacks_order() && self.gave_order() && answer.was_carried_out() {
             self.notices.note_journal(false);
         }
     }
 
-    /// Whether the line is an order, and its reply says that it was carried out and is kept.
-    fn carries_out_order(&self) -> bool {
-        let mut line = self.line.as_slice();
-        match OperatorLines::new(self.rollbacks.alloc).next(&mut line) {
-            Ok(Some(read)) => self.reply.starts_with(CARRIED_OUT) && is_order(&read),
-            _ => false,
-        }
+    /// Whether the line that is being answered gives an event to the book.
+    fn gave_order(&self) -> bool {
+        self.asked.as_ref().is_some_and(|asked| asked.is_order)
     }
 
     /// Writes a notice of the line, if it makes a decision and came of a listed user or by the control socket.
     fn note_decision(&self) {
-        let Some(asker) = self.asker else {
-            return;
-        };
-        let mut line = self.line.as_slice();
-        if let Ok(Some(read)) = OperatorLines::new(self.rollbacks.alloc).next(&mut line)
-            && makes_decision(&read)
+        if let Some(asked) = &self.asked
+            && asked.makes_decision
         {
-            self.notices.write_decision(asker.peer(), &self.line);
+            self.notices.write_decision(asked.asker.peer(), &asked.text);
         }
     }
 
     /// Closes the connection whose line could not be answered.
-    fn end(&mut self, control: &ControlPort) {
-        if let Some(asker) = self.asker.take() {
-            control.end(self.rt, asker);
+    fn end(&mut self, control: &ControlPort<Line>) {
+        if let Some(asked) = self.asked.take() {
+            control.end(self.rt, asked.asker);
         }
     }
 }
@@ -198,19 +197,27 @@ fn is_decision(event: &Control) -> bool
     !matches!(event, Control::Tick(_) | Control::Available { .. })
 }
 
-/// The lines that go before all others: those that end an attempt, by which services select the stable
+/// Reads the lines of operators. Those go before all others that end an attempt, by which services select the stable
 /// revision again. They also do with `before` in front.
 #[derive(Drop)]
-struct RollbacksFirst {
+struct LineReader {
     alloc: Global,
 }
 
-impl LinePriority for RollbacksFirst {
-    fn is_urgent(&self, mut line: &[u8]) -> bool {
-        match OperatorLines::new(self.alloc).next(&mut line) {
-            Ok(Some(read)) => ends_attempt(&read),
-            _ => false,
+impl ReadsLines<Line> for LineReader {
+    ghost reads = { λ _ whole line. IsReadFor whole line };
+
+    ghost puts_first = { λ _ line. ends_attempt line.read };
+
+    fn read(&self, line: WholeLine<'_>) -> Result<Line, AllocError> {
+        match line {
+            WholeLine::Bytes(bytes) => Line::new(self.alloc, bytes),
+            WholeLine::TooLong => Ok(Line::too_long(self.alloc)),
         }
+    }
+
+    fn is_urgent(&self, line: &Line) -> bool {
+        ends_attempt(&line.read)
     }
 }
 
@@ -264,7 +271,7 @@ pub fn answer_operators<'a, N: Names, R: Clock + Wait, J: OrderJournal>(
         directory: context.directory,
     };
     let clock = KernelClock;
-    let at_desk = AtDesk {
+    let mut at_desk = AtDesk {
         rt: context.rt,
         alloc: context.alloc,
         desk,
@@ -280,17 +287,17 @@ pub fn answer_operators<'a, N: Names, R: Clock + Wait, J: OrderJournal>(
             };
             answer_up_to_quit(context, desk, operator, &mut at_desk);
         }
-        None => answer_up_to_quit(context, desk, operator, &mut InMemory { desk: at_desk }),
+        None => answer_up_to_quit(context, desk, operator, &mut at_desk),
     }
 }
 
 /// Answers the `open` that opened the book, and then the lines of all operators, up to `quit`. The directory, if
 /// there is one, gets the ports of the revisions that are in use after each line, before its reply is given.
-fn answer_up_to_quit<'a, N: Names, R: Clock + Wait, D: AnswersLines>(
+fn answer_up_to_quit<'a, N: Names, R: Clock + Wait, S: LineStage>(
     context: &ServeContext<'a, R>,
     desk: &Desk<N>,
     operator: &mut Operator<R>,
-    at_desk: &mut D,
+    at_desk: &mut S,
 ) {
     let control = &context.ports.control;
     context.notices.note_open();
@@ -298,9 +305,10 @@ fn answer_up_to_quit<'a, N: Names, R: Clock + Wait, D: AnswersLines>(
     operator.answer_open(control, &Answer::Opened);
     for _ in context.rt.forever() {
         context.notices.note_entries(desk.entries_used(context.rt));
-        let end = operator.next_at_desk(control, at_desk);
+        let result = operator.answer_next(control, at_desk);
         update_directory(context, desk);
-        if operator.quits(control, end) {
+        operator.finish(control, &result);
+        if let Ok(LineResult::Quits) = result {
             return;
         }
     }

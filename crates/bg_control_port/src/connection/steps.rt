@@ -1,10 +1,11 @@
 //! What leads a connection from one stage to the next.
 ghost use Rattle.std.specs.Prelude.{◌≡◌, IfOk, IsSome};
 ghost use Rattle.bg_control_port.specs.Stages.{turn_of};
-ghost use Rattle.bg_control_port.specs.Steps.{asked, came, ended, given_line, go_on, replied, seen, skip, waiting, with_urgency, wrote};
+ghost use Rattle.bg_control_port.specs.Steps.{IsReadBy, asked, came, ended, given_line, go_on, replied, seen, skip, wrote};
 
 use super::{Connection, Moment, Stage};
-use crate::buffer::{Buffer, Front, WholeLine};
+use crate::buffer::{Buffer, Found, Front};
+use crate::reading::ReadsLines;
 use crate::reply::{AfterReply, Reply};
 use crate::turn::Place;
 use std::alloc::{AllocError, Global};
@@ -13,22 +14,9 @@ use std::alloc::{AllocError, Global};
 /// 300 bytes each.
 const MOST_KEPT: usize = 65_536;
 
-/// A whole line that waits, and is not urgent as far as is known.
-fn waiting(line: WholeLine, number: u64) -> Stage
-    ensures { result ≡ waiting line number }
-{
-    Stage::Waits(
-        line,
-        Place {
-            is_ahead: false,
-            number,
-        },
-    )
-}
-
-impl Connection {
+impl<L: Drop> Connection<L> {
     /// Bytes came. If no line is awaited, nothing changes. The only error is an allocation failure.
-    pub fn came(mut self, bytes: &[u8], at: Moment) -> Result<Connection, AllocError>
+    pub fn came(mut self, bytes: &[u8], at: Moment) -> Result<Connection<L>, AllocError>
         ensures { IfOk result (λ new. new ≡ came bytes.now at self) }
     {
         match self.stage {
@@ -41,13 +29,13 @@ impl Connection {
                 self.input.add(bytes)?;
                 Ok(self.skip(false, at.number))
             }
-            Stage::Waits(..) | Stage::Asked | Stage::Replies(..) => Ok(self),
+            Stage::Came(..) | Stage::Waits(..) | Stage::Asked | Stage::Replies(..) => Ok(self),
         }
     }
 
     /// The input ended: the bytes that no line break followed are the last line. Without such bytes, the connection
     /// leaves.
-    pub fn ended(self, number: u64) -> Option<Connection>
+    pub fn ended(self, number: u64) -> Option<Connection<L>>
         ensures { result ≡ ended number self }
     {
         match self.stage {
@@ -58,17 +46,17 @@ impl Connection {
                 Some(self.seen(true, number))
             }
             Stage::Skips => Some(self.skip(true, number)),
-            Stage::Waits(..) | Stage::Asked | Stage::Replies(..) => Some(self),
+            Stage::Came(..) | Stage::Waits(..) | Stage::Asked | Stage::Replies(..) => Some(self),
         }
     }
 
     /// Looks for a whole line at the front of the input.
-    fn seen(mut self, has_ended: bool, number: u64) -> Connection
+    fn seen(mut self, has_ended: bool, number: u64) -> Connection<L>
         ensures { result ≡ seen has_ended number self }
     {
         match self.input.front(has_ended) {
             Front::Line(length) => {
-                self.stage = waiting(WholeLine::First(length), number);
+                self.stage = Stage::Came(Found::First(length), number);
                 self
             }
             Front::Part => {
@@ -80,44 +68,58 @@ impl Connection {
     }
 
     /// Skips what came of a line that is too long. The line is whole with its line break, or with the end of the input.
-    fn skip(mut self, has_ended: bool, number: u64) -> Connection
+    fn skip(mut self, has_ended: bool, number: u64) -> Connection<L>
         ensures { result ≡ skip has_ended number self }
     {
         let has_break = self.input.skip_line();
         self.stage = if has_break || has_ended {
-            waiting(WholeLine::Skipped, number)
+            Stage::Came(Found::Skipped, number)
         } else {
             Stage::Skips
         };
         self
     }
 
-    /// The line that waits is urgent. A line that is skipped never is.
-    pub fn with_urgency(mut self) -> Connection
-        ensures { result ≡ with_urgency self }
+    /// Reads the whole line that came, which then waits. If none came, nothing changes. The only error is an allocation
+    /// failure.
+    pub fn read<P: ReadsLines<L>>(mut self, reader: &P) -> Result<Connection<L>, AllocError>
+        ensures { IfOk result (λ new. IsReadBy (P.reads reader.now) (P.puts_first reader.now) self new) }
     {
-        if let Stage::Waits(WholeLine::First(length), place) = self.stage {
-            let place = Place {
-                is_ahead: true,
-                ..place
-            };
-            self.stage = Stage::Waits(WholeLine::First(length), place);
-        }
-        self
+        let Stage::Came(found, number) = self.stage else {
+            return Ok(self);
+        };
+        let line = reader.read(self.input.line(found))?;
+        self.input.take_line(found);
+        let place = Place {
+            is_ahead: reader.is_urgent(&line),
+            number,
+        };
+        self.stage = Stage::Waits(line, place);
+        Ok(self)
     }
 
-    /// Takes the whole line that waits, with its line end. The only error is an allocation failure.
-    pub fn take_line(mut self, line: &mut Vec<u8>) -> Result<Connection, AllocError>
+    /// Takes the line that waits.
+    pub fn take_line(self) -> (Connection<L>, L)
         requires { IsSome (turn_of self.stage) }
-        ensures asked { IfOk result (λ new. new ≡ asked self) }
-        ensures line { IfOk result (λ _. given_line self ≡ Some line.new.items) }
+        ensures asked { result.0 ≡ asked self }
+        ensures line { given_line self ≡ Some result.1 }
     {
-        let Stage::Waits(whole, _) = self.stage else {
+        let Connection {
+            stage,
+            input,
+            peer,
+            moved,
+        } = self;
+        let Stage::Waits(line, _) = stage else {
             unreachable!()
         };
-        self.input.give(whole, line)?;
-        self.stage = Stage::Asked;
-        Ok(self)
+        let asked = Connection {
+            stage: Stage::Asked,
+            input,
+            peer,
+            moved,
+        };
+        (asked, line)
     }
 
     /// Its line was answered, and so many bytes of the reply were taken at once. The rest is kept. The connection
@@ -129,7 +131,7 @@ impl Connection {
         reply: Reply,
         count: usize,
         at: Moment,
-    ) -> Result<Option<Connection>, AllocError>
+    ) -> Result<Option<Connection<L>>, AllocError>
         ensures { IfOk result (λ new. new ≡ replied reply.entry.bytes.now reply.entry.after count at self) }
     {
         let Stage::Asked = self.stage else {
@@ -151,7 +153,7 @@ impl Connection {
 
     /// So many bytes of the rest of its reply were taken. The connection leaves if the reply was taken whole and is its
     /// last. If nothing is left of a reply, nothing changes.
-    pub fn wrote(mut self, count: usize, at: Moment) -> Option<Connection>
+    pub fn wrote(mut self, count: usize, at: Moment) -> Option<Connection<L>>
         ensures { result ≡ wrote count at self }
     {
         let Stage::Replies(reply, after) = &mut self.stage else {
@@ -169,7 +171,7 @@ impl Connection {
     }
 
     /// Goes on after a reply was taken whole. The next line may be whole already.
-    fn go_on(mut self, after: AfterReply, at: Moment) -> Option<Connection>
+    fn go_on(mut self, after: AfterReply, at: Moment) -> Option<Connection<L>>
         ensures { result ≡ go_on after at self }
     {
         match after {

@@ -19,7 +19,7 @@ pub fn is_long(silence: Place, now: u64) -> bool
     silence.is_ahead && has_passed(LONGEST_SILENCE, silence.number, now)
 }
 
-impl Connections {
+impl<L: Drop> Connections<L> {
     /// Gives up the connection of a key if it has taken nothing of a reply for ten seconds, and says whether. It leaves.
     pub fn give_up(&mut self, key: usize, now: u64) -> bool
         ensures which { result ≡ is_given_up_in now (at self.old.places key) }

@@ -7,7 +7,6 @@ use super::Connections;
 use crate::connection::Connection;
 use crate::peer::Peer;
 use crate::turn::{Place, Precedence, first_so_far, precedence_after, row_after};
-use std::alloc::AllocError;
 
 /// The connection whose line was given, and that waits for the reply.
 #[derive(Clone, Copy, Debug, Drop, PartialEq, Eq)]
@@ -25,19 +24,15 @@ impl Asker {
     }
 }
 
-/// The next line.
-#[derive(Clone, Copy, Drop, PartialEq, Eq)]
-pub enum NextLine {
-    /// No whole line waits.
-    Nothing,
-    /// The line of this connection was given.
-    Given(Asker),
-    /// There was no memory for the line of the connection with this key, which has left.
-    Left(usize),
+/// A line that was given, and whose it is.
+#[derive(Debug, Drop)]
+pub struct Asked<L> {
+    pub asker: Asker,
+    pub line: L,
 }
 
 /// The place in an order of the connection at a place.
-fn place_at(place: &Option<Connection>, order: Precedence) -> Option<Place>
+fn place_at<L: Drop>(place: &Option<Connection<L>>, order: Precedence) -> Option<Place>
     ensures { result ≡ place_at order place.now }
 {
     match place {
@@ -46,7 +41,7 @@ fn place_at(place: &Option<Connection>, order: Precedence) -> Option<Place>
     }
 }
 
-impl Connections {
+impl<L: Drop> Connections<L> {
     /// The key of the connection that is first in an order, and its place.
     pub fn first(&self, order: Precedence) -> Option<(usize, Place)>
         ensures some { IfSome result (λ first. IsFirst order self.now.places first.0 first.1) }
@@ -59,25 +54,20 @@ impl Connections {
         first
     }
 
-    /// Takes the next line, with its line end. It is the one that came first, but urgent lines go before others, at most
+    /// Takes the next line; `None` if no line waits. It is the one that came first, but urgent lines go before others, at most
     /// 16 in a row.
-    pub fn take_line(&mut self, line: &mut Vec<u8>) -> NextLine
-        ensures { TakesTurn self.old self.new line.new.items result }
+    pub fn take_line(&mut self) -> Option<Asked<L>>
+        ensures { TakesTurn self.old self.new result }
     {
-        let Some((key, place)) = self.first(precedence_after(self.urgent_in_a_row)) else {
-            return NextLine::Nothing;
-        };
+        let (key, place) = self.first(precedence_after(self.urgent_in_a_row))?;
         self.urgent_in_a_row = row_after(self.urgent_in_a_row, place.is_ahead);
-        let Some(connection) = self.replace(key, None) else {
-            return NextLine::Nothing;
-        };
+        let connection = self.replace(key, None)?;
         let peer = connection.peer();
-        match connection.take_line(line) {
-            Ok(connection) => {
-                self.replace(key, Some(connection));
-                NextLine::Given(Asker { key, peer })
-            }
-            Err(AllocError) => NextLine::Left(key),
-        }
+        let (asked, line) = connection.take_line();
+        self.replace(key, Some(asked));
+        Some(Asked {
+            asker: Asker { key, peer },
+            line,
+        })
     }
 }

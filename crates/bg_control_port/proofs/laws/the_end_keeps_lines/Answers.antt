@@ -2,4 +2,4 @@ use Rattle.bg_control_port.proofs.AheadLemmas.{the_end_keeps_lines}
 use Rattle.bg_control_port.proofs.laws.the_end_keeps_lines.Goals as goal
 
 pub returns : goal.returns
-returns c = the_end_keeps_lines
+returns g c = the_end_keeps_lines

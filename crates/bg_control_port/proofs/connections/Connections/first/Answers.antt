@@ -7,12 +7,12 @@ use Rattle.bg_control_port.specs.declared.turn.Place.{Place}
 use Rattle.bg_control_port.proofs.connections.Connections.first.Goals as goal
 
 pub loop-key-preserved : goal.loop-key-preserved
-loop-key-preserved c =
+loop-key-preserved g c =
     let places = c.args.self.now.places in
     let key = c.loop-key.key in
     let order : ℕ → Option Place = λ k. place_at c.args.order (slice_index_or places k None) in
     let same : c.deref-place-items.result.now ≡ places =
-    c.deref-place-items.ensures.value ∙ ap (λ (r : Register). r.places) c.self.view_is in
+    c.deref-place-items.ensures.value ∙ ap (λ (r : Register _). r.places) c.self.view_is in
     let less : key < length places = omega (arith, ap length same) in
     let read = get_or_read c.deref-place-items.result.now key _ (omega arith) c.place-item.is None in
     let item : c.place-item.result ≡ slice_index_or places key None = read ∙ ap (λ xs. slice_index_or xs key None) same in

@@ -5,4 +5,4 @@ use Rattle.bg_control_port.proofs.connections.Connections.first.Given as goal
 
 -- this is the first so far
 abbrev pub invariant-loop-key : goal.invariant-loop-key
-invariant-loop-key l = IsFirstBelow (λ k. place_at l.order (slice_index_or l.self.places k None)) l.key l.first
+invariant-loop-key g l = IsFirstBelow (λ k. place_at l.order (slice_index_or l.self.places k None)) l.key l.first

@@ -3,4 +3,4 @@ use Rattle.bg_control_port.proofs.connections.Connections.new.Given as goal
 
 -- so many places are there, and all of them are free
 abbrev pub invariant-loop : goal.invariant-loop
-invariant-loop l = l.places.items ≡ replicate l.counter None
+invariant-loop g l = l.places.items ≡ replicate l.counter None
