@@ -105,10 +105,10 @@ contents() {
 }
 
 # are_added PATHS: since the package was installed, the root has these paths of those that it did not have before, and no
-# others but the state of the controller.
+# others but the state of the controller and the journal of the switch.
 are_added() {
     contents > "$work/now"
-    LC_ALL=C comm -13 "$work/before" "$work/now" | grep -Ev '^([a-z]*: |var/lib/bg/plan\.json\.state)' > "$work/added"
+    LC_ALL=C comm -13 "$work/before" "$work/now" | grep -Ev '^([a-z]*: |var/lib/bg/plan\.json\.state|var/lib/bg-switch/journal)' > "$work/added"
     printf '%s\n' "$@" | diff - "$work/added"
 }
 
@@ -159,7 +159,7 @@ judge 'the package is installed' in_root dpkg --install /root/package.deb
 in_root_alone python3 -B /root/scripts/package_session.py || failed=$((failed + 1))
 judge 'the package is removed' in_root dpkg --remove bg-switch
 judge 'only its configuration, its logs and the state of the controller are left' are_added etc/bg etc/bg/rollout.json \
-    etc/logrotate.d/bg-switch var/lib/bg var/lib/bg/plan.json var/log/bg var/log/bg/access.log var/log/bg/access.log.1
+    etc/logrotate.d/bg-switch var/lib/bg var/lib/bg-switch var/lib/bg/plan.json var/log/bg var/log/bg/access.log var/log/bg/access.log.1
 judge 'the package is purged' in_root dpkg --purge bg-switch
 judge 'nothing of it is left' is_as_before
 judge 'the tar runs where it is unpacked' is_unpacked

@@ -28,6 +28,7 @@ UNITS = pathlib.Path("/lib/systemd/system")
 DOCUMENTS = pathlib.Path("/usr/share/doc/bg-switch")
 LOG = pathlib.Path("/var/log/bg/access.log")
 PLAN = pathlib.Path("/var/lib/bg/plan.json")
+JOURNAL = pathlib.Path("/var/lib/bg-switch/journal")
 HOST = "127.0.0.1"
 ACTIVE, PREVIEW, PAGE = 8080, 8081, 8090
 CONTROL = "/run/bg-switch/control"  # the socket, which the group may open
@@ -306,21 +307,53 @@ def stop_under_traffic(unit: Unit, switch: "subprocess.Popen[bytes]") -> None:
     check("at most one connection is reset as the port closes", len(resets) <= 1, True)
 
 
+def serves() -> bool:
+    """Whether the control socket answers."""
+    return ordered("report")[0] != ""
+
+
+def go_on_after_a_kill(unit: Unit, report: str) -> None:
+    """The switch was killed, and is started by the same words: it goes on by its journal, and needs
+    no `open`. A stop and another start change nothing, either."""
+    for how in ("killed", "stopped"):
+        with unit.running() as switch:
+            check(f"{how}: the control socket answers", comes(serves), True)
+            check(f"{how}: the report", ordered("report"), (report, 0))
+            check(f"{how}: clients", asked(ACTIVE), (200, "hello from v2"))
+            refused = ordered("open", "media-v1", "9101", "9102")
+            check(f"{how}: an open", refused, ("refused AlreadyOpen", 1))
+            check(f"{how}: the commands of the stop", unit.stop(switch), [0, 0])
+    check("who may read the journal", told(["cat", str(JOURNAL)], groups=["bg-log"]), ("", 1))
+    judged = told(["bg_switch", "journal", str(JOURNAL)], user="bg-switch")
+    check("the journal is judged", judged, (report, 0))
+
+
+def begin_a_new_journal() -> None:
+    """Removes the journal, so that the next switch begins a new one."""
+    for path in JOURNAL.parent.iterdir():
+        path.unlink()
+
+
 def by_hand() -> None:
     """A rollout by an operator."""
     shutil.copy(DOCUMENTS / "examples" / "live" / "rollout.json", "/etc/bg/rollout.json")
     unit = Unit("bg-switch")
-    with unit.running() as switch:
+    with unit.running():
         check("the control socket answers", comes(lambda: ordered("status")[0] != ""), True)
         by_variable = ["env", f"BG_CONTROL={CONTROL}", "bgctl", "status"]
         for words in (["bg-operator", CONTROL, "status"], by_variable):
             check("a user who is not in the group gets no answer", told(words), ("", 2))
         check("bgctl, by BG_CONTROL", told(by_variable, groups=[OPERATORS])[0] != "", True)
         open_and_roll_back()
+        report, _ = ordered("report")
+    go_on_after_a_kill(unit, report)
+    with unit.running() as switch:
+        check("the control socket answers again", comes(serves), True)
         judge_log()
         rotate()
         show_dashboard()
         stop_under_traffic(unit, switch)
+    begin_a_new_journal()
 
 
 def by_controller() -> None:

@@ -200,6 +200,11 @@ def kill(inside: Container) -> None:
         is_new = comes(lambda: inside.shown(unit, "MainPID") not in (before, "0"))  # noqa: B023
         check(f"{unit} is started again", (is_new, inside.shown(unit, "NRestarts")), (True, "1"))
         check("clients after it", comes(lambda: inside.asked() == "hello from v2"), True)
+    told = inside.run("journalctl", "--unit", "bg-switch", "--boot").printed
+    resumed = "the journal /var/lib/bg-switch/journal was resumed: orders"
+    check("the switch has gone on by its journal", told.count(resumed), 1)
+    told = inside.run("journalctl", "--unit", "bg-controller", "--boot").printed
+    check("no switch was opened again", told.count("no book is open: it is opened with"), 1)
     check("the units are active", [inside.is_active(unit) for unit in UNITS], [True] * 3)
 
 

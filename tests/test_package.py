@@ -428,6 +428,16 @@ class Units(unittest.TestCase):
         )
         self.assertNotIn("--control", start.split())
 
+    def test_the_journal_of_the_switch_outlives_its_process_and_ends_with_the_package(self) -> None:
+        """It lies in a folder that systemd makes for the switch and keeps, and that a purge removes."""
+        (start,) = values("bg-switch", "ExecStart")
+        (folder,) = values("bg-switch", "StateDirectory")
+        journal = pathlib.Path(word_after(start, "--journal"))
+        self.assertEqual(str(journal.parent), f"/var/lib/{folder}")
+        self.assertEqual(values("bg-switch", "StateDirectoryMode"), ["0700"])
+        purge = (TOP / "packaging" / "debian" / "bg-switch.postrm").read_text(encoding="ascii")
+        self.assertIn(str(journal.parent), re.findall(r"\S+", purge))
+
     def test_who_may_order_is_in_the_group_of_the_socket(self) -> None:
         (start,) = values("bg-switch", "ExecStart")
         group = word_after(start, "--control-socket-group")

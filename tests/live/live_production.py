@@ -28,6 +28,7 @@ EXAMPLE = TOP / "examples" / "production"
 NAME, PREVIEW_NAME, UNKNOWN_NAME = "web.example", "preview.web.example", "other.example"
 # The ports and the control socket that the example has.
 ACTIVE, PREVIEW, CONTROL = 8080, 8081, "/run/bg-switch/control"
+JOURNAL = ("--journal", "/var/lib/bg-switch/journal")
 SOCKET = ("--control-socket-mode", "660", "--control-socket-group", "bg-operators")
 CONCURRENCY = ("--concurrency", "255", "--keep-alive", "--redispatch")
 DESCRIPTORS = 8192
@@ -343,6 +344,7 @@ def stop_by_unit(setup: NginxSetup) -> None:
                 "--control-socket",
                 CONTROL,
                 *SOCKET,
+                *JOURNAL,
                 "--abort-on-close",
             ]
         ),
