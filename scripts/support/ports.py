@@ -44,6 +44,7 @@ SCRIPTS = (
     "keep_alive_clients",
     "keep_alive_soak",
     "live_journal",
+    "live_resumed",
 )
 # The first port of the scripts, and the first that the system gives to connections of itself.
 FIRST_PORT, SYSTEM_PORT = 19_500, 32_768

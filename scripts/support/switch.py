@@ -70,7 +70,8 @@ class Switch:
     `end` takes all that the checks have left over; without one it serves for ever. It may have
     `descriptors` descriptors, `prepare` is called in its process before it starts, and it has these
     flags beside its other words, and these variables of the environment beside those of the script.
-    With a `path` it takes lines at this control socket, in the place of the control port.
+    With a `path` it takes lines at this control socket, in the place of the control port. `ports` are
+    its active port, its preview port and its control port; without them, free ones.
     """
 
     def __init__(
@@ -87,8 +88,9 @@ class Switch:
         prepare: Callable[[], object] = lambda: None,
         variables: Mapping[str, str] | None = None,
         path: str = "",
+        ports: Sequence[int] = (),
     ) -> None:
-        self.active, self.preview, self.control = free_ports(3)
+        self.active, self.preview, self.control = ports or free_ports(3)
         self.path = path
         self.left = {
             self.active: workers * (count or 0),
