@@ -4,7 +4,7 @@ import collections
 import contextlib
 import socket
 import threading
-from collections.abc import Iterable, Sequence
+from collections.abc import Callable, Iterable, Sequence
 from typing import NamedTuple
 
 from bg_switch_tools.switch.reports import END
@@ -48,13 +48,15 @@ class RecordedLines:
         self.lock = threading.Lock()
         self.exchanges: list[Exchange] = []
         self.listener: socket.socket | None = None
-        self.connections: list[threading.Thread] = []
+        self.threads: list[
+            threading.Thread
+        ] = []  # the one that accepts, and one of each connection
         self.number = 0
 
     def begin(self) -> None:
         """The switch listens."""
         self.listener = socket.create_server((HOST, self.port), backlog=64)
-        threading.Thread(target=self._accept, args=(self.listener,), daemon=True).start()
+        self._run(self._accept, self.listener)
 
     def end(self) -> list[Exchange]:
         """The switch is gone. Gives what was noted since it has begun."""
@@ -62,10 +64,10 @@ class RecordedLines:
             with contextlib.suppress(OSError):
                 self.listener.shutdown(socket.SHUT_RDWR)
             self.listener.close()
-        for connection in list(self.connections):
-            connection.join()
+        while self.threads:  # the first one may still add others
+            self.threads.pop(0).join()
         with self.lock:
-            self.connections, noted, self.exchanges = [], self.exchanges, []
+            noted, self.exchanges = self.exchanges, []
         return noted
 
     def noted(self) -> list[Exchange]:
@@ -73,15 +75,17 @@ class RecordedLines:
         with self.lock:
             return list(self.exchanges)
 
+    def _run(self, work: Callable[..., None], *words: object) -> None:
+        thread = threading.Thread(target=work, args=words, daemon=True)
+        thread.start()
+        self.threads.append(thread)
+
     def _accept(self, listener: socket.socket) -> None:
         with contextlib.suppress(OSError):
             while True:
                 near = listener.accept()[0]
                 self.number += 1
-                words = (near, self.number)
-                thread = threading.Thread(target=self._serve, args=words, daemon=True)
-                self.connections.append(thread)
-                thread.start()
+                self._run(self._serve, near, self.number)
 
     def _serve(self, near: socket.socket, number: int) -> None:
         """Passes on what a connection sends, up to the end of the switch or of the connection."""
