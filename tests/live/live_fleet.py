@@ -23,6 +23,7 @@ AWAY = 20.0  # seconds until a lease of 10 seconds has ended, even if etcd has b
 ANSWERED = 20.0  # seconds in which an order is answered, and an attempt of four seconds ends
 NO_ANSWER = 4  # the exit status of bin/fleet if etcd gives no answer
 PACKAGES = "apt-get install etcd-server haproxy nginx"
+OPENED, JUDGES = "no book is open: it is opened with", "analysis post of web-{} begins"
 LAST_LINES = 150  # of a log that is shown if a check has failed
 # of a whole session: fewer are a recording that shows nothing
 LEAST_REQUESTS, LEAST_LOOKS = (1000, 300)
@@ -32,6 +33,12 @@ def check_end(session: Session, name: str, number: int, stage: str) -> None:
     """The attempt of a revision ends so on all machines."""
     ended = session.has_ended(number, stage)
     check(f"{name}: {name_of(number)} is {stage} on all machines", ended or session.status(), True)
+
+
+def count_told(session: Session, host: str, text: str) -> int:
+    """How often the agent of a host has told this."""
+    log = session.lab.folder / f"agent-{host}.log"
+    return log.read_text(encoding="utf-8").count(text)
 
 
 def reason(session: Session) -> str:
@@ -236,17 +243,46 @@ def etcd_majority_killed(session: Session) -> None:
 # ---- switches and persons ----
 
 
+def kill_switch(session: Session, host: str, number: int, selected: int) -> None:
+    """Kills a switch while the attempt is `promoting`. Once it is started again, it selects this
+    revision."""
+    with session.lab.held_analysis(host, "post", number):
+        session.deploy(number)
+        check(f"{host} selects the revision", session.selects(host, number, 20), True)
+        session.lab.kill("switch", host)
+        check("it is down", comes(lambda: not session.lab.looks()[host].is_up), True)
+        session.lab.restart("switch", host)
+        check(f"{host} selects web-{selected}", session.selects(host, selected), True)
+    check_end(session, "a switch is killed in promoting", number, "successful")
+
+
 def switch_killed(session: Session) -> None:
-    """The switch comes back with the stable revision, and its machine joins the attempt that is
-    `promoting`."""
-    with session.lab.held_analysis("b", "post", 15):
-        session.deploy(15)
-        check("b selects the revision", session.selects("b", 15, 20), True)
+    """A switch without a journal comes back with the stable revision, and its machine joins the
+    attempt that is `promoting`."""
+    opened = count_told(session, "c", OPENED)
+    kill_switch(session, "c", 15, session.live)
+    check("it is opened again", count_told(session, "c", OPENED), opened + 1)
+
+
+def switch_resumed(session: Session) -> None:
+    """A switch with a journal goes on with the attempt: the agent opens nothing, and the analysis
+    that runs goes on."""
+    opened = count_told(session, "b", OPENED)
+    kill_switch(session, "b", 23, 23)
+    check("it is not opened again", count_told(session, "b", OPENED), opened)
+    check("the analysis goes on", count_told(session, "b", JUDGES.format(23)), 1)
+
+
+def switch_aborted_while_down(session: Session) -> None:
+    """What the fleet has decided while a switch with a journal was down is made up for."""
+    with session.lab.held_analysis("b", "post", 24):
+        session.deploy(24)
+        check("b selects the revision", session.selects("b", 24, 20), True)
         session.lab.kill("switch", "b")
-        check("it is down", comes(lambda: not session.lab.looks()["b"].is_up), True)
+        check("a person aborts", session.give("abort"), True)
         session.lab.restart("switch", "b")
-        check("it selects the stable revision", session.selects("b", session.live), True)
-    check_end(session, "a switch is killed in promoting", 15, "successful")
+        check("b goes back", session.selects("b", session.live), True)
+    check_end(session, "an abort while a switch is down", 24, "aborted")
 
 
 def person_promotes(session: Session) -> None:
@@ -322,6 +358,8 @@ DRILLS: tuple[Callable[[Session], None], ...] = (
     etcd_member_killed,
     etcd_majority_killed,
     switch_killed,
+    switch_resumed,
+    switch_aborted_while_down,
     person_promotes,
     person_aborts,
     another_plan,

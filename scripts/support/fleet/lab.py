@@ -58,6 +58,7 @@ ROLLOUT = {
     }
 }
 ROLLOUT_FILE = "rollout.json"
+JOURNALED = ("a", "b")  # the hosts whose switches have a journal
 Words = Callable[["Lab", str], Sequence[str]]
 
 
@@ -75,13 +76,14 @@ def module_words(module: str, *words: str) -> list[str]:
 
 
 def switch_words(lab: "Lab", host: str) -> Sequence[str]:
-    """The built switch."""
-    places = lab.network.addresses(host)
+    """The built switch; that of some hosts has a journal."""
+    places, journal = lab.network.addresses(host), lab.folder / f"journal-{host}"
     return [
         PROGRAM,
         *words_of_serve(
             places.active.port, places.control.port, places.preview.port, WORKERS, None
         ),
+        *(["--journal", str(journal)] if host in JOURNALED else []),
     ]
 
 
