@@ -101,45 +101,14 @@ class StateError(Exception):
     """There is no state to go on by. The text says why."""
 
 
-def _revision_object(revision: PlannedRevision | None) -> object:
-    return revision and {"name": revision.name, "ports": list(revision.ports)}
-
-
-def _held_objects(held: tuple[HeldBack, ...]) -> object:
-    return [{"revision": _revision_object(each.revision), "reason": each.reason} for each in held]
-
-
-def _analyses_object(analyses: tuple[ProcessId, ...]) -> dict[str, object]:
-    """The processes of the analyses: one as a file has it that has no list of them."""
-    processes = [dataclasses.asdict(process) for process in analyses]
-    return {"analysis": processes[0] if len(processes) == 1 else None} | (
-        {"analyses": processes} if len(processes) > 1 else {}
-    )
-
-
 def written(state: State) -> bytes:
-    """The bytes of a state file."""
-    return (
-        json.dumps(
-            {
-                "moment": state.moment,
-                "stable": _revision_object(state.stable),
-                "deployed": _revision_object(state.deployed),
-                "attempt": _revision_object(state.attempt),
-                "since": state.since,
-                **_analyses_object(state.analyses),
-                "started": [_revision_object(revision) for revision in state.started],
-                "commands": [dataclasses.asdict(command) for command in state.commands],
-                "former": list(state.former),
-                "ports": [_revision_object(revision) for revision in state.ports],
-                "held": _held_objects(state.held),
-                "unknown": state.unknown,
-                "failing": _held_objects(state.failing),
-            },
-            indent=1,
-        )
-        + "\n"
-    ).encode("ascii")
+    """The bytes of a state file. One analysis stands there as in a file that has no list of them."""
+    members = dataclasses.asdict(state)
+    analyses = members.pop("analyses")
+    members["analysis"] = analyses[0] if len(analyses) == 1 else None
+    if len(analyses) > 1:
+        members["analyses"] = analyses
+    return (json.dumps(members, indent=1) + "\n").encode("ascii")
 
 
 def _read_revision(judge: Judge, value: object, place: str) -> PlannedRevision:
