@@ -26,6 +26,7 @@
 #   live_event_loop  the event loop of bg_event_loop, by a program of its own
 #   live_keep_alive  connections of clients and to endpoints that are kept
 #   live_journal     what a start resumes from a journal, disks that fail, and kills at random
+#   live_resumed     a controller, operators and clients before switches with a journal that are killed
 #   live_analysis    outages that analyses find, by the access log, by reports and by Prometheus
 #   live_dashboard   the dashboard's page in a browser, and a bad revision that its analysis takes back
 #   live_fleet       a fleet of three machines with etcd, HAProxy and nginx, each kind of fault once, and the rules of a fleet
@@ -41,8 +42,8 @@ trap 'rm -rf "$work"' EXIT
 parts='live_clients live_history live_endpoints live_operators live_access_log_random live_control live_operator live_concurrency
     live_access_log live_timeouts live_operating live_random live_analysis live_shutdown live_attack live_controller live_event_loop
     live_keep_alive live_resources live_journal live_memory live live_readme live_production live_error_pages live_starting'
-# These run alone, since they start many programs: two controllers and eight switches at a time, a browser, and fleets.
-alone='live_crash live_dashboard live_fleet live_fleet_pages'
+# These run alone, since they start many programs: controllers with their switches, a browser, and fleets.
+alone='live_crash live_resumed live_dashboard live_fleet live_fleet_pages'
 # play COUNT PART..: runs the parts, so many at a time.
 play() {
     count=$1

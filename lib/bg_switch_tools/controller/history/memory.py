@@ -167,28 +167,19 @@ class Memory:
         self.is_fresh = False
         self._keep(dataclasses.replace(self.state, deployed=revision))
 
-    def set_begun(self, revision: PlannedRevision) -> None:
-        """Remembers that this revision was deployed, and that its attempt runs: the switch may end
-        before a report shows it."""
+    def set_confirmed(self, revision: PlannedRevision, has_begun: bool) -> None:
+        """Remembers that the newest revision, which the plan names last, has these ports: the switch
+        has said so. If its attempt has begun with that, the switch may end before a report shows
+        it."""
         self.is_fresh = False
+        self.keep_ports(revision)
+        others = (each for each in self.state.ports if each.name != revision.name)
+        attempt = revision if has_begun else self.state.attempt
         self._keep(
             dataclasses.replace(
-                self.state, deployed=revision, attempt=revision, ports=self._with_ports(revision)
+                self.state, deployed=revision, attempt=attempt, ports=(*others, revision)
             )
         )
-
-    def set_confirmed(self, revision: PlannedRevision) -> None:
-        """Remembers that the newest revision, which the plan names last, has these ports: the
-        switch has said so."""
-        self.is_fresh = False
-        self._keep(
-            dataclasses.replace(self.state, deployed=revision, ports=self._with_ports(revision))
-        )
-
-    def _with_ports(self, revision: PlannedRevision) -> tuple[PlannedRevision, ...]:
-        """The revisions of the book whose ports are known, once it has this one with its ports."""
-        self.keep_ports(revision)
-        return (*(each for each in self.state.ports if each.name != revision.name), revision)
 
     def set_opened(self, revision: PlannedRevision) -> None:
         """Remembers that a book was opened with this revision, and that no other one exists."""

@@ -103,13 +103,10 @@ class PlanLines:
     def take_reply(self, plan: Plan, report: Report, line: Line, reply: Reply) -> bool:
         if isinstance(reply, Unsaved) or reply == JOURNAL_FAILED and self._is_unnoted(plan, report):
             return False  # a crash may undo the deploy, so the same line asks until the journal keeps it
-        if reply.was_carried_out:
-            self.memory.set_begun(plan.last)
-        elif reply == SAME_TEMPLATE:
-            self.memory.set_confirmed(plan.last)
-        else:
+        if not reply.was_carried_out and reply != SAME_TEMPLATE:
             self.held.refuse(plan, plan.last, reply)
             return True
+        self.memory.set_confirmed(plan.last, reply.was_carried_out)
         self.held.accept(plan)
         return False
 

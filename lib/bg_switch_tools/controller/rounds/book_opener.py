@@ -34,9 +34,8 @@ class BookOpener:
         self.book = book
         self.availability = availability
         self.source = source
-        self.sent: PlannedRevision | None = (
-            None  # with which an opening was sent whose reply has not come
-        )
+        # with which an opening was sent that no report has shown yet
+        self.sent: PlannedRevision | None = None
         self.begun = time.monotonic()
         self.waits_since: float | None = None  # from when on an opening has waited for an endpoint
         self.next = 0.0
@@ -50,11 +49,16 @@ class BookOpener:
         return time.monotonic() < self.begun + FIRST_PROBE
 
     def settle(self, plan: Plan, report: Report) -> None:
-        """Takes in by a report whether the opening whose reply was lost was carried out."""
+        """Takes in by a report whether the opening that was sent was carried out, also if its reply was
+        lost. A book that its switch has resumed is gone on with."""
         self.memory.take_book()
-        if self.sent and report.stable.name == self.sent.name:
-            self._take_opened(plan, self.sent)
+        opened, lost = self.sent, self.book.lost
         self.sent = self.book.lost = None
+        if opened and report.stable.name == opened.name:
+            again = self.source.take_opened(plan, opened)
+            for loss in losses(lost, opened, again) if lost else ():
+                self.log.say("switch", f"lost with the book that was open: {loss}")
+            self.memory.set_opened(opened)
 
     def open(self, connection: Connection, plan: Plan) -> bool:
         """Opens the book. False if that has to wait, or is refused."""
@@ -65,8 +69,8 @@ class BookOpener:
         line = Open(revision.name, revision.ports)
         reply = self._send(connection, plan, revision, line)
         if reply.was_carried_out:
-            self._take_opened(plan, revision)
             return True
+        self.sent = None
         hint = f". {COMPARED}" if reply == BAD_PORTS else ""
         self._refuse(
             f"the switch can't be opened with {revision.name}: {line} => {reply.with_meaning()}{hint}",
@@ -125,17 +129,8 @@ class BookOpener:
                 down.take_in(line, reply)
             else:
                 self.book.note(line, reply)
-        self.sent, self.waits_since = None, None
+        self.waits_since = None
         return replies[0]
-
-    def _take_opened(self, plan: Plan, revision: PlannedRevision) -> None:
-        """The book was opened with this revision."""
-        again = self.source.take_opened(plan, revision)
-        if self.book.lost:
-            for loss in losses(self.book.lost, revision, again):
-                self.log.say("switch", f"lost with the book that was open: {loss}")
-        self.book.lost = None
-        self.memory.set_opened(revision)
 
     def check_sizes(self, plan: Plan, report: Report) -> None:
         """Tells, when the controller starts, that the plan's revisions have not one port for each

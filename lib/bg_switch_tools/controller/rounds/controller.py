@@ -131,17 +131,16 @@ class Controller:
         report = self.book.report(connection)
         if self.book.was_lost:
             self._forget_book()
-        if report is not None:
-            self.opening.settle(self.plan, report)
-            return report
-        coming = (
-            None if self.memory.why_not_opened(self.plan) else self.source.to_open(self.plan)[0]
-        )
-        self.launcher.start_and_stop(self.plan, None, self.memory.revisions(self.plan), coming)
-        if not self.opening.open(connection, self.plan):
-            return None
-        self.clock.begin_at(self.memory.state.moment)
-        return self.book.open_report(connection)
+        if report is None:
+            may_open = not self.memory.why_not_opened(self.plan)
+            coming = self.source.to_open(self.plan)[0] if may_open else None
+            self.launcher.start_and_stop(self.plan, None, self.memory.revisions(self.plan), coming)
+            if not self.opening.open(connection, self.plan):
+                return None
+            self.clock.begin_at(self.memory.state.moment)
+            report = self.book.open_report(connection)
+        self.opening.settle(self.plan, report)
+        return report
 
     def _forget_book(self) -> None:
         self.clock.is_stopped = False
