@@ -15,10 +15,10 @@ from bg_switch_tools.switch.connection import UnreachableError
 from bg_switch_tools.switch.report_text import in_one_line
 from bg_switch_tools.switch.reports import Report
 
-from support import TOP, processes
+from support import PROGRAM, TOP, processes
 from support.checks import check, comes
 from support.endpoints import Endpoint, by_target
-from support.journals import events_in, judged, report_by_rule, rows_in
+from support.journals import events_in, report_by_rule, rows_in
 from support.operators import Operator
 from support.plans import Plan
 from support.ports import free_ports
@@ -137,7 +137,8 @@ class JournaledMachine:
         check("the orders of a journal", faults_of_orders(kept, noted), [])
         if rows:
             was = report_by_rule(rows, strategy_of(ROLLOUT))
-            check("the journal is judged", judged(self.journal), (was, "", 0))
+            judged = processes.run_to_end([PROGRAM, "journal", self.journal])
+            check("the journal is judged", judged, (was, "", 0))
         self.rows = rows
         self.noted += noted
 

@@ -8,11 +8,10 @@ import sqlite3
 import subprocess
 import tempfile
 from collections.abc import Iterator, Sequence
-from typing import Any, Literal
+from typing import Literal
 
-from support import PROGRAM, TOP, processes
+from support import TOP
 from support.checks import check
-from support.messages import BY_HAND
 from support.rule.book import report
 from support.rule.entries import (
     ANALYSES,
@@ -33,28 +32,11 @@ from support.rule.entries import (
 from support.rule.history import History, Opening
 from support.rule.journals import resumed
 from support.rule.strategy import Strategy
-from support.switch import LISTENING, Switch
 
 # The files of a database, by what follows its path.
 FILES = ("", "-wal")
 OUTCOMES = (*STEPS, *CLEANUPS)
 Failure = Literal["write", "flush"]
-
-
-@contextlib.contextmanager
-def journaled(path: str, rollout: str = BY_HAND, **words: Any) -> Iterator[Switch]:
-    """A switch with a journal, which has begun to listen. It is killed at the end of the block."""
-    switch = Switch(rollout, workers=4, flags=("--journal", path), **words)
-    try:
-        check("a switch with a journal listens", switch.first, LISTENING)
-        yield switch
-    finally:
-        switch.kill()
-
-
-def judged(path: str) -> processes.Run:
-    """A run of `bg_switch journal`."""
-    return processes.run_to_end([PROGRAM, "journal", path])
 
 
 def rows_in(path: str) -> list[str]:

@@ -14,6 +14,7 @@ import tempfile
 import threading
 import time
 from collections.abc import Iterator, Sequence
+from typing import Any
 
 from refused_memory import refuse
 from support import PROGRAM, TOP, checks, clients, processes
@@ -25,15 +26,13 @@ from support.journals import (
     Failure,
     build_object,
     events_in,
-    journaled,
-    judged,
     report_by_rule,
     rows_in,
 )
 from support.messages import BY_HAND
 from support.ports import free_ports
 from support.rule.strategy import strategy_of
-from support.switch import Switch, run_to_end
+from support.switch import LISTENING, Switch, run_to_end
 
 # isort: split; `support` tells where the tools' package is
 from bg_switch_tools.switch.connection import UnreachableError
@@ -70,9 +69,25 @@ def a_folder() -> Iterator[str]:
         yield folder
 
 
+@contextlib.contextmanager
+def journaled(path: str, rollout: str = BY_HAND, **words: Any) -> Iterator[Switch]:
+    """A switch with a journal, which has begun to listen. It is killed at the end of the block."""
+    switch = Switch(rollout, workers=4, flags=("--journal", path), **words)
+    try:
+        check("a switch with a journal listens", switch.first, LISTENING)
+        yield switch
+    finally:
+        switch.kill()
+
+
 def report_of(switch: Switch) -> str:
     with contextlib.closing(switch.operator()) as operator:
         return operator.report()
+
+
+def judged(path: str) -> processes.Run:
+    """A run of `bg_switch journal`."""
+    return processes.run_to_end([PROGRAM, "journal", path])
 
 
 def content_of(path: str) -> bytes:
