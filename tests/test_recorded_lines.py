@@ -3,7 +3,7 @@ clients that ask at a fixed rate."""
 import unittest
 
 from bg_switch_tools.switch.connection import Connection, UnreachableError
-from support.recorded_lines import Exchange, RecordedLines, acknowledged, faults_of_orders, in_doubt
+from support.recorded_lines import SentLine, RecordedLines, acknowledged, faults_of_orders, in_doubt
 from support.steady_clients import FailedRequest, Outage
 from tests.fake_port import free_port
 from tests.fake_switch import FakeSwitch
@@ -55,12 +55,12 @@ class Faults(unittest.TestCase):
     """What a journal has to have of the orders of two connections."""
 
     NOTED = [
-        Exchange(1, "tick 1", "ok 0"),
-        Exchange(2, "promote", "ok 3"),
-        Exchange(1, "before 5 abort", "ok 0"),
-        Exchange(2, "retry", "refused NotAborted"),
-        Exchange(1, "tick 2"),
-        Exchange(2, "tick 3"),
+        SentLine(1, "tick 1", "ok 0"),
+        SentLine(2, "promote", "ok 3"),
+        SentLine(1, "before 5 abort", "ok 0"),
+        SentLine(2, "retry", "refused NotAborted"),
+        SentLine(1, "tick 2"),
+        SentLine(2, "tick 3"),
     ]
 
     def faults(self, *kept: str) -> list[str]:

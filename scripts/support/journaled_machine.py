@@ -22,7 +22,7 @@ from support.journals import events_in, report_by_rule, rows_in
 from support.operators import Operator
 from support.plans import Plan
 from support.ports import free_ports
-from support.recorded_lines import Exchange, RecordedLines, faults_of_orders
+from support.recorded_lines import SentLine, RecordedLines, faults_of_orders
 from support.rule.strategy import strategy_of
 from support.steady_clients import Outage
 from support.switch import LISTENING, Switch
@@ -73,7 +73,7 @@ class JournaledMachine:
         )
         self.log = self.folder / "log"
         self.rows: list[str] = []  # of the journal after the last kill
-        self.noted: list[Exchange] = []  # of all lives
+        self.noted: list[SentLine] = []  # of all lives
         self.outages: list[Outage] = []
         self.killed = 0.0  # the time of the last kill; 0 while the switch runs
         self.lock = threading.Lock()

@@ -17,7 +17,7 @@ BEGIN_OF_REPORT = "moment "
 TIME_LIMIT = "before"
 
 
-class Exchange(NamedTuple):
+class SentLine(NamedTuple):
     """A line, and the first line of its reply; empty if none has come. `connection` is the number of
     the connection that it came by."""
 
@@ -46,7 +46,7 @@ class RecordedLines:
         self.port = port
         self.to = to
         self.lock = threading.Lock()
-        self.exchanges: list[Exchange] = []
+        self.sent_lines: list[SentLine] = []
         self.listener: socket.socket | None = None
         self.threads: list[
             threading.Thread
@@ -58,7 +58,7 @@ class RecordedLines:
         self.listener = socket.create_server((HOST, self.port), backlog=64)
         self._run(self._accept, self.listener)
 
-    def end(self) -> list[Exchange]:
+    def end(self) -> list[SentLine]:
         """The switch is gone. Gives what was noted since it has begun."""
         if self.listener:
             with contextlib.suppress(OSError):
@@ -67,13 +67,13 @@ class RecordedLines:
         while self.threads:  # the first one may still add others
             self.threads.pop(0).join()
         with self.lock:
-            noted, self.exchanges = self.exchanges, []
+            noted, self.sent_lines = self.sent_lines, []
         return noted
 
-    def noted(self) -> list[Exchange]:
+    def noted(self) -> list[SentLine]:
         """What was noted so far, but for lines that have no reply yet."""
         with self.lock:
-            return list(self.exchanges)
+            return list(self.sent_lines)
 
     def _run(self, work: Callable[..., None], *words: object) -> None:
         thread = threading.Thread(target=work, args=words, daemon=True)
@@ -97,7 +97,7 @@ class RecordedLines:
                 replies.start()
                 self._pass_lines(near, far, sent)
                 replies.join()
-                self._note(Exchange(number, line) for line in sent)
+                self._note(SentLine(number, line) for line in sent)
 
     @staticmethod
     def _pass_lines(
@@ -125,39 +125,39 @@ class RecordedLines:
                 for line in lines:
                     reply = line.decode("ascii", "replace")
                     if not is_report and sent:
-                        self._note([Exchange(number, sent.popleft(), reply)])
+                        self._note([SentLine(number, sent.popleft(), reply)])
                     is_report = reply != END and (is_report or reply.startswith(BEGIN_OF_REPORT))
                 with contextlib.suppress(OSError):  # the client may be gone, and the switch is not
                     near.sendall(b"".join(line + b"\n" for line in lines))
         with contextlib.suppress(OSError):
             near.shutdown(socket.SHUT_RDWR)
 
-    def _note(self, exchanges: Iterable[Exchange]) -> None:
+    def _note(self, sent_lines: Iterable[SentLine]) -> None:
         with self.lock:
-            self.exchanges.extend(exchanges)
+            self.sent_lines.extend(sent_lines)
 
 
-def acknowledged(exchanges: Iterable[Exchange]) -> list[str]:
-    return [each.order for each in exchanges if each.order and each.is_acknowledged]
+def acknowledged(sent_lines: Iterable[SentLine]) -> list[str]:
+    return [each.order for each in sent_lines if each.order and each.is_acknowledged]
 
 
-def in_doubt(exchanges: Iterable[Exchange]) -> list[str]:
+def in_doubt(sent_lines: Iterable[SentLine]) -> list[str]:
     """The orders whose reply has not come."""
-    return [each.order for each in exchanges if each.order and not each.reply]
+    return [each.order for each in sent_lines if each.order and not each.reply]
 
 
-def faults_of_orders(events: Sequence[str], exchanges: Sequence[Exchange]) -> list[str]:
+def faults_of_orders(events: Sequence[str], sent_lines: Sequence[SentLine]) -> list[str]:
     """What is wrong with the orders that a journal has kept of the life of a switch: one that was
     acknowledged and is not there, one that nobody has sent, more than one of those in doubt, and
     orders of one connection that changed places."""
-    kept, known = collections.Counter(events), collections.Counter(acknowledged(exchanges))
+    kept, known = collections.Counter(events), collections.Counter(acknowledged(sent_lines))
     faults = [f"lost: {order}" for order in (known - kept).elements()]
-    others, pending = kept - known, collections.Counter(in_doubt(exchanges))
+    others, pending = kept - known, collections.Counter(in_doubt(sent_lines))
     faults += [f"nobody has sent: {order}" for order in (others - pending).elements()]
     if others.total() > 1:
         faults.append(f"in doubt, and kept: {', '.join(others.elements())}")
-    for number in sorted({each.connection for each in exchanges}) if not faults else ():
-        own = acknowledged(each for each in exchanges if each.connection == number)
+    for number in sorted({each.connection for each in sent_lines}) if not faults else ():
+        own = acknowledged(each for each in sent_lines if each.connection == number)
         if not are_in_order(own, events):
             faults.append(f"in another order: {', '.join(own)}")
     return faults
