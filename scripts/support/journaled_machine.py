@@ -34,7 +34,10 @@ NAMES = ("a", "b", "c", "d")
 WORKERS = 16
 WAIT = 40.0  # seconds for which anything is awaited
 PROBE = 60  # seconds for a probe: an endpoint that is down refuses it, and others may be slow
-AWAY = (0.0, 0.3)  # seconds for which there is no switch
+# Seconds for which there is no switch: so short that a controller that connects finds the next one, or
+# so long that it finds none.
+SHORT, LONG = (0.0, 0.3), (1.1, 1.5)
+SHARE_LONG = 0.3
 # An analysis waits until it is told how it ends.
 ANALYSIS = "until [ -e $BG_REVISION.{0} ]; do sleep 0.05; done; exit $(cat $BG_REVISION.{0})"
 OPEN_REQUESTS = re.compile(r" open \d+ ")
@@ -145,8 +148,13 @@ class JournaledMachine:
     def kill_and_start(self) -> None:
         with self.lock:
             self.kill()
-            time.sleep(self.chance.uniform(*AWAY))
-            self.start()
+            self.start_later()
+
+    def start_later(self) -> None:
+        """Starts a switch again after a while."""
+        is_long = self.chance.random() < SHARE_LONG
+        time.sleep(self.chance.uniform(*(LONG if is_long else SHORT)))
+        self.start()
 
     def report(self) -> Report | None:
         """The report; None while there is no switch, or no book."""

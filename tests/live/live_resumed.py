@@ -11,9 +11,10 @@ from typing import NamedTuple
 
 from support import checks
 from support.checks import check, comes
-from support.journaled_machine import AWAY, NAMES, WAIT, JournaledMachine
+from support.journaled_machine import NAMES, WAIT, JournaledMachine
 from support.journals import events_in
 from support.random_orders import OrdersOverKills
+from support.recorded_lines import in_doubt
 from support.steady_clients import SteadyClients
 
 # isort: split; `support` tells where the tools' package is
@@ -21,13 +22,18 @@ from bg_switch_tools.switch.reports import Report
 
 # The reply to a deploy whose first reply was lost with the switch: it asks whether it was carried out.
 ASKED_AGAIN = "refused SameTemplate"
+# What is sent before a book is open, too.
+BEFORE_AN_OPENING = ("down", "report")
+# How often each analysis of a rollout begins.
+ANALYSES = {"pre of b": 1, "post of b": 1, "pre of c": 2, "post of c": 2}
 # Seconds that a switch lives, and between two kills of a rollout.
 LIVES, BETWEEN = (0.2, 1.2), (0.1, 1.0)
 CLIENTS, RATE = 8, 200
 OPERATORS = 2
 # The kills of the drill in the gate and by hand, and how many of them one journal takes.
 KILLS, KILLS_BY_HAND, KILLS_EACH = 8, 500, 10
-ROLLOUTS_BY_HAND = 20
+# The rollouts by hand, and the kills in one of them at most: without an end it makes no progress.
+KILLS_OF_A_ROLLOUT, ROLLOUTS_BY_HAND, MOST_BY_HAND = 12, 20, 40
 SEED = random.SystemRandom().randrange(10**9)
 
 
@@ -92,19 +98,23 @@ def orders_of(machine: JournaledMachine) -> list[str]:
 
 
 def check_rollout(machine: JournaledMachine) -> None:
-    """The journal has the orders of the rollout, each once, and nothing was refused that was sent."""
+    """The journal has the orders of the rollout, each once. Nothing was refused that was sent, but a
+    deploy that was in doubt, and each analysis has begun once in each attempt."""
     machine.kill()
     kept = of_people(events_in(machine.rows))
     check("each order was given once", kept, orders_of(machine))
     refused = [
-        (each.line, each.reply)
+        f"{each.line} => {each.reply}"
         for each in machine.noted
-        if each.order
-        and each.reply
-        and not each.is_acknowledged
-        and not (each.order.startswith("deploy ") and each.reply == ASKED_AGAIN)
+        if each.reply.startswith("refused ") and each.line.split()[0] not in BEFORE_AN_OPENING
     ]
-    check("nothing that was sent is refused", refused, [])
+    doubted = [order for order in in_doubt(machine.noted) if order.startswith("deploy ")]
+    asked_again = [f"{order} => {ASKED_AGAIN}" for order in doubted]
+    check("what is refused", [each for each in refused if each not in asked_again], [])
+    check("deploys that were asked again", len(refused) <= len(doubted), True)
+    log = machine.log.read_text(encoding="utf-8")
+    begun = {name: log.count(f"analysis {name} begins") for name in ANALYSES}
+    check("analyses that have begun", begun, ANALYSES)
     machine.check_log()
 
 
@@ -131,16 +141,18 @@ def killed_in_each_phase() -> None:
         check_rollout(machine)
 
 
-def kill_again_and_again(machine: JournaledMachine, is_over: threading.Event) -> None:
-    while not is_over.wait(machine.chance.uniform(*BETWEEN)):
+def kill_again_and_again(machine: JournaledMachine, is_over: threading.Event, most: int) -> None:
+    for _ in range(most):
+        if is_over.wait(machine.chance.uniform(*BETWEEN)):
+            return
         machine.kill_and_start()
 
 
-def killed_meanwhile(seed: int = SEED) -> None:
+def killed_meanwhile(seed: int = SEED, most: int = KILLS_OF_A_ROLLOUT) -> None:
     """The switch is killed at random moments of a rollout, also between a line and its reply."""
     with a_machine(seed) as machine:
         is_over = threading.Event()
-        killer = threading.Thread(target=kill_again_and_again, args=(machine, is_over))
+        killer = threading.Thread(target=kill_again_and_again, args=(machine, is_over, most))
         killer.start()
         try:
             for step in steps_of(machine):
@@ -155,7 +167,7 @@ def killed_meanwhile(seed: int = SEED) -> None:
 
 def many_rollouts() -> None:
     for number in range(ROLLOUTS_BY_HAND):
-        killed_meanwhile(SEED + number)
+        killed_meanwhile(SEED + number, MOST_BY_HAND)
 
 
 def end_analyses_at_random(machine: JournaledMachine) -> None:
@@ -183,8 +195,7 @@ def live(machine: JournaledMachine) -> None:
     is_over.set()
     for thread in threads:
         thread.join()
-    time.sleep(machine.chance.uniform(*AWAY))
-    machine.start()
+    machine.start_later()
 
 
 def drill(kills: int) -> None:
