@@ -163,6 +163,11 @@ class JournaledMachine:
                 return operator.ask_report()
         return None
 
+    def is_scaled_down(self, number: int) -> bool:
+        report = self.report()
+        revision = report.revisions.get(number) if report else None
+        return revision is not None and revision.desired == 0
+
     def awaits(self, phase: str, newest: str) -> None:
         """A check that in time the attempt of this revision is in this phase."""
 

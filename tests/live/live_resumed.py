@@ -51,7 +51,8 @@ class Step(NamedTuple):
 
 
 def steps_of(machine: JournaledMachine) -> list[Step]:
-    """A good revision, and one that fails after the switch, is tried again, and passes."""
+    """A good revision, one that fails after the switch, is tried again, and passes, and an undo by
+    hand, which stands although the plan names another revision last."""
 
     def deploy_without_endpoint() -> None:
         machine.endpoints["b"].stop()
@@ -60,6 +61,10 @@ def steps_of(machine: JournaledMachine) -> list[Step]:
     def retry() -> None:
         (machine.folder / "c.post").unlink()
         machine.order("retry", "aborted")
+
+    def undo() -> None:
+        check("a is scaled down", comes(lambda: machine.is_scaled_down(1), WAIT), True)
+        machine.order(f"deploy {machine.template('a')}", "steady")
 
     return [
         Step(lambda: machine.write_plan("a"), "steady", "a"),
@@ -75,6 +80,8 @@ def steps_of(machine: JournaledMachine) -> list[Step]:
         Step(retry, "paused", "c"),
         Step(lambda: machine.order("promote", "paused"), "postAnalysis", "c"),
         Step(lambda: machine.end_analysis("c", "post", 0), "steady", "c"),
+        Step(undo, "preAnalysis", "a"),
+        Step(lambda: machine.order("abort", "preAnalysis"), "aborted", "a"),
     ]
 
 
@@ -94,6 +101,9 @@ def orders_of(machine: JournaledMachine) -> list[str]:
         "retry",
         *passed,
         "verdict post successful",
+        f"deploy {machine.template('a')}",
+        "available 1 1",
+        "abort",
     ]
 
 
