@@ -327,7 +327,7 @@ class Host:
         if not switch.phase:
             if self.was_open:
                 self.lines.lose_book()
-            opened = self.lines.to_open(plan)[0]
+            opened = machine.opening(plan)[0]
             switch.open(opened.name)
             self.lines.take_opened(plan, opened)
             self.analysis = None

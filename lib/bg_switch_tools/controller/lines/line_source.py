@@ -19,9 +19,6 @@ class LineSource(Protocol):
     """Decides on the lines that select a revision. All else is the controller's: ticks, probes,
     availability, the endpoints' commands, and the runs of analyses. One thread calls it."""
 
-    def to_open(self, plan: Plan) -> tuple[PlannedRevision, str]:
-        """The revision that a book is to be opened with, and why this one."""
-
     def take_opened(self, plan: Plan, opened: PlannedRevision) -> PlannedRevision | None:
         """A book was opened with this revision. Gives the revision that the source deploys next, if
         it knows of one."""

@@ -20,9 +20,6 @@ class PlanLines:
         self.launcher = parts.launcher
         self.held = parts.held
 
-    def to_open(self, plan: Plan) -> tuple[PlannedRevision, str]:
-        return self.memory.to_open(plan)
-
     def take_opened(self, plan: Plan, opened: PlannedRevision) -> PlannedRevision | None:
         """The plan's last revision is deployed again after an opening if its attempt ran and nobody
         had undone it."""

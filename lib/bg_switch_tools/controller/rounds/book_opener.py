@@ -1,4 +1,4 @@
-"""Opens the book of a switch that was started, with the revision that the source of lines names."""
+"""Opens the book of a switch that was started and has resumed none."""
 import contextlib
 import sys
 import time
@@ -62,7 +62,7 @@ class BookOpener:
 
     def open(self, connection: Connection, plan: Plan) -> bool:
         """Opens the book. False if that has to wait, or is refused."""
-        now, (revision, why) = time.monotonic(), self.source.to_open(plan)
+        now, (revision, why) = time.monotonic(), self.memory.to_open(plan)
         if now < self.next or self._is_refused(plan) or self._waits_for_endpoints(plan, revision):
             return False
         self.log.say("switch", f"no book is open: it is opened with {revision.name}, {why}")

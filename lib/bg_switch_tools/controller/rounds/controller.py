@@ -133,7 +133,7 @@ class Controller:
             self._forget_book()
         if report is None:
             may_open = not self.memory.why_not_opened(self.plan)
-            coming = self.source.to_open(self.plan)[0] if may_open else None
+            coming = self.memory.to_open(self.plan)[0] if may_open else None
             self.launcher.start_and_stop(self.plan, None, self.memory.revisions(self.plan), coming)
             if not self.opening.open(connection, self.plan):
                 return None

@@ -39,9 +39,6 @@ class FleetLines:
         self.launcher = parts.launcher
         self.now = now
 
-    def to_open(self, plan: Plan) -> tuple[PlannedRevision, str]:
-        return self.machine.opening(plan)
-
     def take_opened(self, plan: Plan, opened: PlannedRevision) -> PlannedRevision | None:
         self.machine.lose_book()
         record = self.machine.record
