@@ -152,6 +152,11 @@ pub fn write_refusal<W: Write, E: Write>(
         errors,
         "bg_switch: the journal {path} can't be used: {refusal}"
     );
+    write_journal_fault(output)
+}
+
+/// Writes that a journal cannot be used. Returns the exit status.
+pub fn write_journal_fault<W: Write>(output: &mut W) -> Result<u8, RunEnd> {
     written(writeln!(output, "fault Journal"))?;
     Ok(1)
 }

@@ -4,7 +4,7 @@ ghost use Rattle.bg_ledger.specs.Blanks.{AreAllFor};
 ghost use Rattle.bg_switch.specs.Restarted.{IsStableAtEnd, IsStableIn, ports_from_now};
 
 use crate::audit::report_end;
-use crate::journal::{JournalRefusal, resumed_book};
+use crate::journal::{JournalRefusal, resumed_book, write_journal_fault};
 use crate::journal_files::{JournalFiles, remove_copy};
 use crate::serve::{write_fault, written};
 use bg_book::{Book, Limits, ResumeFault, RolloutOpening};
@@ -108,23 +108,15 @@ pub fn restart_journal<I: Read, W: Write, E: Write>(
             written(output.write_all(&report))?;
             Ok(0)
         }
-        Err(fault) => write_restart_fault(restart.path, &fault, output, errors),
+        Err(fault) => {
+            let path = restart.path;
+            let _ = writeln!(
+                errors,
+                "bg_switch: the journal {path} can't be restarted: {fault}"
+            );
+            write_journal_fault(output)
+        }
     }
-}
-
-/// Writes why the journal in the file at a path is not restarted. Returns the exit status.
-fn write_restart_fault<W: Write, E: Write>(
-    path: &str,
-    fault: &RestartFault,
-    output: &mut W,
-    errors: &mut E,
-) -> Result<u8, RunEnd> {
-    let _ = writeln!(
-        errors,
-        "bg_switch: the journal {path} can't be restarted: {fault}"
-    );
-    written(writeln!(output, "fault Journal"))?;
-    Ok(1)
 }
 
 /// Restarts a journal with a strategy, and writes the report of the new one to `report`.

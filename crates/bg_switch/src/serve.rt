@@ -187,9 +187,21 @@ where
         refusal_body: RefusalBody::of_pages(words.error_pages),
         notices: &notices,
     };
+    serve_in_context(&context, settings.journal, output)
+}
+
+/// Serves operators and clients by what they share, with the journal that this opens, if it is there.
+fn serve_in_context<R, W: Write>(
+    context: &ServeContext<R>,
+    journal: Option<FileOpener>,
+    output: &mut W,
+) -> Result<Result<(), RunEnd>, JournalRefusal>
+where
+    R: Net<Listener = TcpListener, Stream = TcpStream> + Threads + Wait + Clock + Sync,
+{
     let journaled = JournaledContext {
-        serve: &context,
-        journal: settings.journal,
+        serve: context,
+        journal,
     };
     serve_by_journal::<R, FileStore<FileFrom<Unknown>>, FileOpener, W>(&journaled, output)
 }
