@@ -1,6 +1,6 @@
 //! Lines with a time limit, over memory. The boot clock reads 0 first, and 1 more at each reading.
 
-use crate::script::control::{Answered, answer_lines, answer_within};
+use crate::script::control::{Answered, Way, answer_lines, answer_within};
 use bg_book::Limits;
 use bg_operator::parse_line;
 use bg_script::ControlEnd;
@@ -122,7 +122,7 @@ fn answer_after<R: Wait>(
         entries,
         numbers: 1 << 53,
     };
-    answer_within(rt, alloc, limits, &mut text.as_slice())
+    answer_within(rt, alloc, limits, &mut text.as_slice(), Way::Together)
 }
 
 /// In time, the answers, the history and the count of events without room are those of the events alone.

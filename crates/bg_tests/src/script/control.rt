@@ -122,7 +122,7 @@ impl BootClock for CountingClock {
 
 /// How lines are answered.
 #[derive(Clone, Copy, Drop)]
-enum Way {
+pub(super) enum Way {
     /// Those of a reader, one after the other.
     Together,
     /// Each by itself, up to `quit`.
@@ -188,7 +188,7 @@ pub(super) fn answer_lines<R: Wait>(
     alloc: Global,
     lines: &mut &[u8],
 ) -> Result<Answered, Fail> {
-    answer_within(rt, alloc, Limits::usual(), lines)
+    answer_within(rt, alloc, Limits::usual(), lines, Way::Together)
 }
 
 pub(super) fn answer_within<R: Wait>(
@@ -196,21 +196,15 @@ pub(super) fn answer_within<R: Wait>(
     alloc: Global,
     limits: Limits,
     lines: &mut &[u8],
+    way: Way,
 ) -> Result<Answered, Fail> {
-    answer::<Brand, R>(rt, alloc, limits, lines, Way::Together, Blanks::new())
+    answer::<Brand, R>(rt, alloc, limits, lines, way, Blanks::new())
 }
 
 /// Answers these lines, each of which was found whole, by itself, up to `quit`.
 pub(super) fn answer_each<R: Wait>(rt: &R, alloc: Global, lines: &str) -> Result<Answered, Fail> {
     let mut lines = lines.as_bytes();
-    answer::<Brand, R>(
-        rt,
-        alloc,
-        Limits::usual(),
-        &mut lines,
-        Way::OneByOne,
-        Blanks::new(),
-    )
+    answer_within(rt, alloc, Limits::usual(), &mut lines, Way::OneByOne)
 }
 
 /// Answers each line by itself, up to `quit`.
@@ -259,7 +253,7 @@ fn compacts_a_full_history_and_asks_again(rt: HostRuntime) -> Result<(), Fail> {
         numbers: 1 << 53,
     };
     let mut lines = AT_FULL_DESK.as_bytes();
-    let answered = answer_within(&rt, rt.alloc(), limits, &mut lines)?;
+    let answered = answer_within(&rt, rt.alloc(), limits, &mut lines, Way::Together)?;
     assert_eq!(rt; answered.end, Ok(ControlEnd::End));
     assert_eq!(rt;
         answered.answers.as_slice(),
