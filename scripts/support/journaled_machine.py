@@ -31,7 +31,7 @@ ROLLOUT = """{"spec": {"replicas": 1, "strategy": {"blueGreen": {"activeService"
 "previewService": "web-preview", "autoPromotionEnabled": false, "scaleDownDelaySeconds": 2,
 "prePromotionAnalysis": {}, "postPromotionAnalysis": {}}}}}"""
 NAMES = ("a", "b", "c", "d")
-WORKERS = 16
+WORKERS = 7
 WAIT = 40.0  # seconds for which anything is awaited
 PROBE = 60  # seconds for a probe: an endpoint that is down refuses it, and others may be slow
 # Seconds for which there is no switch: so short that a controller that connects finds the next one, or

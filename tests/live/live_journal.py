@@ -58,7 +58,7 @@ PAUSE = 0.004
 # How many restarts of a journal are killed, in the gate and by hand.
 KILLED_RESTARTS, KILLED_RESTARTS_BY_HAND = 30, 300
 # The files of a restart without room have so many bytes more, run by run, up to so many.
-MORE_BYTES, MOST_BYTES = 2_048, 65_536
+MORE_BYTES, MOST_BYTES = 16_384, 2**20
 CLIENTS = 4
 SEED = random.SystemRandom().randrange(10**9)
 
@@ -353,12 +353,13 @@ def check_not_restarted(
 ) -> None:
     """Checks that a journal is not restarted, why, and that its file stays as it is."""
     content = content_of(path) if os.path.exists(path) else None
+    beside = left_beside(path)
     run = restarted(path, rollout, *words)
     told = f"bg_switch: the journal {path} can't be restarted: {reason}"
     check(name, (run.printed, told in run.told, run.status), (REFUSED, True, 1))
     now = content_of(path) if os.path.exists(path) else None
     check(f"{name}: the file", now == content, True)
-    check(f"{name}: no other file", left_beside(path), [])
+    check(f"{name}: no other file", left_beside(path), beside)
 
 
 def left_beside(path: str) -> list[str]:
@@ -458,12 +459,14 @@ def journals_that_are_not_restarted() -> None:
         check_not_restarted("a journal that is not there", path, "it is not there, or is empty")
         check("it is not made", os.listdir(folder), [])
         with journaled(path) as switch:
-            check_not_restarted(
-                "a journal that is open", path, "another process has the journal open"
-            )
-            check("it goes on", switch.answer_to("report"), NO_BOOK)
-        check_not_restarted("a journal that was not begun", path, "no book was opened with it yet")
+            reason = "no book was opened with it yet"
+            check_not_restarted("a journal that was not begun", path, reason)
+            check("it goes on without a book", switch.answer_to("report"), NO_BOOK)
         was = begun_with(path, PROMOTED)
+        with journaled(path) as switch:
+            reason = "another process has the journal open"
+            check_not_restarted("a journal that is open", path, reason)
+            check("it goes on", report_of(switch), was)
         run = restarted(path, "{}")
         check("no strategy", (run.printed, run.status), ("fault Missing spec\n", 1))
         check_without_room(path, was)

@@ -425,7 +425,9 @@ def stale() -> None:
                 check(f"{name}: it comes so often", came, 1 + is_repeated)
                 opened = scene.endpoint.connections - connections
                 check(f"{name}: new connections", opened, int(is_repeated))
-            check("no request is open", scene.operator.open_requests(), [0])
+            # a request leaves once its answer was written
+            is_over = comes(lambda: scene.operator.open_requests() == [0])
+            check("no request is open", is_over, True)
 
 
 def stale_marks_none() -> None:
