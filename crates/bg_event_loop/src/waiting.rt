@@ -65,7 +65,7 @@ impl<'a, P: EndpointPorts, L: RequestLog> EventLoop<'a, P, L> {
     /// Whether a request may enter now.
     pub(crate) fn may_enter(&self) -> bool {
         match self.waits_since() {
-            Some(since) => self.port.may_enter(since),
+            Some(since) => self.port.may_enter(self.waiting.number, since),
             None => false,
         }
     }
@@ -75,7 +75,7 @@ impl<'a, P: EndpointPorts, L: RequestLog> EventLoop<'a, P, L> {
     pub(crate) fn next_to_enter(&mut self) -> Option<Entered> {
         self.tell_waiting();
         let since = self.waits_since()?;
-        if !self.port.enters(since) {
+        if !self.port.enters(self.waiting.number, since) {
             return None;
         }
         self.waiting.since.pop_front();
@@ -86,7 +86,7 @@ impl<'a, P: EndpointPorts, L: RequestLog> EventLoop<'a, P, L> {
     /// Notes that the request of a seat has left, if there is one.
     pub(crate) fn note_left(&mut self, seat: Option<usize>) {
         if seat.is_some() {
-            self.port.note_left();
+            self.port.note_left(self.waiting.number);
             self.waiting.has_changed = true;
         }
     }

@@ -1,5 +1,5 @@
 //! Which request of a port enters next.
-ghost use Rattle.std.specs.Prelude.{◌≡◌, ◌+◌, nat_le, not};
+ghost use Rattle.std.specs.Prelude.{◌≡◌, ◌+◌, ◌/◌, max, nat_le, not};
 
 use crate::longest_waiting::LongestWaiting;
 use crate::waiting_loop::{NONE_WAITS, WaitingLoop};
@@ -26,10 +26,16 @@ const TOLERANCE_MILLIS: u64 = 20;
 /// - A loop whose request enters or waits no more, or waits since another moment, looks for the next loop in the same way
 ///   ([`Admission::wake_next`]). So if several places are free, the loops wake one another in turn, and a loop that found a
 ///   place free but the request of another loop before its own is woken after that one.
+///
+/// Each loop has a share of the places, so that loops work side by side: one that has its share leaves a free place to a loop
+/// that has less, if the request there began to wait at most 20 milliseconds later. Of the loops whose turn it is, the one whose
+/// request has waited longest leaves a place only to another of them, so a free place is always left to one that takes it.
 #[derive(Drop)]
 pub(crate) struct Admission {
     inside: AtomicU64,
     most: u64,
+    /// How many of these requests each loop may have before it leaves free places to others.
+    share: u64,
     loops: Vec<WaitingLoop>,
 }
 
@@ -44,6 +50,7 @@ impl Admission {
         Ok(Admission {
             inside: AtomicU64::new(0),
             most,
+            share: share_of(most, count as u64),
             loops,
         })
     }
@@ -58,7 +65,7 @@ impl Admission {
     /// Notes that the loop of this number is asleep, unless its request may enter, which waits since this moment. Gives whether
     /// it is asleep.
     pub(crate) fn falls_asleep(&self, number: usize, since: u64) -> bool {
-        self.falls_asleep_unless(number, || self.may_enter(since))
+        self.falls_asleep_unless(number, || self.may_enter(number, since))
     }
 
     /// Notes that the loop of this number is asleep, and only then asks whether its request may enter: so who frees a place after
@@ -95,15 +102,15 @@ impl Admission {
         }
     }
 
-    /// Whether a request may enter now that waits since this moment.
-    pub(crate) fn may_enter(&self, since: u64) -> bool {
-        self.has_place() && is_next(since, self.earliest())
+    /// Whether a request of the loop of this number may enter now that waits since this moment.
+    pub(crate) fn may_enter(&self, number: usize, since: u64) -> bool {
+        self.has_place() && self.is_turn_of(number, since)
     }
 
-    /// Counts a request that enters, if it may.
-    pub(crate) fn enter(&self, since: u64) -> bool {
+    /// Counts a request of the loop of this number that enters, if it may.
+    pub(crate) fn enter(&self, number: usize, since: u64) -> bool {
         let most = self.most;
-        is_next(since, self.earliest())
+        let enters = self.is_turn_of(number, since)
             && self
                 .inside
                 .fetch_update(Ordering::SeqCst, Ordering::SeqCst, |inside| {
@@ -113,21 +120,44 @@ impl Admission {
                         None
                     }
                 })
-                .is_ok()
+                .is_ok();
+        if enters && let Some(entered) = self.loops.get(number) {
+            entered.note_entered();
+        }
+        enters
     }
 
-    /// Counts a request less.
-    pub(crate) fn leave(&self) {
+    /// Counts a request of the loop of this number less.
+    pub(crate) fn leave(&self, number: usize) {
+        if let Some(left) = self.loops.get(number) {
+            left.note_left();
+        }
         self.inside.fetch_sub(1, Ordering::SeqCst);
     }
 
-    /// If fewer than the most requests are inside, looks for the loop whose request has waited longest, other than that of this
+    /// Whether a free place is for a request of this loop that waits since this moment.
+    fn is_turn_of(&self, number: usize, since: u64) -> bool {
+        is_next(since, self.earliest()) && !self.leaves_place(number, since)
+    }
+
+    /// Whether a loop leaves a free place to another one: it has its share of the requests inside, the other one has less, and
+    /// the request of the other one comes next after its own, which waits since this moment.
+    fn leaves_place(&self, number: usize, since: u64) -> bool {
+        self.loops
+            .get(number)
+            .is_some_and(|own| own.inside() >= self.share)
+            && self.loops.iter().enumerate().any(|(other, waiting)| other != number
+                && waiting.inside() < self.share
+                && is_next(waiting.since(), since))
+    }
+
+    /// If fewer than the most requests are inside, looks for the loop whose request may enter next, other than that of this
     /// number, and wakes it if it is asleep. Gives the loop that was woken.
     pub(crate) fn wake_next(&self, number: usize) -> Option<usize> {
         if !self.has_place() {
             return None;
         }
-        let next = self.longest_waiting(number)?;
+        let next = self.next_loop(number)?;
         if self.loops.get(next)?.wake() {
             Some(next)
         } else {
@@ -135,13 +165,20 @@ impl Admission {
         }
     }
 
-    /// The loop whose request has waited longest, other than that of this number, if a request waits at one.
-    fn longest_waiting(&self, number: usize) -> Option<usize> {
-        let mut longest = LongestWaiting::none(number);
+    /// The loop whose request may enter next, other than that of this number, if a request waits at one: of those whose turn it
+    /// is and that have less than their share inside, or else of all, the one whose request has waited longest.
+    fn next_loop(&self, number: usize) -> Option<usize> {
+        let earliest = self.earliest();
+        let mut below_share = LongestWaiting::none(number);
+        let mut of_all = LongestWaiting::none(number);
         for (other, waiting) in self.loops.iter().enumerate() {
-            longest = longest.or(other, waiting.since());
+            let since = waiting.since();
+            of_all = of_all.or(other, since);
+            if waiting.inside() < self.share && is_next(since, earliest) {
+                below_share = below_share.or(other, since);
+            }
         }
-        longest.found()
+        below_share.found().or(of_all.found())
     }
 
     fn has_place(&self) -> bool {
@@ -163,4 +200,11 @@ fn is_next(since: u64, earliest: u64) -> bool
     ensures { result ≡ nat_le since (earliest + 20) }
 {
     since.saturating_sub(earliest) <= TOLERANCE_MILLIS
+}
+
+/// The part of a loop in the most requests that may be inside, at least one.
+fn share_of(most: u64, loops: u64) -> u64
+    ensures { result ≡ max 1 (most / max 1 loops) }
+{
+    (most / loops.max(1)).max(1)
 }

@@ -184,20 +184,21 @@ impl LoopPort {
         self.admission.note_waiting(number, since);
     }
 
-    /// Whether a request may enter that waits since this moment: fewer than the most requests are inside, and no request of
-    /// another loop waits for more than 20 milliseconds longer.
-    pub fn may_enter(&self, since: u64) -> bool {
-        self.admission.may_enter(since)
+    /// Whether a request of the loop of this number may enter that waits since this moment: fewer than the most requests are
+    /// inside, and no request of another loop waits for more than 20 milliseconds longer. A loop that has its share of the most
+    /// requests inside leaves its turn to one that has less, if a request waits there, and not for more than 20 milliseconds less.
+    pub fn may_enter(&self, number: usize, since: u64) -> bool {
+        self.admission.may_enter(number, since)
     }
 
     /// Counts a request that enters, if it may, as [`LoopPort::may_enter`] says. Gives whether it enters.
-    pub fn enters(&self, since: u64) -> bool {
-        self.admission.enter(since)
+    pub fn enters(&self, number: usize, since: u64) -> bool {
+        self.admission.enter(number, since)
     }
 
-    /// Notes that a request has left that had entered.
-    pub fn note_left(&self) {
-        self.admission.leave();
+    /// Notes that a request of the loop of this number has left that had entered.
+    pub fn note_left(&self, number: usize) {
+        self.admission.leave(number);
     }
 
     /// Notes that the loop of this number is asleep, unless its request may enter that has waited longest, since this moment.
@@ -212,7 +213,7 @@ impl LoopPort {
         self.admission.note_asleep(number, false);
     }
 
-    /// Wakes the loop whose request has waited longest, other than that of this number, if it is asleep and fewer than the most
+    /// Wakes the loop whose request may enter next, other than that of this number, if it is asleep and fewer than the most
     /// requests are inside. A loop calls this after a request of it has entered or left, or waits no more.
     pub fn pass_on(&self, number: usize) {
         self.admission.wake_next(number);

@@ -12,6 +12,8 @@ pub(crate) const NONE_WAITS: u64 = u64::MAX;
 #[derive(Drop)]
 pub(crate) struct WaitingLoop {
     since: AtomicU64,
+    /// The number of its requests that are inside.
+    inside: AtomicU64,
     /// Whether the loop is asleep, and nobody has woken it since.
     is_asleep: AtomicBool,
     /// What ends the wait of this loop alone.
@@ -23,6 +25,7 @@ impl WaitingLoop {
     pub(crate) fn new() -> io::Result<WaitingLoop> {
         Ok(WaitingLoop {
             since: AtomicU64::new(NONE_WAITS),
+            inside: AtomicU64::new(0),
             is_asleep: AtomicBool::new(false),
             signal: Signal::new()?,
         })
@@ -37,6 +40,21 @@ impl WaitingLoop {
     pub(crate) fn note_since(&self, since: Option<u64>) {
         self.since
             .store(since.unwrap_or(NONE_WAITS), Ordering::SeqCst);
+    }
+
+    /// The number of requests of the loop that are inside.
+    pub(crate) fn inside(&self) -> u64 {
+        self.inside.load(Ordering::SeqCst)
+    }
+
+    /// Notes that a request of the loop has entered.
+    pub(crate) fn note_entered(&self) {
+        self.inside.fetch_add(1, Ordering::SeqCst);
+    }
+
+    /// Notes that a request of the loop has left that had entered.
+    pub(crate) fn note_left(&self) {
+        self.inside.fetch_sub(1, Ordering::SeqCst);
     }
 
     /// Notes whether the loop is asleep: it waits for events, or is about to.

@@ -52,9 +52,9 @@ fn no_loop_is_woken_while_no_place_is_free(rt: HostRuntime) {
     let Some(admission) = asleep(&rt) else {
         panic!(rt; "no memory");
     };
-    let enters = admission.enter(50);
+    let enters = admission.enter(0, 50);
     let full = admission.wake_next(0);
-    admission.leave();
+    admission.leave(0);
     let freed = admission.wake_next(0);
     assert_eq!(rt; (enters, full, freed), (true, None, Some(2)));
 }
@@ -109,12 +109,12 @@ fn a_place_that_is_freed_after_the_last_look_wakes_the_loop(rt: HostRuntime) {
     let Ok(admission) = Admission::new(rt.alloc(), 1, 2) else {
         panic!(rt; "no memory");
     };
-    let enters = admission.enter(10);
+    let enters = admission.enter(0, 10);
     admission.note_waiting(1, Some(10));
     let mut woken = None;
     let is_asleep = admission.falls_asleep_unless(1, || {
-        let may_enter = admission.may_enter(10);
-        admission.leave();
+        let may_enter = admission.may_enter(1, 10);
+        admission.leave(0);
         woken = admission.wake_next(0);
         may_enter
     });
@@ -162,7 +162,7 @@ fn takes_turns_late(admission: &Admission, number: usize) -> bool {
         }
         admission.note_waiting(number, None);
         admission.wake_next(number);
-        admission.leave();
+        admission.leave(number);
         admission.wake_next(number);
     }
     false
@@ -171,7 +171,7 @@ fn takes_turns_late(admission: &Admission, number: usize) -> bool {
 /// Lets a request enter as soon as it may, if nobody fails to end a wait for that. Gives whether somebody does.
 fn enters_late(admission: &Admission, set: &EpollSet, number: usize, since: u64) -> bool {
     for _ in 0..u64::MAX {
-        if admission.enter(since) {
+        if admission.enter(number, since) {
             return false;
         }
         if admission.falls_asleep(number, since) && set.wait(&mut [NO_EVENT; 1], LATE_MILLIS) == 0 {

@@ -85,12 +85,12 @@ impl JournalFiles {
 
     /// Gives a file the owner, the group and the mode of that of the journal.
     fn give_access<R: Files>(&self, rt: &R, name: &str) -> io::Result<()> {
-        let wanted = fs::metadata(rt, self.path())?;
+        let journal = fs::metadata(rt, self.path())?;
         let made = fs::metadata(rt, name)?;
-        if made.uid() != wanted.uid() || made.gid() != wanted.gid() {
-            chown(rt, name, Some(wanted.uid()), Some(wanted.gid()))?;
+        if made.uid() != journal.uid() || made.gid() != journal.gid() {
+            chown(rt, name, Some(journal.uid()), Some(journal.gid()))?;
         }
-        let mode = wanted.mode() & ACCESS_BITS;
+        let mode = journal.mode() & ACCESS_BITS;
         fs::set_permissions(rt, name, Permissions::from_mode(mode))
     }
 
