@@ -274,6 +274,7 @@ class Leftovers(Controlled):
             )
         )
         run.kill()
+        time.sleep(2 / os.sysconf("SC_CLK_TCK"))  # what starts now has another start, in ticks
         with subprocess.Popen(["sleep", "60"], start_new_session=True) as other:
             file = StateFile(self.plan.path)
             (left,) = file.read()[0].analyses

@@ -426,6 +426,15 @@ def write_in_time(store: Store, value: str) -> bool:
     return comes(is_written)
 
 
+def is_read(store: Store) -> bool:
+    """Whether a read is answered now."""
+    try:
+        store.read()
+    except StoreError:
+        return False
+    return True
+
+
 class OnThree(WithCluster):
     """A store on three members. Each test leaves all of them running."""
 
@@ -500,9 +509,10 @@ class OnThree(WithCluster):
         store = store_at(*self.cluster.endpoints)
         after = store.read().revision
         self.cluster.members[0].kill()
-        timer = threading.Timer(
-            0.5, lambda: write_in_time(store_at(*self.cluster.endpoints[1:], timeout=20.0), "8")
-        )
+        others = store_at(*self.cluster.endpoints[1:], timeout=20.0)
+        # if the leader was lost, no member has one until the others have elected it
+        self.assertTrue(comes(lambda: is_read(others)))
+        timer = threading.Timer(0.5, lambda: write_in_time(others, "8"))
         timer.start()
         seconds = seconds_of(lambda: store.wait(after, LONG))
         self.assertTrue(is_within(seconds, 20.0), seconds)
