@@ -12,8 +12,8 @@ than there are clients is measured only before an endpoint that answers at once.
 what is answered, so clients that are never answered show only in the requests a second before the
 slow endpoint.
 
---system-calls and --instructions count those of a request of the switch, with one client, by strace
-and callgrind. The help (--help) names the other words.
+--system-calls and --instructions count those of a request of the switch, with one client and with
+64, by strace and callgrind. The help (--help) names the other words.
 
 Exit status: 0 if each ratio keeps its limit, 1 if one does not or a proxy does not run, 2 if the
 words are wrong. Without wrk, nginx, haproxy or gcc the bench says so, measures nothing, and ends
@@ -101,8 +101,9 @@ def running(
                 if name in PEERS
             ]
             if mode in flags:
+                words = (*flags[mode], "--threads", str(asked.threads))
                 ones += [
-                    proxies.switch(place(), mode, concurrency, flags[mode])
+                    proxies.switch(place(), mode, concurrency, words)
                     for concurrency in asked.concurrency
                 ]
             found += [stack.enter_context(one) for one in ones]
@@ -163,10 +164,14 @@ def print_costs(asked: argparse.Namespace, top: pathlib.Path) -> None:
             ("system calls", request_costs.STRACE, asked.system_calls),
             ("instructions", request_costs.CALLGRIND, asked.instructions),
         ):
-            for mode in flags if is_asked else ():
+            asked_modes = flags if is_asked else ()
+            for mode, clients in itertools.product(asked_modes, request_costs.CLIENTS):
                 place = Place(reserved(PORTS), endpoint, top)
-                cost = request_costs.cost_of_request(tool, place, mode, flags[mode])
-                print(f"ratio of {name} to requests, {mode.value}: {cost:.2f}", flush=True)
+                words = (*flags[mode], "--threads", str(asked.threads))
+                run = request_costs.Run(mode, words, clients)
+                cost = request_costs.cost_of_request(tool, place, run)
+                label = f"{mode.value}, clients {clients}"
+                print(f"ratio of {name} to requests, {label}: {cost:.2f}", flush=True)
 
 
 def main(words: Sequence[str]) -> int:

@@ -147,7 +147,9 @@ class ReadingTools(unittest.TestCase):
 
     def test_the_start_and_the_end_of_a_run_do_not_count(self) -> None:
         few, many = request_costs.REQUESTS
-        self.assertEqual(request_costs.between([5000 + 13 * few, 5000 + 13 * many]), 13.0)
+        for clients in (1, 64):
+            counts = [5000 + 13 * clients * requests for requests in (few, many)]
+            self.assertEqual(request_costs.between(counts, clients), 13.0)
 
     def test_a_launcher_is_replaced_by_its_program(self) -> None:
         with tempfile.TemporaryDirectory() as folder:

@@ -89,9 +89,14 @@ def need(holds: Callable[[], object], what: str, folder: pathlib.Path) -> None:
 
 
 def is_answered(client: http.client.HTTPConnection, mode: Mode) -> bool:
-    """Whether a request is answered with 200, and its connection then kept if and only if the mode
-    says so. The client connects if it has no connection."""
+    """Whether a request is answered well. The client connects if it has no connection."""
     client.request("GET", "/")
+    return is_well_answered(client, mode)
+
+
+def is_well_answered(client: http.client.HTTPConnection, mode: Mode) -> bool:
+    """Whether the request of a client is answered with 200, and its connection then kept if and only
+    if the mode says so."""
     answer = client.getresponse()
     answer.read()
     return answer.status == 200 and (client.sock is not None) == mode.keeps_clients

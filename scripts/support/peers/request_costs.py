@@ -1,8 +1,9 @@
 """What a request costs the switch on each machine alike: its system calls, and the instructions of
 the program itself.
 
-A run counts all of a switch with one client, from its start to its end. Two runs with different
-numbers of requests differ by what the further requests cost.
+A run counts all of a switch from its start to its end, with clients that each send a request before
+any answer is read. Two runs with different numbers of requests differ by what the further requests
+cost.
 """
 import contextlib
 import pathlib
@@ -14,10 +15,11 @@ from typing import NamedTuple
 from support import PROGRAM
 from support.peers import MeasurementError
 from support.peers.configurations import Mode, Place
-from support.peers.proxies import client_of, is_answered, running_switch
+from support.peers.proxies import client_of, is_well_answered, running_switch
 
-REQUESTS = (200, 1_200)
-CONCURRENCY = ("--concurrency", "8")
+REQUESTS = (200, 1_200)  # of each client
+CLIENTS = (1, 64)
+CONCURRENCY = ("--concurrency", str(max(CLIENTS)))
 COUNTED = "counted"  # the file that a tool writes
 TOTALS = re.compile(r"^(?:summary|totals): (\d+)$", re.M)
 
@@ -65,31 +67,43 @@ def program_file() -> str:
     return str(built if is_launcher else file)
 
 
-def ask(port: int, count: int, mode: Mode) -> None:
-    """One client that sends `count` requests, one after the other."""
-    with contextlib.closing(client_of(port)) as client:
+def ask(port: int, clients: int, count: int, mode: Mode) -> None:
+    """Clients that send `count` requests each, one after the other."""
+    with contextlib.ExitStack() as stack:
+        ones = [stack.enter_context(contextlib.closing(client_of(port))) for _ in range(clients)]
         for number in range(count):
-            if not is_answered(client, mode):
+            for one in ones:
+                one.request("GET", "/")
+            if not all([is_well_answered(one, mode) for one in ones]):
                 raise MeasurementError(
                     f"request {number} was not answered in the mode {mode.value}"
                 )
 
 
-def counted(tool: Tool, place: Place, mode: Mode, flags: Sequence[str], requests: int) -> int:
-    """What a tool counts while `requests` requests are answered."""
+class Run(NamedTuple):
+    """What is counted: a mode of the switch with its flags, and the number of clients."""
+
+    mode: Mode
+    flags: Sequence[str]
+    clients: int
+
+
+def counted(tool: Tool, place: Place, run: Run, requests: int) -> int:
+    """What a tool counts while each client gets answers to `requests` requests."""
     words = [*tool.words, program_file()]
-    with running_switch(words, place, (*CONCURRENCY, *flags)) as switch:
-        ask(place.port, requests, mode)
+    with running_switch(words, place, (*CONCURRENCY, *run.flags)) as switch:
+        ask(place.port, run.clients, requests, run.mode)
         switch.quit()
     return tool.count_in((place.folder / COUNTED).read_text(encoding="utf-8"))
 
 
-def between(counts: Sequence[int]) -> float:
-    """The cost of a request, by the counts of the two runs."""
+def between(counts: Sequence[int], clients: int) -> float:
+    """The cost of a request, by the counts of the two runs with so many clients."""
     few, many = counts
-    return (many - few) / (REQUESTS[1] - REQUESTS[0])
+    return (many - few) / (clients * (REQUESTS[1] - REQUESTS[0]))
 
 
-def cost_of_request(tool: Tool, place: Place, mode: Mode, flags: Sequence[str]) -> float:
-    """What a request costs in a mode of the switch, whose flags these are."""
-    return between([counted(tool, place, mode, flags, requests) for requests in REQUESTS])
+def cost_of_request(tool: Tool, place: Place, run: Run) -> float:
+    """What a request costs in a run."""
+    counts = [counted(tool, place, run, requests) for requests in REQUESTS]
+    return between(counts, run.clients)

@@ -59,7 +59,7 @@ def asked_for(words: Sequence[str], documentation: str) -> argparse.Namespace:
     add("--connections", type=wholes, default="8,64,256,1024", metavar="N,..", help="clients")
     add("--delays", type=delays, default="0,0.1", metavar="S,..", help="of the endpoint")
     add("--concurrency", type=wholes, default="8,1023", metavar="N,..", help="of the switch")
-    add("--threads", type=whole, default=2, metavar="N", help="threads or workers of a peer")
+    add("--threads", type=whole, default=2, metavar="N", help="threads or workers of each proxy")
     asked = "those that are measured"
     names = ",".join(PROXIES)
     add("--proxies", type=names_of(PROXIES), default=names, metavar="NAME,..", help=asked)
