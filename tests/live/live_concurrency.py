@@ -228,23 +228,27 @@ def threads_and_memory() -> None:
 
 def number_of_loops() -> None:
     """The words say how many event loops the active port has, each in a thread of its own. Without
-    them it has as many as the program has processors. The preview port has one."""
+    them it has as many as the program has processors, but at most one for each four requests at a
+    time. The preview port has one."""
     own = sorted(os.sched_getaffinity(0))
-    check_loops(own, 1, "--threads", "1")
-    check_loops(own, 7, "--threads=7")
-    check_loops(own[:1], MOST_LOOPS, "--threads", str(MOST_LOOPS))
-    check_loops(own[:1], 1)
-    check_loops(own, min(len(own), quota(), MOST_LOOPS))
+    usual = min(len(own), quota(), MOST_LOOPS)
+    check_loops(own, 1, 8, "--threads", "1")
+    check_loops(own, 7, 8, "--threads=7")
+    check_loops(own[:1], MOST_LOOPS, 8, "--threads", str(MOST_LOOPS))
+    check_loops(own[:1], 1, 256)
+    check_loops(own, usual, 256)
+    check_loops(own, min(usual, 2), 11)
+    check_loops(own, 1, 3)
 
 
-def check_loops(processors: Sequence[int], loops: int, *words: str) -> None:
+def check_loops(processors: Sequence[int], loops: int, concurrency: int, *words: str) -> None:
     """Checks the number of threads of a switch with these words, which runs on these processors."""
-    name = " ".join(words) or f"{len(processors)} processors"
+    name = " ".join((f"{len(processors)} processors, concurrency {concurrency}", *words))
     with serving(
         Gate(),
         MANY,
         "--concurrency",
-        "8",
+        str(concurrency),
         *words,
         prepare=lambda: os.sched_setaffinity(0, processors),
     ) as switch:
