@@ -102,8 +102,10 @@ pub(crate) fn dial_for(
         persistence: route.persistence,
         is_idempotent: is_idempotent(&request),
     };
-    let dialing = DialingRequest::new(alloc, &request, (front, terms), route.timeouts, now);
-    (EndpointSide::Dialing(request, dialing), true)
+    match DialingRequest::new(alloc, &request, (front, terms), route.timeouts, now) {
+        Ok(dialing) => (EndpointSide::Dialing(request, dialing), true),
+        Err(_) => (EndpointSide::Entered(request), false),
+    }
 }
 
 /// A request that is dialled for, as it is dialled for at another endpoint, if it may be and if there was memory for its text,

@@ -1,16 +1,16 @@
 -- What bytes that came make of a request that is forwarded.
-use Rattle.std.proofs.Common.{◌≡◌, ◌&&◌, ◌||◌, ◌∙◌, ℕ, Bool, not, List, [], ◌∷◌, ◌++◌, refl, sym, ap, subst, Ok}
+use Rattle.std.proofs.Common.{◌≡◌, ◌&&◌, ◌||◌, ◌∙◌, ℕ, Bool, true, false, not, List, [], ◌∷◌, ◌++◌, refl, sym, ap, subst, Ok}
 use Rattle.bg_http.specs.Codings.{is_empty}
 use Rattle.bg_http.specs.declared.request.Request.{Request}
-use Rattle.bg_http.specs.declared.response_fault.ResponseFault.{ResponseFault}
-use Rattle.bg_http_read.specs.ResponseStates.{IsReceived, IsRefused, NeedsMore, ResponseState}
+use Rattle.bg_http_read.specs.ResponseStates.{IsReceived}
 use Rattle.bg_http_read.specs.declared.received_response.ReceivedResponse.{ReceivedResponse}
 use Rattle.bg_endpoint_side.specs.Dialing.{Forwarded}
-use Rattle.bg_endpoint_side.specs.Forwarding.{IsDecided, may_stay, renew_if, with_bytes}
-use Rattle.bg_endpoint_side.specs.Outcomes.{health_of, refused}
+use Rattle.bg_endpoint_side.specs.EndpointRequests.{IsForwardedSoundly, forwarded_of}
+use Rattle.bg_endpoint_side.specs.Forwarding.{IsDecided, may_stay, renew_if}
+use Rattle.bg_endpoint_side.specs.Outcomes.{health_of}
 use Rattle.bg_endpoint_side.specs.OutgoingTexts.{Outgoing}
 use Rattle.bg_endpoint_side.specs.declared.connection_state.ConnectionState.{ConnectionState}
-use Rattle.bg_endpoint_side.specs.declared.outcome.ForwardFault.TheVariants as fault
+use Rattle.bg_endpoint_side.specs.declared.endpoint_request.EndpointRequest.{EndpointRequest}
 use Rattle.bg_endpoint_side.specs.declared.outcome.Health.{Health}
 use Rattle.bg_endpoint_side.specs.declared.outcome.Outcome.{Outcome}
 
@@ -22,17 +22,16 @@ come_more (byte ∷ seen) bytes = refl
 abbrev pub forwarded_as : Request → Outgoing → List ℕ → ConnectionState → Forwarded
 forwarded_as request text seen state = record { request = request; text = text; came = seen; state = state }
 
-pub more_came : (before after : ResponseState) (text : Outgoing) (state : ConnectionState) (self next : Forwarded)
-    (bytes : List ℕ) (now : ℕ) → forwarded_as before.request text before.seen state ≡ self
-    → after ≡ record before { seen = before.seen ++ bytes }
-    → next ≡ renew_if (not (is_empty bytes)) (forwarded_as after.request text after.seen state) now
-    → NeedsMore before.request (before.seen ++ bytes)
-    → (next ≡ with_bytes self bytes now) × NeedsMore self.request (self.came ++ bytes)
-more_came before after text state self next bytes now is grown renewed needs =
-    let at : next ≡ with_bytes (forwarded_as before.request text before.seen state) bytes now =
-    renewed
-    ∙ ap (λ (p : ResponseState). renew_if (not (is_empty bytes)) (forwarded_as p.request text p.seen state) now) grown in
-    subst (λ (f : Forwarded). (next ≡ with_bytes f bytes now) × NeedsMore f.request (f.came ++ bytes)) is (at, needs)
+-- something happened, if it did: that renews timeouts alone
+pub still_sound : (before after : EndpointRequest) (happened : Bool) (now : ℕ)
+    → after ≡ record before { state = (renew_if happened (forwarded_of before) now).state }
+    → IsForwardedSoundly before → IsForwardedSoundly after
+still_sound before after happened now renewed sound =
+    subst IsForwardedSoundly (sym renewed) (sound.0, sound.1, sound.2, sound.3, once happened ∙ sound.4) where
+      once : (happened : Bool) → ((renew_if happened (forwarded_of before) now).state.is_kept
+          && (renew_if happened (forwarded_of before) now).state.is_again) ≡ (before.state.is_kept && before.state.is_again)
+      once true = refl
+      once false = refl
 
 pub answered_now : (request : Request) (text : Outgoing) (seen : List ℕ) (state : ConnectionState) (self : Forwarded)
     (bytes : List ℕ) (received : ReceivedResponse) (stays : Bool) (health : Health) (outcome : Outcome)
@@ -47,19 +46,5 @@ answered_now request text seen state self bytes received stays health outcome is
       left = got.0;
       answers = got.1;
       goes_back_is = ap (λ drained. drained && stays) got.2 ∙ ap (λ stay. is_empty got.0 && stay) may;
-      health_is = told;
-    }))
-
-pub refused_now : (request : Request) (text : Outgoing) (seen : List ℕ) (state : ConnectionState) (self : Forwarded)
-    (bytes : List ℕ) (why : ResponseFault) (health : Health) (outcome : Outcome)
-    → forwarded_as request text seen state ≡ self → IsRefused request why (seen ++ bytes)
-    → health ≡ health_of (seen ++ bytes) → outcome ≡ refused (fault.Response why) health
-    → IsDecided self (self.came ++ bytes) outcome
-refused_now request text seen state self bytes why health outcome is fails told made =
-    subst (λ (f : Forwarded). IsDecided f (f.came ++ bytes) outcome) is
-    (subst (IsDecided (forwarded_as request text seen state) (seen ++ bytes)) (sym made) (record {
-      left = [];
-      answers = (why, refl, fails);
-      goes_back_is = refl;
       health_is = told;
     }))

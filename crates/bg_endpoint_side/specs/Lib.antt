@@ -1,5 +1,6 @@
 pub mod Deadlines
 pub mod Dialing
+pub mod EndpointRequests
 pub mod Forwarding
 pub mod KeptLists
 pub mod KeptRuns

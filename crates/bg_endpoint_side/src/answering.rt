@@ -7,10 +7,8 @@ ghost use Rattle.bg_http.specs.Removed.{says_close as has_close};
 ghost use Rattle.bg_endpoint_side.specs.Outcomes.{told};
 ghost use Rattle.bg_endpoint_side.specs.Versions.{is_whole};
 
-use crate::connection_state::ConnectionState;
+use crate::endpoint_request::EndpointRequest;
 use crate::outcome::{Health, Outcome};
-use crate::outgoing_text::OutgoingText;
-use crate::version::VersionMatch;
 use bg_http::{Persistence, Response, says_close};
 use bg_http_read::ReceivedResponse;
 
@@ -40,20 +38,16 @@ pub(crate) fn has_come_with(has_come: bool, bytes: &[u8]) -> bool
 }
 
 /// Whether the connection may be kept after a response: the whole text was written, and neither side ends it (RFC 9112
-/// section 9.3). `version` is that of the bytes that came.
-pub(crate) fn may_stay(
-    text: &OutgoingText,
-    state: ConnectionState,
-    version: VersionMatch,
-    response: &Response,
-) -> bool
-    ensures { result ≡ (is_empty text.now.rest && keeps state.terms.persistence && not state.is_ending
-        && is_whole (option_copied version.left) && not (has_close response.now.fields)) }
+/// section 9.3).
+pub(crate) fn may_stay(request: &EndpointRequest, response: &Response) -> bool
+    ensures { result ≡ (is_empty request.now.text.rest && keeps request.now.state.terms.persistence
+        && not request.now.state.is_ending && is_whole (option_copied request.now.version.left)
+        && not (has_close response.now.fields)) }
 {
-    text.is_sent()
-        && state.terms.persistence == Persistence::Keep
-        && !state.is_ending
-        && version.is_whole()
+    request.text.is_sent()
+        && request.state.terms.persistence == Persistence::Keep
+        && !request.state.is_ending
+        && request.version.is_whole()
         && !says_close(&response.fields)
 }
 

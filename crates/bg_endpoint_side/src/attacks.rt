@@ -92,7 +92,7 @@ fn begin(alloc: Global, request: &Request, is_kept: bool) -> Option<ForwardedReq
         is_idempotent: is_idempotent(request),
     };
     let text = Vec::from_slice(alloc, TEXT).ok()?;
-    let dialing = DialingRequest::new(alloc, request, (text, terms), TIMEOUTS, 0);
+    let dialing = DialingRequest::new(alloc, request, (text, terms), TIMEOUTS, 0).ok()?;
     if is_kept && dialing.is_unsent() {
         return Some(dialing.on_kept(0));
     }

@@ -1,5 +1,5 @@
 //! A request that is dialled for.
-ghost use Rattle.std.specs.Prelude.{◌≡◌, ◌&&◌, ◌++◌, IsTrue, false, nat_le, not, true};
+ghost use Rattle.std.specs.Prelude.{◌≡◌, ◌&&◌, ◌++◌, IfOk, IsTrue, false, nat_le, not, true};
 ghost use Rattle.bg_endpoint_side.specs.Deadlines.{deadlines_from};
 ghost use Rattle.bg_endpoint_side.specs.Dialing.{begins_on, elsewhere, may_go_elsewhere};
 ghost use Rattle.bg_endpoint_side.specs.OutgoingTexts.{uncopied_body as uncopied_of};
@@ -8,35 +8,27 @@ ghost use Rattle.bg_endpoint_side.specs.declared.outcome.Health.TheVariants as h
 
 use crate::connection_state::ConnectionState;
 use crate::deadlines::{DIAL_MILLIS, Deadlines, Timeouts, WRITE_MILLIS};
+use crate::endpoint_request::EndpointRequest;
 use crate::forwarded_request::ForwardedRequest;
 use crate::outcome::{DialFault, ForwardFault, GivingUp, Health, Outcome};
 use crate::outgoing_text::OutgoingText;
 use crate::terms::Terms;
+use crate::version::VersionMatch;
 use bg_http::Request;
 use bg_http_read::ResponseParser;
-use std::alloc::Global;
+use std::alloc::{AllocError, Global};
 use std::marker::Model;
 
 /// A request that waits for a connection to its endpoint. Nothing of it was written to that connection.
 pub struct DialingRequest {
-    /// The parser of its response, which was fed nothing.
-    pub(crate) parser: ResponseParser,
-    pub(crate) text: OutgoingText,
-    pub(crate) terms: Terms,
-    pub(crate) deadlines: Deadlines,
-    pub(crate) is_again: bool,
+    /// Its parser was fed nothing. What is said there of a connection has no meaning yet.
+    pub(crate) boxed: Box<EndpointRequest>,
 }
 
 impl Drop for DialingRequest {
     /// Drops the fields by one call, so that the proofs of what owns a value are short (CONTRIBUTING.md, "What a check costs").
     fn drop(self) {
-        let DialingRequest {
-            parser: _,
-            text: _,
-            terms: _,
-            deadlines: _,
-            is_again: _,
-        } = self;
+        let DialingRequest { boxed: _ } = self;
     }
 }
 
@@ -48,50 +40,62 @@ impl Model for DialingRequest {
     ghost Value = { Dialing };
 
     ghost view = { λ r. record {
-      request = r.parser.request;
-      text = r.text.rest;
-      terms = r.terms;
-      deadlines = r.deadlines;
-      is_again = r.is_again;
+      request = r.boxed.value.parser.request;
+      text = r.boxed.value.text.rest;
+      terms = r.boxed.value.state.terms;
+      deadlines = r.boxed.value.state.deadlines;
+      is_again = r.boxed.value.state.is_again;
     } };
 
-    ghost invariant = { λ r. IsTrue r.parser.is_open × (r.parser.seen ≡ []) × (r.text.sent ≡ [])
-        × (r.text.uncopied ≡ uncopied_body r.parser.request) };
+    ghost invariant = { λ r. IsTrue r.boxed.value.parser.is_open × (r.boxed.value.parser.seen ≡ [])
+        × (r.boxed.value.text.sent ≡ [])
+        × (r.boxed.value.text.uncopied ≡ uncopied_body r.boxed.value.parser.request) };
 }
 
 impl DialingRequest {
     /// A request that is dialled for from now on, in milliseconds from the start of the program. What is written to its
-    /// endpoint are the bytes of `outgoing` and then [`uncopied_body`]. Its response is read as the one to `request`.
+    /// endpoint are the bytes of `outgoing` and then [`uncopied_body`]. Its response is read as the one to `request`. The only
+    /// error is an allocation failure.
     pub fn new(
         alloc: Global,
         request: &Request,
         outgoing: (Vec<u8>, Terms),
         timeouts: Timeouts,
         now: u64,
-    ) -> DialingRequest
-        ensures { result ≡ record {
+    ) -> Result<DialingRequest, AllocError>
+        ensures { IfOk result (λ dialing. dialing ≡ record {
           request = request.now;
           text = outgoing.0.items ++ uncopied_of request.now;
           terms = outgoing.1;
           deadlines = deadlines_from timeouts now;
           is_again = false;
-        } }
+        }) }
     {
         let (front, terms) = outgoing;
-        DialingRequest {
+        let boxed = EndpointRequest {
             parser: ResponseParser::new(alloc, request),
             text: OutgoingText::new(front, request),
-            terms,
-            deadlines: Deadlines::new(timeouts, now),
-            is_again: false,
-        }
+            version: VersionMatch::new(),
+            has_come: false,
+            state: ConnectionState {
+                terms,
+                deadlines: Deadlines::new(timeouts, now),
+                is_kept: false,
+                is_again: false,
+                is_unread: false,
+                is_ending: false,
+            },
+        };
+        Ok(DialingRequest {
+            boxed: Box::new(alloc, boxed)?,
+        })
     }
 
     /// What the request means for its connection.
     pub fn terms(&self) -> Terms
         ensures { result ≡ self.now.terms }
     {
-        self.terms
+        self.boxed.state.terms
     }
 
     /// Whether it was sent on no connection before. If it was sent on one that was kept, a new connection to the same
@@ -99,14 +103,14 @@ impl DialingRequest {
     pub fn is_unsent(&self) -> bool
         ensures { result ≡ not self.now.is_again }
     {
-        !self.is_again
+        !self.boxed.state.is_again
     }
 
     /// Whether its dial, or its response, has timed out.
     pub fn is_late(&self, now: u64) -> bool
         ensures { result ≡ nat_le self.now.deadlines.until now }
     {
-        self.deadlines.until <= now
+        self.boxed.state.deadlines.until <= now
     }
 
     /// A new connection was made for it.
@@ -129,22 +133,17 @@ impl DialingRequest {
         requires { (is_kept && self.is_again) ≡ false }
         ensures { result ≡ begins_on is_kept self now }
     {
-        let DialingRequest {
-            parser,
-            text,
-            terms,
-            deadlines,
-            is_again,
-        } = self;
-        let state = ConnectionState {
-            terms,
-            deadlines: deadlines.renewed(WRITE_MILLIS, now),
+        let DialingRequest { mut boxed } = self;
+        boxed.version = VersionMatch::new();
+        boxed.has_come = false;
+        boxed.state = ConnectionState {
+            deadlines: boxed.state.deadlines.renewed(WRITE_MILLIS, now),
             is_kept,
-            is_again,
             is_unread: false,
             is_ending: false,
+            ..boxed.state
         };
-        ForwardedRequest::new(parser, text, state)
+        ForwardedRequest { boxed }
     }
 
     /// Whether another endpoint may be dialled for it: it was sent on no connection before, and the timeout of its response
@@ -152,7 +151,7 @@ impl DialingRequest {
     pub fn may_go_elsewhere(&self, now: u64) -> bool
         ensures { result ≡ may_go_elsewhere self.now now }
     {
-        self.is_unsent() && now < self.deadlines.last
+        self.is_unsent() && now < self.boxed.state.deadlines.last
     }
 
     /// The dial gave no connection, and another endpoint is dialled from now on: with the text that begins with these bytes,
@@ -161,21 +160,12 @@ impl DialingRequest {
         requires { IsTrue (not self.is_again) }
         ensures { result ≡ elsewhere self (outgoing.0.items ++ uncopied_of self.request) outgoing.1 now }
     {
-        let DialingRequest {
-            parser,
-            text,
-            terms: _,
-            deadlines,
-            is_again,
-        } = self;
+        let DialingRequest { mut boxed } = self;
         let (front, terms) = outgoing;
-        DialingRequest {
-            parser,
-            text: text.with_front(front),
-            terms,
-            deadlines: deadlines.renewed(DIAL_MILLIS, now),
-            is_again,
-        }
+        boxed.text.begin_with(front);
+        boxed.state.terms = terms;
+        boxed.state.deadlines = boxed.state.deadlines.renewed(DIAL_MILLIS, now);
+        DialingRequest { boxed }
     }
 
     /// The dial gave no connection.

@@ -8,6 +8,7 @@ mod attacks;
 mod connection_state;
 mod deadlines;
 mod dialing_request;
+mod endpoint_request;
 mod forwarded_request;
 mod kept_connections;
 pub mod laws;

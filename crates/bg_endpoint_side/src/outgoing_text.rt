@@ -57,16 +57,16 @@ impl OutgoingText {
         }
     }
 
-    /// A text that begins with these bytes, has the end of this text, and of which nothing was written.
-    pub(crate) fn with_front(self, front: Vec<u8>) -> OutgoingText
-        ensures { result ≡ record { sent = []; rest = front.items ++ self.uncopied; uncopied = self.uncopied } }
+    /// The text begins with these bytes from now on. Its end stays, and nothing of it was written.
+    pub(crate) fn begin_with(&mut self, front: Vec<u8>)
+        ensures { self.new ≡ record {
+          sent = [];
+          rest = front.items ++ self.old.uncopied;
+          uncopied = self.old.uncopied;
+        } }
     {
-        OutgoingText {
-            front,
-            request: self.request,
-            uncopied_count: self.uncopied_count,
-            written: 0,
-        }
+        self.front = front;
+        self.written = 0;
     }
 
     /// A piece of what is still to be written. `uncopied` is the end of the text, which is not copied.

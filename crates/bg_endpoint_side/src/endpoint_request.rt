@@ -1,0 +1,109 @@
+//! What a request has at its endpoint.
+ghost use Rattle.std.specs.Prelude.{◌≡◌, ◌++◌, IfNone, IfSome, not};
+ghost use Rattle.bg_http.specs.Codings.{is_empty};
+ghost use Rattle.bg_http_read.specs.ResponseStates.{NeedsMore};
+ghost use Rattle.bg_endpoint_side.specs.EndpointRequests.{IsForwardedSoundly, forwarded_of};
+ghost use Rattle.bg_endpoint_side.specs.Forwarding.{IsDecided, patience, renew_if, to_write, with_bytes};
+
+use crate::answering::{answered, has_bytes, has_come_with, health_of, may_stay};
+use crate::connection_state::ConnectionState;
+use crate::deadlines::WRITE_MILLIS;
+use crate::outcome::{ForwardFault, Outcome};
+use crate::outgoing_text::OutgoingText;
+use crate::version::VersionMatch;
+use bg_http_read::ResponseParser;
+
+/// What a request has at its endpoint. It is large, and each event moves a request from one value into the next one. So both kinds of
+/// request keep it in a box, and an event moves no more than that.
+pub(crate) struct EndpointRequest {
+    pub(crate) parser: ResponseParser,
+    pub(crate) text: OutgoingText,
+    /// How far the response begins with the version by which a connection is kept.
+    pub(crate) version: VersionMatch,
+    /// Whether a byte came.
+    pub(crate) has_come: bool,
+    pub(crate) state: ConnectionState,
+}
+
+impl Drop for EndpointRequest {
+    /// Drops the fields by one call, so that the proofs of what owns a value are short (CONTRIBUTING.md, "What a check costs").
+    fn drop(self) {
+        let EndpointRequest {
+            parser: _,
+            text: _,
+            version: _,
+            has_come: _,
+            state: _,
+        } = self;
+    }
+}
+
+impl EndpointRequest {
+    /// The parser of the response.
+    pub(crate) fn into_parser(self) -> ResponseParser
+        ensures { result ≡ self.parser }
+    {
+        let EndpointRequest {
+            parser,
+            text: _,
+            version: _,
+            has_come: _,
+            state: _,
+        } = self;
+        parser
+    }
+
+    /// Bytes came of the response. Gives what the request comes to, if it is over.
+    pub(crate) fn receive(&mut self, bytes: &[u8], now: u64) -> Option<Outcome>
+        requires { IsForwardedSoundly self.old }
+        ensures sound { IfNone result (IsForwardedSoundly self.new) }
+        ensures goes_on { IfNone result ((forwarded_of self.new ≡ with_bytes (forwarded_of self.old) bytes.now now)
+            × NeedsMore self.old.parser.request (self.old.parser.seen ++ bytes.now)) }
+        ensures over { IfSome result (λ outcome.
+            IsDecided (forwarded_of self.old) (self.old.parser.seen ++ bytes.now) outcome) }
+    {
+        self.has_come = has_come_with(self.has_come, bytes);
+        self.version = self.version.after(bytes);
+        match self.parser.receive(bytes) {
+            Ok(None) => {
+                self.renew_if(has_bytes(bytes), now);
+                None
+            }
+            Ok(Some(received)) => {
+                let may_stay = may_stay(self, &received.response);
+                Some(answered(received, may_stay, health_of(self.has_come)))
+            }
+            Err(fault) => Some(Outcome::refused(
+                ForwardFault::Response(fault),
+                health_of(self.has_come),
+            )),
+        }
+    }
+
+    /// Whether nothing is to be written now.
+    pub(crate) fn writes_nothing(&self) -> bool
+        ensures { result ≡ is_empty (to_write (forwarded_of self.now)) }
+    {
+        self.state.is_unread || self.text.is_sent()
+    }
+
+    /// The time, in milliseconds, in which something must happen.
+    fn patience(&self) -> u64
+        ensures { result ≡ patience (forwarded_of self.now) }
+    {
+        if self.writes_nothing() {
+            self.state.deadlines.idle
+        } else {
+            WRITE_MILLIS
+        }
+    }
+
+    /// The same after something happened now, if it did.
+    pub(crate) fn renew_if(&mut self, has_happened: bool, now: u64)
+        ensures { self.new ≡ record self.old { state = (renew_if has_happened (forwarded_of self.old) now).state } }
+    {
+        if has_happened {
+            self.state.deadlines = self.state.deadlines.renewed(self.patience(), now);
+        }
+    }
+}
