@@ -363,28 +363,32 @@ def unasked_bytes_later() -> None:
 
 def unasked_bytes_in_a_round() -> None:
     """A kept connection on which unasked bytes come in the very round in which it would be used again
-    carries no request."""
-    answers = (answer_after_unasked_bytes() for _ in range(ROUNDS))
-    check(
-        "an answer after unasked bytes of the same round",
-        next((one for one in answers if one is not None), None),
-        response(echo(b"/next")),
-    )
+    carries no request, whether one request enters or several."""
+    for others in (0, 2):
+        answers = (answer_after_unasked_bytes(others) for _ in range(ROUNDS))
+        check(
+            f"an answer after unasked bytes of the same round, with {others} other requests",
+            next((one for one in answers if one is not None), None),
+            response(echo(b"/next")),
+        )
 
 
-def answer_after_unasked_bytes() -> bytes | None:
+def answer_after_unasked_bytes(others: int) -> bytes | None:
     """What a client is answered if unasked bytes come on the kept connection to the endpoint after the
-    events of a round were taken, and before its request enters; None if the round was too short.
-    """
+    events of a round were taken, and before its request enters with so many others behind it; None if
+    the round was too short."""
     with running(KEEP) as event_loop, contextlib.ExitStack() as stack:
         client, refused = (stack.enter_context(KeptClient(event_loop.port)) for _ in range(2))
+        behind = [stack.enter_context(KeptClient(event_loop.port)) for _ in range(others)]
         busy = [stack.enter_context(connect(event_loop.port)) for _ in range(BUSY)]
         check("before a round", client.answer_to(request(SENDS_LATER)), response(SENDS_LATER))
-        check("all clients are accepted", event_loop.has_read(2 + BUSY), True)
+        check("all clients are accepted", event_loop.has_read(2 + others + BUSY), True)
         event_loop.pause()
         # the events of one round, in their order
         refused.send(b"BAD\r\n\r\n")
         client.send(request(b"/next"))
+        for other in behind:
+            other.send(request(b"/behind"))
         for one in busy:
             one.sendall(UPLOAD)
         event_loop.go_on()
@@ -396,6 +400,8 @@ def answer_after_unasked_bytes() -> bytes | None:
         check("unasked bytes come", event_loop.endpoint.has_sent_later(), True)
         event_loop.go_on()
         answered = client.answer()
+        for other in behind:
+            check("a request behind it", other.answer(), response(echo(b"/behind")))
     return answered if is_in_time else None
 
 

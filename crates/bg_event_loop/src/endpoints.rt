@@ -24,6 +24,8 @@ pub(crate) struct Endpoints<'a, P> {
     settings: EndpointSettings,
     connections: Slots<Endpoint>,
     kept: KeptConnections,
+    /// Whether all events were noted just now, so that each kept connection on which something has come was closed.
+    pub(crate) are_noted: bool,
 }
 
 impl<'a, P: EndpointPorts> Endpoints<'a, P> {
@@ -40,6 +42,7 @@ impl<'a, P: EndpointPorts> Endpoints<'a, P> {
             settings,
             connections: Slots::new(alloc),
             kept: KeptConnections::new(alloc, settings.most_kept)?,
+            are_noted: false,
         })
     }
 
@@ -51,6 +54,11 @@ impl<'a, P: EndpointPorts> Endpoints<'a, P> {
 
     pub(crate) fn get(&self, key: usize) -> Option<&Endpoint> {
         self.connections.get(key)
+    }
+
+    /// Whether a connection is kept for a further request.
+    pub(crate) fn has_kept(&self) -> bool {
+        !self.kept.get().is_empty()
     }
 
     /// Whether there is no connection.
@@ -69,7 +77,7 @@ impl<'a, P: EndpointPorts> Endpoints<'a, P> {
         for _ in 0..self.kept.get().len() {
             let key = self.kept.take(port)?.key;
             if let Some(endpoint) = self.connections.get_mut(key)
-                && endpoint.is_silent()
+                && (self.are_noted || endpoint.is_silent())
             {
                 endpoint.client = Some(client);
                 return Some(key);

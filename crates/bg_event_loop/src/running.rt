@@ -92,7 +92,7 @@ fn serve_clients<N: Names, R: Clock + Wait, G: Gate<N>, P: EndpointPorts, L: Req
             swept = connections.now;
             connections.sweep();
         }
-        serve_round(context, &mut connections, seats);
+        serve_round(rt, context, &mut connections, events.as_mut_slice(), seats);
         connections.pass_on();
         connections.regulate();
         connections.reuse_keys();
@@ -115,13 +115,13 @@ fn watch_port<P: EndpointPorts, L: RequestLog>(
     }
 }
 
-/// Waits for events for so many milliseconds at most, and notes as many as there is room for.
+/// Waits for events for so many milliseconds at most, and notes as many as there is room for. Gives whether these are all.
 fn note_events<R: Clock, P: EndpointPorts, L: RequestLog>(
     rt: &R,
     connections: &mut EventLoop<'_, P, L>,
     events: &mut [EpollEvent],
     millis: i32,
-) {
+) -> bool {
     let count = connections.set.wait(events, millis);
     connections.end_wait();
     connections.now = connections.port.now(rt);
@@ -134,18 +134,34 @@ fn note_events<R: Clock, P: EndpointPorts, L: RequestLog>(
     } else if connections.port.is_closed() {
         connections.unwatch_listener();
     }
+    count < events.len()
 }
 
 /// Serves the clients that are to be served, lets requests enter, and begins to forward them.
-fn serve_round<N: Names, G: Gate<N>, P: EndpointPorts, L: RequestLog>(
+fn serve_round<N: Names, R: Clock, G: Gate<N>, P: EndpointPorts, L: RequestLog>(
+    rt: &R,
     context: &LoopContext<'_, G, P, L>,
     connections: &mut EventLoop<'_, P, L>,
+    events: &mut [EpollEvent],
     seats: &mut [Seat<N>],
 )
     ensures { AllUsed seats.old seats.new }
 {
     serve_due(context, connections, seats);
+    note_before_entering(rt, connections, events);
     admit_and_serve(context, connections, seats);
+}
+
+/// Notes what has come since the last events, if several requests are to enter, so that kept connections on which something has
+/// come carry none of them. For a single request, the connection that it takes is read once instead.
+fn note_before_entering<R: Clock, P: EndpointPorts, L: RequestLog>(
+    rt: &R,
+    connections: &mut EventLoop<'_, P, L>,
+    events: &mut [EpollEvent],
+) {
+    if connections.queue.waiting() > 1 && connections.endpoints.has_kept() {
+        connections.endpoints.are_noted = note_events(rt, connections, events, 0);
+    }
 }
 
 /// Lets requests enter, and serves the clients that are to be served then.
@@ -157,6 +173,7 @@ fn admit_and_serve<N: Names, G: Gate<N>, P: EndpointPorts, L: RequestLog>(
     ensures { AllUsed seats.old seats.new }
 {
     admit(context, connections, seats);
+    connections.endpoints.are_noted = false;
     serve_due(context, connections, seats);
 }
 
