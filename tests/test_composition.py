@@ -13,6 +13,7 @@ from bg_switch_tools.controller.plan.plan import Analyses, Health, Plan, Planned
 from bg_switch_tools.controller.rounds.composition import Makers, files_beside, make_controller
 from bg_switch_tools.controller.rounds.controller import Controller
 from bg_switch_tools.switch.connection import Connection
+from bg_switch_tools.switch.control import HOST
 from bg_switch_tools.switch.lines import Deploy, Line
 from bg_switch_tools.switch.replies import Done, Reply
 from bg_switch_tools.switch.reports import Report
@@ -29,7 +30,7 @@ class FakeProbes(Probes):
         self.down = down
         self.ports: list[int] = []
 
-    def watch(self, ports: object, health: Health) -> None:
+    def watch(self, ports: object, health: Health, address: str = HOST) -> None:
         assert isinstance(ports, list)
         self.ports = sorted(set(ports))
 

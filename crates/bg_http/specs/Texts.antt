@@ -4,6 +4,8 @@ use Rattle.std.specs.Fmt.{decimal}
 use Rattle.bg_http.specs.Elements.{Field, has_field}
 use Rattle.bg_http.specs.Removed.{kept_in_request, kept_in_response}
 use Rattle.bg_http.specs.ResponseRules.{has_no_body}
+use Rattle.bg_http.specs.declared.body_end.BodyEnd.{BodyEnd}
+use Rattle.bg_http.specs.declared.body_end.BodyEnd.TheVariants as end
 use Rattle.bg_http.specs.declared.request.Request.{Request}
 use Rattle.bg_http.specs.declared.response.Response.{Response}
 
@@ -65,6 +67,17 @@ abbrev pub length_line : Option (List ℕ) → List ℕ
 length_line None = []
 length_line (Some digits) = digits_line digits
 
+-- how the body ends: by the Content-Length, if there is one, or in chunks
+abbrev pub body_end_line : BodyEnd → Option (List ℕ) → List ℕ
+body_end_line end.Length given = length_line given
+body_end_line end.Chunks given = codes "Transfer-Encoding: chunked\r\n"
+
+-- the head of a response as it is forwarded to the client, on a connection that is kept or not
+abbrev pub response_head_text : Bool → BodyEnd → Response → List ℕ
+response_head_text keeps named response =
+    status_line response ++ flat_map field_line (kept_in_response response.fields)
+    ++ body_end_line named response.length ++ end_of_head keeps
+
 -- the body; none to HEAD and for 204 and 304
 abbrev pub body_sent : Request → Response → List ℕ
 body_sent request response = if has_no_body request response.code then [] else response.body
@@ -72,8 +85,7 @@ body_sent request response = if has_no_body request response.code then [] else r
 -- a response as it is forwarded to the client, on a connection that is kept or not
 abbrev pub response_text : Bool → Request → Response → List ℕ
 response_text keeps request response =
-    status_line response ++ flat_map field_line (kept_in_response response.fields)
-    ++ length_line response.length ++ end_of_head keeps ++ body_sent request response
+    response_head_text keeps end.Length response ++ body_sent request response
 
 -- the reason of a refusal (RFC 9110 section 15, RFC 6585 section 5)
 abbrev pub reason_of : ℕ → List ℕ

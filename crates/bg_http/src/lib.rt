@@ -6,6 +6,7 @@
 #![tactic(auto)]
 
 mod accept;
+mod body_end;
 mod bytes;
 mod codings;
 mod elements;
@@ -29,6 +30,7 @@ mod response_rules;
 mod stream;
 mod writers;
 
+pub use body_end::BodyEnd;
 pub use bytes::Bytes;
 pub use error_page::{ErrorPage, page_for, write_error_page};
 pub use field::Field;
@@ -46,4 +48,6 @@ pub use response_rules::{
     MOST_RESPONSE_BODY, ResponseFraming, asks_for_head, judge_response, length_told,
 };
 pub use stream::{Duplex, MOST_TURNS};
-pub use writers::{write_refusal, write_request, write_request_head, write_response};
+pub use writers::{
+    write_refusal, write_request, write_request_head, write_response, write_response_head,
+};

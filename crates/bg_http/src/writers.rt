@@ -9,6 +9,7 @@ ghost use Rattle.bg_http.specs.Removed.{kept_in_request, kept_in_response};
 ghost use Rattle.bg_http.specs.Statuses.{is_refusal};
 ghost use Rattle.bg_http.specs.Texts as spec;
 
+use crate::body_end::BodyEnd;
 use crate::bytes::Bytes;
 use crate::elements::has_field;
 use crate::field::Field;
@@ -169,11 +170,25 @@ pub fn write_response<W: Write>(
     ensures { OnOk result (Appends (W.contents writer.old) (W.contents writer.new)
         (spec.response_text (keeps persistence) request.now response.now)) }
 {
+    write_response_head(response, BodyEnd::Length, persistence, writer)?;
+    write_sent(request, response, writer)
+}
+
+/// Writes the head of a response as [`write_response`] does, up to the empty line before its body. Before a body in chunks it
+/// writes `Transfer-Encoding: chunked` in the place of Content-Length. On Ok it has written exactly this.
+pub fn write_response_head<W: Write>(
+    response: &Response,
+    end: BodyEnd,
+    persistence: Persistence,
+    writer: &mut W,
+) -> io::Result<()>
+    ensures { OnOk result (Appends (W.contents writer.old) (W.contents writer.new)
+        (spec.response_head_text (keeps persistence) end response.now)) }
+{
     write_status_line(response, writer)?;
     write_response_fields(&response.fields, writer)?;
-    write_length(&response.length, writer)?;
-    write_end_of_head(persistence, writer)?;
-    write_sent(request, response, writer)
+    write_body_end(response, end, writer)?;
+    write_end_of_head(persistence, writer)
 }
 
 fn write_status_line<W: Write>(response: &Response, writer: &mut W) -> io::Result<()>
@@ -197,6 +212,17 @@ fn write_response_fields<W: Write>(fields: &Fields, writer: &mut W) -> io::Resul
         }
     }
     Ok(())
+}
+
+/// Writes how the body ends.
+fn write_body_end<W: Write>(response: &Response, end: BodyEnd, writer: &mut W) -> io::Result<()>
+    ensures { OnOk result (Appends (W.contents writer.old) (W.contents writer.new)
+        (spec.body_end_line end response.now.length)) }
+{
+    match end {
+        BodyEnd::Length => write_length(&response.length, writer),
+        BodyEnd::Chunks => writer.write_all(b"Transfer-Encoding: chunked\r\n"),
+    }
 }
 
 /// Writes the Content-Length, if there is one.

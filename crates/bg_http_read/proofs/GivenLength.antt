@@ -61,14 +61,17 @@ one_element digits numbers =
     ap (map trimmed) (slice_split_none is_comma digits (no_commas digits numbers))
     ∙ ap (λ v. v ∷ []) (untrimmed digits (no_blanks digits numbers))
 
+-- fields without the name give no elements
+pub no_elements : (name : List ℕ) (fields : List Field) → has_field name fields ≡ false → elements_named name fields ≡ []
+no_elements name [] h = refl
+no_elements name (f ∷ fields) h =
+    let parts = or_parts (is_named name f) (has_field name fields) h in
+    ap (λ t. (if t then elements f.1 else []) ++ elements_named name fields) parts.0 ∙ no_elements name fields parts.1
+
 -- fields without a Content-Length give none
 pub no_lengths : (fields : List Field) → has_field (codes "content-length") fields ≡ false
     → elements_named (codes "content-length") fields ≡ []
-no_lengths [] h = refl
-no_lengths (f ∷ fields) h =
-    let parts = or_parts (is_named (codes "content-length") f) (has_field (codes "content-length") fields) h in
-    ap (λ t. (if t then elements f.1 else []) ++ elements_named (codes "content-length") fields) parts.0
-    ∙ no_lengths fields parts.1
+no_lengths fields h = no_elements (codes "content-length") fields h
 
 value_without_zeros : (ds : List ℕ) → digits_value 10 (without_zeros ds) ≡ digits_value 10 ds
 value_without_zeros [] = refl

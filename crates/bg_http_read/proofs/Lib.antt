@@ -5,6 +5,7 @@ pub mod ArrivingHeads
 pub mod BodyLoop
 pub mod BodyOrFault
 pub mod ChunkLines
+pub mod ChunkedHeads
 pub mod CopiedHeads
 pub mod DataSteps
 pub mod FaultStays
@@ -19,6 +20,7 @@ pub mod FramedBodies
 pub mod Fronts
 pub mod GivenLength
 pub mod HeadLengths
+pub mod HeadsAlone
 pub mod HeadsFound
 pub mod HeadsOver
 pub mod InterimOrder

@@ -1,5 +1,5 @@
 -- A response that was read, and a refusal, are read as they are written.
-use Rattle.std.proofs.Common.{◌≡◌, ℕ, ◌<◌, ◌≤◌, Bool, true, false, not, ◌&&◌, ◌||◌, ◌==◌, IsFalse, IsTrue, List, [], ◌∷◌, length, refl, ap, sym, ◌∙◌, arith, subst, Option, Some, None, Ok, Err}
+use Rattle.std.proofs.Common.{◌≡◌, ◌⊎◌, inl, inr, ℕ, ◌<◌, ◌≤◌, Bool, true, false, not, ◌&&◌, ◌||◌, ◌==◌, IsFalse, IsTrue, List, [], ◌∷◌, length, refl, ap, sym, ◌∙◌, arith, subst, Option, Some, None, Ok, Err}
 use Rattle.std.specs.Prelude.{codes, All, nat_le, nat_lt, if◌then◌else◌}
 use Rattle.std.specs.Char.{digit_value, is_ascii_digit}
 use Rattle.std.specs.Fmt.{decimal}
@@ -27,7 +27,8 @@ use Rattle.bg_http.specs.declared.response_rules.ResponseFraming.TheVariants as 
 use Rattle.bg_http_read.specs.AnsweredRequests.{refusal}
 use Rattle.bg_http_read.specs.Heads.{ReadsResponseHead}
 use Rattle.bg_http_read.specs.Responses.{IsResponse, ReadsResponse, ReadsResponseBody, length_of_response, most_response_body, names_another}
-use Rattle.bg_http_read.proofs.AnsweredHeads.{IsNumber, IsTold, IsWritable}
+use Rattle.bg_http_read.specs.WrittenHeads.{HasHeadOf, IsLengthOf}
+use Rattle.bg_http_read.proofs.AnsweredHeads.{IsHeadWritable, IsNumber, IsTold, IsWritable}
 use Rattle.bg_http_read.proofs.AnsweredRules.{framing_behind}
 use Rattle.bg_http_read.proofs.FieldTexts.{IsGood, nothing_good, reads_are_good}
 
@@ -111,7 +112,7 @@ told_canonical head = by_test ((head.code == 204) || has_field (codes "transfer-
 
 -- ---- how a response was judged
 
-judged_code : (request : Request) (head : ResponseHead) (named : ResponseFraming)
+pub judged_code : (request : Request) (head : ResponseHead) (named : ResponseFraming)
     → response_framing request head ≡ Ok named → IsFalse (names_another named)
     → (is_bad_code head.code ≡ false) × (is_interim head.code ≡ false)
     × (framing_behind head (has_no_body request head.code) ≡ Ok named)
@@ -198,16 +199,78 @@ no_content false false c e = cc
 
 -- ---- a response that was read
 
+-- the head of a response that was read
+pub came_is_writable : (request : Request) (response : Response) → HasHeadOf request response → IsNumber response.length
+    → IsHeadWritable response
+came_is_writable request response h number = record {
+  digits = subst (λ d. (length d ≡ 3) × AllPass is_ascii_digit d) (sym same) reads.reads.0.digits;
+  value = ap (digits_value 10) same ∙ sym code;
+  reason = subst (AllPass is_value_byte) (sym (h.reason_is ∙ ap (λ t. t.reason) reads.head_is)) reads.reads.0.reason;
+  fields = subst (All IsGood) (sym (h.fields_are ∙ ap (λ t. t.fields) reads.head_is)) (reads_are_good reads.tree.fields reads.reads.0.fields);
+  number = number;
+}
+  where
+    reads : ReadsResponseHead h.came.after h.head h.after
+    reads = h.came.holds.0.reads
+
+    judged : (is_bad_code h.head.code ≡ false) × (is_interim h.head.code ≡ false)
+        × (framing_behind h.head (has_no_body request h.head.code) ≡ Ok h.named)
+    judged = judged_code request h.head h.named h.came.holds.0.judged h.came.holds.1
+
+    code : response.code ≡ digits_value 10 reads.tree.digits
+    code = h.code_is ∙ ap (λ t. t.code) reads.head_is
+
+    high : 200 ≤ digits_value 10 reads.tree.digits
+    high =
+        let late : nat_lt (digits_value 10 reads.tree.digits) 200 ≡ false =
+        subst (λ c. is_interim c ≡ false) (ap (λ t. t.code) reads.head_is) judged.1 in
+        grind (arith, nat_tests)
+
+    same : decimal response.code ≡ reads.tree.digits
+    same =
+        ap decimal code
+        ∙ three_digits reads.tree.digits reads.reads.0.digits.0 (passed_digits reads.tree.digits reads.reads.0.digits.1) high
+
+-- the length that is told is a number
+size_is_number : (request : Request) (head : ResponseHead) (size : ℕ)
+    → framing_behind head (has_no_body request head.code) ≡ Ok (framing.Length size) → IsNumber (Some (decimal size))
+size_is_number request head size behind = by_test (has_no_body request head.code) behind
+  where
+    by_test : (t : Bool) → framing_behind head t ≡ Ok (framing.Length size) → IsNumber (Some (decimal size))
+    by_test true e = cc
+    by_test false e =
+        let fits = sized_size head size e in
+        (decimal_is_IsNumeral size (omega (arith, fits))).0
+
+none_or : (given other : Option (List ℕ)) → (given ≡ None) ⊎ (given ≡ other) → IsNumber other → IsNumber given
+none_or given other (inl none) number = subst IsNumber (sym none) tt
+none_or given other (inr same) number = subst IsNumber (sym same) number
+
+told_is_number : (request : Request) (head : ResponseHead) (named : ResponseFraming) (given : Option (List ℕ))
+    → framing_behind head (has_no_body request head.code) ≡ Ok named → IsLengthOf named head given → IsNumber given
+told_is_number request head (framing.Length size) given behind told =
+    none_or given (Some (decimal size)) told (size_is_number request head size behind)
+told_is_number request head framing.Interim given behind told = none_or given (length_told head) told (told_canonical head).0
+told_is_number request head framing.NoBody given behind told = none_or given (length_told head) told (told_canonical head).0
+told_is_number request head framing.Chunks given behind told = none_or given (length_told head) told (told_canonical head).0
+told_is_number request head framing.ToTheEnd given behind told = none_or given (length_told head) told (told_canonical head).0
+
+pub length_is_number : (request : Request) (response : Response) → (h : HasHeadOf request response)
+    → IsLengthOf h.named h.head response.length → IsNumber response.length
+length_is_number request response h told =
+    told_is_number request h.head h.named response.length
+    (judged_code request h.head h.named h.came.holds.0.judged h.came.holds.1).2 told
+
 pub received_is_writable : (request : Request) (response : Response) (input : List ℕ)
     → ReadsResponse request response input → IsWritable request response
 received_is_writable request response input (rest, h) = record {
-  digits = subst (λ d. (length d ≡ 3) × AllPass is_ascii_digit d) (sym same) reads.reads.0.digits;
-  value = ap (digits_value 10) same ∙ sym code;
-  reason = subst (AllPass is_value_byte) (sym (of.reason_is ∙ ap (λ t. t.reason) reads.head_is)) reads.reads.0.reason;
-  fields = subst (All IsGood) (sym (of.fields_are ∙ ap (λ t. t.fields) reads.head_is)) (reads_are_good reads.tree.fields reads.reads.0.fields);
+  digits = written.digits;
+  value = written.value;
+  reason = written.reason;
+  fields = written.fields;
   sound = subst (λ c. is_bad_code c ≡ false) (sym of.code_is) judged.0;
   final = subst (λ c. is_interim c ≡ false) (sym of.code_is) judged.1;
-  number = number (has_no_body request response.code) refl;
+  number = written.number;
   empty = λ e. (subst (λ n. ReadsResponseBody n after response.body rest) (none e) of.body).0;
   told = λ e. subst IsTold (sym (length_none e)) (told_canonical head).1;
   untold = λ e. length_none (no_content _ (response.code == 204) _ e)
@@ -228,26 +291,9 @@ received_is_writable request response input (rest, h) = record {
     of : IsResponse response head named after rest
     of = h.holds.4
 
-    reads : ReadsResponseHead h.after head after
-    reads = h.holds.3.0.reads
-
     judged : (is_bad_code head.code ≡ false) × (is_interim head.code ≡ false)
         × (framing_behind head (has_no_body request head.code) ≡ Ok named)
     judged = judged_code request head named h.holds.3.0.judged h.holds.3.1
-
-    code : response.code ≡ digits_value 10 reads.tree.digits
-    code = of.code_is ∙ ap (λ t. t.code) reads.head_is
-
-    high : 200 ≤ digits_value 10 reads.tree.digits
-    high =
-        let late : nat_lt (digits_value 10 reads.tree.digits) 200 ≡ false =
-        subst (λ c. is_interim c ≡ false) (ap (λ t. t.code) reads.head_is) judged.1 in
-        grind (arith, nat_tests)
-
-    same : decimal response.code ≡ reads.tree.digits
-    same =
-        ap decimal code
-        ∙ three_digits reads.tree.digits reads.reads.0.digits.0 (passed_digits reads.tree.digits reads.reads.0.digits.1) high
 
     behind : framing_behind head (has_no_body request response.code) ≡ Ok named
     behind = subst (λ c. framing_behind head (has_no_body request c) ≡ Ok named) (sym of.code_is) judged.2
@@ -271,6 +317,19 @@ received_is_writable request response input (rest, h) = record {
     number false e =
         let size = sized e in
         subst IsNumber (sym size.0) (decimal_is_IsNumeral (length response.body) (omega (arith, size.1))).0
+
+    written : IsHeadWritable response
+    written =
+        came_is_writable request response (record {
+          input = input;
+          head = head;
+          named = named;
+          after = after;
+          came = record { count = h.count; few = h.few; after = h.after; skips = h.skips; holds = h.holds.3 };
+          code_is = of.code_is;
+          reason_is = of.reason_is;
+          fields_are = of.fields_are;
+        }) (number (has_no_body request response.code) refl)
 
 -- ---- a refusal
 

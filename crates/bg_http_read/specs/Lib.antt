@@ -18,7 +18,9 @@ pub mod RequestStreams
 pub mod Requests
 pub mod RequestsFed
 pub mod ResponseStates
+pub mod ResponseHeads
 pub mod Responses
 pub mod ResponsesFed
 pub mod Sequences
 pub mod Streams
+pub mod WrittenHeads

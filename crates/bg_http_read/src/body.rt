@@ -21,7 +21,7 @@ use std::alloc::{AllocError, Global};
 
 /// The framing of a body.
 #[derive(Clone, Copy, Drop)]
-pub(crate) enum BodyFraming {
+pub enum BodyFraming {
     /// There is no body.
     Empty,
     /// The body is chunked, and has at most this many bytes.
@@ -34,7 +34,7 @@ pub(crate) enum BodyFraming {
 
 /// The part of a body that comes next.
 #[derive(Clone, Copy, Drop)]
-pub(crate) enum BodyStage {
+pub enum BodyStage {
     /// This many bytes, and then nothing.
     Length(usize),
     /// The line of a chunk.

@@ -8,9 +8,10 @@ use httparse::{InvalidChunkSize, Status, parse_chunk_size};
 /// The most bytes that a chunk's line may have.
 const MOST_LINE: usize = 1024;
 
-/// The length in bytes of the line at the front, and the chunk size that it announces. Gives `None`
-/// if there is no complete line yet, and an error if the bytes cannot become a line.
-pub(crate) fn find_line(bytes: &[u8]) -> Result<Option<(usize, u64)>, InvalidChunkSize>
+/// The length in bytes of the chunk's line at the front (RFC 9112 section 7.1), at most 1,024 with its
+/// end, and the chunk size that it announces. Gives `None` if there is no complete line yet, and an
+/// error if the bytes cannot become a line.
+pub fn find_line(bytes: &[u8]) -> Result<Option<(usize, u64)>, InvalidChunkSize>
     ensures within { IfOk result (λ found. IfSome found (λ at.
         (0 < at.0) × (at.0 ≤ length bytes.now))) }
     ensures line { IfOk result (λ found. IfSome found (λ at.

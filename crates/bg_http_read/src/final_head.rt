@@ -36,9 +36,11 @@ fn names_another(framing: ResponseFraming) -> bool
 /// The result of a search: the judged head of the final response if it is complete, and the length
 /// in bytes of the heads that were taken.
 #[derive(Drop)]
-pub(crate) struct HeadFound {
-    pub(crate) head: Option<(ResponseHead, ResponseFraming)>,
-    pub(crate) taken: usize,
+pub struct HeadFound {
+    /// The head of the final response, and what `judge_response` says of it.
+    pub head: Option<(ResponseHead, ResponseFraming)>,
+    /// The length in bytes of the heads that were taken.
+    pub taken: usize,
 }
 
 /// The search for the head of the final response.
@@ -104,7 +106,7 @@ impl HeadSearch {
             (SkipsInterim request self.new.interim seen (drop found.taken bytes.now))) }
         ensures cut_off { IfOk result (λ found. IfNone found.head
             (HeadIsCut response_heads (drop found.taken bytes.now))) }
-        ensures ready { IfOk result (λ found. IfNone found.head (IsReady self.new)) }
+        ensures ready { IfOk result (λ found. IsReady self.new) }
         ensures end { IfOk result (λ found. IfNone found.head
             (self.new.end ≡ after_bytes head_end.Blank (drop found.taken bytes.now))) }
         ensures refused { (request : RequestValue) (seen : List ℕ)

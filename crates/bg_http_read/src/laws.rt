@@ -1,6 +1,7 @@
 //! The laws of reading, for every input: of the faults, of the ends of messages, and of the messages
 //! of a connection.
 ghost use Rattle.std.specs.Prelude.{Bool, List, ℕ, [], ◌++◌};
+ghost use Rattle.bg_http.specs.declared.body_end.BodyEnd.{BodyEnd};
 ghost use Rattle.bg_http.specs.declared.request.Request.{Request};
 ghost use Rattle.bg_http.specs.declared.request_fault.RequestFault.{RequestFault};
 ghost use Rattle.bg_http.specs.declared.response.Response.{Response};
@@ -15,6 +16,7 @@ ghost use Rattle.bg_http_read.specs.Responses.{ReadsResponseThen};
 ghost use Rattle.bg_http_read.specs.Sequences.{AddsRequest, AddsResponse, AreRequestsOf, AreResponsesOf};
 ghost use Rattle.bg_http_read.specs.Sequences.{HasOneEnd, HasOneSequence, HasOneSequenceOfAnswers};
 ghost use Rattle.bg_http_read.specs.Sequences.{WaitsBehind};
+ghost use Rattle.bg_http_read.specs.WrittenHeads.{IsJudgedInChunks, IsReadAsWritten};
 
 /// An input that begins with a request has no faults other than those of reading, writing and
 /// allocation.
@@ -126,6 +128,19 @@ pub fn a_drained_connection_continues_its_sequence()
 pub fn an_endpoint_reads_the_requests_that_were_forwarded()
     ensures { (port : ℕ) (forwardings : List Forwarding) (others : List Request) (rest : List ℕ)
         → AreReadAsForwarded port forwardings others rest }
+{
+    bg_http::laws::only_one_length_goes_on();
+}
+
+/// What is written of the head of a response before its body is whole (`write_response_head` of bg_http) is read, whatever
+/// follows, as exactly this head, and then what follows: with the fields that are kept, and with the field that tells how the body
+/// ends. This holds of a head that was read, with the length of its body or the one that it gives (`IsLengthOf`). Before chunks, the head that is read is judged as
+/// one of a chunked body, unless the response has none.
+pub fn a_client_reads_the_head_that_was_written()
+    ensures head { (keeps : Bool) (named : BodyEnd) (request : Request) (response : Response) (more : List ℕ)
+        → IsReadAsWritten keeps named request response more }
+    ensures chunks { (keeps : Bool) (request : Request) (response : Response)
+        → IsJudgedInChunks keeps request response }
 {
     bg_http::laws::only_one_length_goes_on();
 }

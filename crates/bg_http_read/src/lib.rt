@@ -33,8 +33,12 @@ mod response_parser;
 mod response_progress;
 mod response_read;
 mod seen;
+mod taken_heads;
 mod trailers;
 
+pub use body::{BodyFraming, BodyStage};
+pub use chunk_lines::find_line;
+pub use final_head::HeadFound;
 pub use ghost_request::GhostRequest;
 pub use in_memory::request_in;
 pub use received_response::ReceivedResponse;
@@ -45,3 +49,5 @@ pub use request_step::RequestStep;
 pub use request_stream::RequestStream;
 pub use response_parser::ResponseParser;
 pub use response_read::read_response;
+pub use taken_heads::ResponseHeads;
+pub use trailers::{NoTrailers, find_trailers};

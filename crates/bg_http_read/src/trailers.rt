@@ -15,11 +15,12 @@ const MOST_TRAILER_FIELDS: usize = MOST_FIELDS;
 
 /// The bytes cannot become trailers.
 #[derive(Drop)]
-pub(crate) struct NoTrailers;
+pub struct NoTrailers;
 
-/// The length in bytes of the trailers at the front. Gives `None` if they are not complete yet, and
-/// an error if the bytes cannot become trailers.
-pub(crate) fn find_trailers(bytes: &[u8]) -> Result<Option<usize>, NoTrailers>
+/// The length in bytes of the trailers at the front (RFC 9112 section 7.1.2), at most 16,384 bytes and
+/// 64 fields. Gives `None` if they are not complete yet, and an error if the bytes cannot become
+/// trailers.
+pub fn find_trailers(bytes: &[u8]) -> Result<Option<usize>, NoTrailers>
     ensures within { IfOk result (λ found. IfSome found (λ at.
         (0 < at) × (at ≤ length bytes.now))) }
     ensures trailers { IfOk result (λ found. IfSome found (λ at.

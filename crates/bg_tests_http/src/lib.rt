@@ -1,4 +1,4 @@
-//! The tests of messages, over the public calls of bg_http and bg_http_read.
+//! The tests of messages, over the public calls of bg_http, bg_http_read, bg_relay and bg_streams.
 #![tactic(auto)]
 
 #[cfg(test)]
@@ -18,10 +18,16 @@ mod pages;
 #[cfg(test)]
 mod passing;
 #[cfg(test)]
+mod pieces;
+#[cfg(test)]
 mod refused_heads;
+#[cfg(test)]
+mod relays;
 #[cfg(test)]
 mod requests;
 #[cfg(test)]
 mod responses;
+#[cfg(test)]
+mod streamed;
 #[cfg(test)]
 mod streams;

@@ -1,0 +1,35 @@
+//! How the end of a body is marked.
+ghost use Rattle.std.specs.Prelude.{◌≡◌};
+ghost use Rattle.bg_http_read.specs.Bodies.{is_whole as whole_at};
+ghost use Rattle.bg_relay.specs.Places.{first_stage};
+
+use bg_http_read::BodyStage;
+
+/// How the end of a body is marked (RFC 9112 section 6.3).
+#[derive(Clone, Copy, Drop)]
+pub enum Framing {
+    /// The body has this many bytes.
+    Length(usize),
+    /// The body is chunked (RFC 9112 section 7.1).
+    Chunks,
+    /// The body is everything before the end of the connection.
+    ToTheEnd,
+}
+
+/// The stage before the first byte of a body.
+pub(crate) fn first_stage(framing: Framing) -> BodyStage
+    ensures { result ≡ first_stage framing }
+{
+    match framing {
+        Framing::Length(size) => BodyStage::Length(size),
+        Framing::Chunks => BodyStage::Line,
+        Framing::ToTheEnd => BodyStage::ToTheEnd,
+    }
+}
+
+/// Whether the body is whole.
+pub(crate) fn is_whole(stage: BodyStage) -> bool
+    ensures { result ≡ whole_at stage }
+{
+    matches!(stage, BodyStage::Whole | BodyStage::Length(0))
+}

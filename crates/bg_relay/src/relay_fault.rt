@@ -1,0 +1,17 @@
+//! Why a body is not passed on to its end.
+
+use thiserror::Error;
+
+/// Why a body is not passed on to its end.
+#[derive(Clone, Copy, PartialEq, Eq, Debug, Drop, Error)]
+pub enum RelayFault {
+    /// The line of a chunk, the CR LF after its data, or the trailers are malformed or exceed their limits.
+    #[error("the body is malformed")]
+    Malformed,
+    /// The input ended before the end of the body.
+    #[error("the body was cut off")]
+    Cut,
+    /// An allocation failed.
+    #[error("out of memory")]
+    OutOfMemory,
+}
