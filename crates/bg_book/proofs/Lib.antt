@@ -4,6 +4,7 @@ pub mod Headlines
 pub mod Openings
 pub mod SeatOrder
 pub mod Running
+pub mod SeatAlone
 pub mod SeatsOut
 pub mod Stepping
 pub mod Resting

@@ -6,7 +6,7 @@ use Rattle.bg_strategy.specs.Label.{is_label}
 use Rattle.bg_revisions.specs.PortLists.{are_ports}
 use Rattle.bg_revisions.specs.Rosters.{well_formed}
 use Rattle.bg_revisions.specs.declared.revision_fault.RevisionFault.{RevisionFault}
-use Rattle.bg_revisions.specs.declared.revision_fault.RevisionFault.TheVariants.{BadName, BadPorts, SameTemplate, PortsDiffer}
+use Rattle.bg_revisions.specs.declared.revision_fault.RevisionFault.TheVariants.{BadName, BadPorts, SameTemplate, PortsDiffer, TooManyRevisions}
 use Rattle.bg_history.specs.declared.entry.Entry.{Entry}
 use Rattle.bg_history.specs.declared.entry.Entry.TheVariants as entry
 use Rattle.bg_history.specs.declared.entry.Entry.TheVariants.{Outcome}
@@ -29,8 +29,7 @@ use Rattle.std.proofs.lemmas.Bool.Decides.{nat_tests}
 use Rattle.std.proofs.lemmas.Option.{same_Some}
 use Rattle.bg_history.specs.declared.control.Control.{Control}
 use Rattle.bg_history.specs.declared.control.Control.TheVariants.{Deploy, Available, Verdict, PromoteFull, Abort}
-use Rattle.bg_rollout.specs.declared.control_fault.ControlFault.TheVariants.{HistoryFull, TooManyRevisions}
-use Rattle.bg_rollout.specs.ControlFaults.{of_revision}
+use Rattle.bg_rollout.specs.declared.control_fault.ControlFault.TheVariants.{HistoryFull, Revision}
 use Rattle.bg_rollout.specs.Refusals.{fault_if, fault_in, event_fault, event_of, deploy_fault, deployed_number, has_no_place, is_full_for_control}
 use Rattle.bg_rollout.specs.Routing.{Routing}
 use Rattle.bg_book.specs.Promises.{IsTaken, CallRollsBack, CallsRollBack, next_promotion_control, CallsPromote, EntersTested}
@@ -64,7 +63,7 @@ call-back b c e none is back = record {
 
 -- the name and ports, the template and the number of revisions have no fault
 no-fault : (r : ℕ) (formed : Result (Unit {0}) RevisionFault) (namesake : Result (Option ℕ) RevisionFault) (full : Bool) → formed ≡ Ok tt → namesake ≡ Ok (Some r) → full ≡ false
-    → option_or (fault_in of_revision formed) (option_or (fault_in of_revision namesake) (fault_if full TooManyRevisions None)) ≡ None
+    → option_or (fault_in Revision formed) (option_or (fault_in Revision namesake) (fault_if full (Revision TooManyRevisions) None)) ≡ None
 no-fault r formed namesake full is there room = rw (is, there, room) refl
 
 -- a label and a revision's ports are well formed

@@ -1,4 +1,4 @@
--- What the calls of a shared book answer.
+-- What the calls of a book answer, also if it is shared.
 use Rattle.std.specs.Prelude.{◌≡◌, ◌⊎◌, ℕ, Bool, true, false, [], ◌∷◌, Option, Some, None, Result, Ok, Err}
 use Rattle.bg_revisions.specs.declared.revision.Service.{Service}
 use Rattle.bg_ledger.specs.declared.holding.Holding.{Holding}
@@ -10,12 +10,14 @@ use Rattle.bg_rollout.specs.declared.control_fault.ControlFault.{ControlFault}
 use Rattle.bg_rollout.specs.declared.control_fault.ControlFault.TheVariants as control_fault
 use Rattle.bg_rollout.specs.declared.fault.EnterFault.{EnterFault}
 use Rattle.bg_rollout.specs.declared.fault.EnterFault.TheVariants as enter_fault
+use Rattle.bg_rollout.specs.declared.ticket.Left.{Left}
 use Rattle.bg_rollout.specs.declared.ticket.Ticket.{Ticket}
 use Rattle.bg_book.specs.declared.calls.Reply.{Reply}
+use Rattle.bg_book.specs.declared.calls.Reply.TheVariants as reply
 use Rattle.bg_book.specs.declared.calls.Reply.TheVariants.{Entered, EnterRefused, Done, ControlRefused}
 use Rattle.bg_book.specs.Compaction.{is_history_full}
 use Rattle.bg_book.specs.Headline.{Headline}
-use Rattle.bg_book.specs.Runs.{EnterStep, ControlStep}
+use Rattle.bg_book.specs.Runs.{EnterStep, LeaveStep, ControlStep}
 
 -- the answer to a request that enters, as a reply
 abbrev pub enter_reply : Result Ticket EnterFault → Reply
@@ -34,6 +36,15 @@ pub record AnswersEnter (b : Routing) (seat : Holding) (service : Service) (repl
   pub headline : Headline b
   pub met : Meets b seat
   pub step : EnterStep b (seat ∷ []) 0 seat service reply new (new_seat ∷ [])
+  pub new_headline : Headline new
+
+-- The book has this record of the seat, whose request leaves so; then the book and the seat are these new ones. The
+-- headline holds before and after.
+pub record AnswersLeave (b : Routing) (seat : Holding) (left : Left) (new : Routing)
+    (new_seat : Holding) : Type 0 where
+  pub headline : Headline b
+  pub met : Meets b seat
+  pub step : LeaveStep b (seat ∷ []) 0 seat (reply.Left left) new (new_seat ∷ [])
   pub new_headline : Headline new
 
 -- The book gives this reply to the event, and then it is this new one. The headline holds before and after.

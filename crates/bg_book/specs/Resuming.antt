@@ -5,8 +5,9 @@ use Rattle.bg_history.specs.declared.entry.Entry.{Entry}
 use Rattle.bg_history.specs.Kept.{Opening}
 use Rattle.bg_rollout.specs.declared.fault.OpenFault.TheVariants as open_fault
 use Rattle.bg_rollout.specs.declared.limits.Limits.{Limits}
+use Rattle.bg_rollout.specs.declared.opening.SeatLimit.TheVariants.{Many}
 use Rattle.bg_rollout.specs.Following.{JournalFaultIs}
-use Rattle.bg_rollout.specs.Refusals.{many_seats_refusal, IsRefusedBy}
+use Rattle.bg_rollout.specs.Refusals.{open_refusal, IsRefusedBy}
 use Rattle.bg_book.specs.declared.fault.ResumeFault.{ResumeFault}
 use Rattle.bg_book.specs.declared.fault.ResumeFault.TheVariants.{Opening as opens, Journal as journal}
 
@@ -21,7 +22,7 @@ opening_with seats name ports = record {
 abbrev pub ResumeFaultIs : Strategy → List ℕ → List ℕ → ℕ → Limits → List Entry → ResumeFault
     → Type 0
 ResumeFaultIs s name ports seats limits entries (opens f) =
-    IsRefusedBy (many_seats_refusal s name ports seats limits) open_fault.OutOfMemory f
+    IsRefusedBy (open_refusal Many s name ports seats limits) open_fault.OutOfMemory f
 ResumeFaultIs s name ports seats limits entries (journal f) =
-    (many_seats_refusal s name ports seats limits ≡ None)
+    (open_refusal Many s name ports seats limits ≡ None)
     × JournalFaultIs s (opening_with seats name ports) limits entries f

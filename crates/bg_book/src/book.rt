@@ -1,14 +1,16 @@
 //! The book: opening it, recording events, and ending it.
 ghost use Rattle.std.specs.Prelude.{◌≡◌, ◌≤◌, true, IfOk, OnErr, ◌+◌, length, ℕ, List, [], IfErr, IsTrue, MatchResult, None, Some, slice_get};
 ghost use Rattle.bg_ledger.specs.Blanks.{AreAllFor};
-ghost use Rattle.bg_rollout.specs.Refusals.{open_refusal, many_seats_refusal, AnswersBy, control_refusal, event_of};
-ghost use Rattle.bg_rollout.specs.Changes.{opened, NewSeats, Stepped, with_past};
+ghost use Rattle.bg_rollout.specs.Openings.{opening_fault, opened_by, IsSeatCount, OpensSeats};
+ghost use Rattle.bg_rollout.specs.Refusals.{AnswersBy, control_refusal, event_of};
+ghost use Rattle.bg_rollout.specs.Changes.{Stepped, with_past};
 ghost use Rattle.bg_rollout.specs.Gathering.{are_all, gather_fault as fault_in};
 ghost use Rattle.bg_rollout.specs.Compaction.{with_compacted};
 ghost use Rattle.bg_history.specs.Requests.{open_requests, calls_of};
 ghost use Rattle.bg_history.specs.Steps.{IsLegal, is_settled};
 ghost use Rattle.bg_ledger.specs.declared.holding.Holding.{Holding};
 ghost use Rattle.bg_rollout.specs.Routing.{Routing};
+ghost use Rattle.bg_book.specs.Desks.{AnswersControl, control_reply};
 ghost use Rattle.bg_book.specs.Runs.{AreOut, LeavesAll};
 ghost use Rattle.bg_rollout.specs.declared.fault.OpenFault.TheVariants as open_fault;
 ghost use Rattle.bg_rollout.specs.declared.control_fault.ControlFault.TheVariants as control_fault;
@@ -23,7 +25,7 @@ use bg_history_laws as laws;
 use bg_ledger::{Blanks, Names, Seat};
 use bg_rollout::{
     Control, ControlFault, GatherFault, MOST_ENTRIES, OpenFault, Rollout, RolloutOpening,
-    laws as rollout_laws,
+    SeatLimit, laws as rollout_laws,
 };
 use std::alloc::Global;
 use std::marker::Model;
@@ -67,47 +69,21 @@ impl<N: Names> Book<N> {
     /// `blanks`. An error drops the blanks.
     ///
     /// The error is the first of these that applies: `BadName` if the name is not a DNS label; `BadPorts` if there are
-    /// not exactly `replicas` distinct ports from 1; `BadSeats` if there are not 1 to 8 seats; `BadLimits` if a limit
-    /// is above the usual one; `OutOfMemory` if an allocation fails.
+    /// not exactly `replicas` distinct ports from 1; `BadSeats` if there is no seat, or if there are more than the limit
+    /// allows; `BadLimits` if a limit is above the usual one; `OutOfMemory` if an allocation fails.
     pub fn open(
         alloc: Global,
+        limit: SeatLimit,
         opening: &RolloutOpening,
         blanks: Blanks,
     ) -> Result<(Book<N>, Vec<Seat<N>>), OpenFault>
         requires blanks { AreAllFor N.Names blanks }
-        requires seats { 1 ≤ opening.now.seats → opening.now.seats ≤ 8
-            → N.seats ≡ opening.now.seats }
-        ensures refusal { AnswersBy (open_refusal opening.now.strategy.now
-            opening.now.name.now opening.now.ports.now opening.now.seats opening.now.limits)
-            open_fault.OutOfMemory result }
-        ensures book { IfOk result (λ r. r.0 ≡ opened opening.now.strategy.now opening.now.name.now
-            opening.now.ports.now opening.now.seats opening.now.limits r.1.items) }
-        ensures seats { IfOk result (λ r. NewSeats opening.now.seats r.1.items) }
-        ensures all { IfOk result (λ r. are_all N.seats r.1.items ≡ true) }
+        requires count { IsSeatCount limit opening.now N.seats }
+        ensures refusal { AnswersBy (opening_fault limit opening.now) open_fault.OutOfMemory result }
+        ensures book { IfOk result (λ r. r.0 ≡ opened_by opening.now r.1.items) }
+        ensures seats { IfOk result (λ r. OpensSeats opening.now N.seats r.1.items) }
     {
-        let (rollout, handed_out) = Rollout::open(alloc, opening, blanks)?;
-        Ok((Book { alloc, rollout }, handed_out))
-    }
-
-    /// Opens a book as [`Book::open`] does, but with up to 2,048 seats: the error is `BadSeats` only if there are not
-    /// 1 to 2,048 seats.
-    pub fn open_with_many_seats(
-        alloc: Global,
-        opening: &RolloutOpening,
-        blanks: Blanks,
-    ) -> Result<(Book<N>, Vec<Seat<N>>), OpenFault>
-        requires blanks { AreAllFor N.Names blanks }
-        requires seats { 1 ≤ opening.now.seats → opening.now.seats ≤ 2048
-            → N.seats ≡ opening.now.seats }
-        ensures refusal { AnswersBy (many_seats_refusal opening.now.strategy.now
-            opening.now.name.now opening.now.ports.now opening.now.seats opening.now.limits)
-            open_fault.OutOfMemory result }
-        ensures book { IfOk result (λ r. r.0 ≡ opened opening.now.strategy.now opening.now.name.now
-            opening.now.ports.now opening.now.seats opening.now.limits r.1.items) }
-        ensures seats { IfOk result (λ r. NewSeats opening.now.seats r.1.items) }
-        ensures all { IfOk result (λ r. are_all N.seats r.1.items ≡ true) }
-    {
-        let (rollout, handed_out) = Rollout::open_with_many_seats(alloc, opening, blanks)?;
+        let (rollout, handed_out) = Rollout::open(alloc, limit, opening, blanks)?;
         Ok((Book { alloc, rollout }, handed_out))
     }
 
@@ -130,6 +106,16 @@ impl<N: Names> Book<N> {
     /// - Each event: `HistoryFull` if the history has no room for the event, for the greatest number of outcomes, and
     ///   for three entries for each open request; `OutOfMemory` if an allocation fails.
     pub fn control(&mut self, control: &Control) -> Result<u64, ControlFault>
+        ensures { AnswersControl self.old control.now (control_reply result) self.new }
+    {
+        book_laws::headline(self);
+        let answer = self.record_event(control);
+        book_laws::headline(self);
+        answer
+    }
+
+    /// Records an event and the outcomes that it allows.
+    fn record_event(&mut self, control: &Control) -> Result<u64, ControlFault>
         ensures refusal { AnswersBy (control_refusal self.old control.now) control_fault.OutOfMemory result }
         ensures step { IfOk result (Stepped self.old.strategy (event_of self.old control.now)
             self.old.past self.new.past) }

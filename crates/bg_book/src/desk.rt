@@ -3,11 +3,9 @@ ghost use Rattle.std.specs.Prelude.{◌≡◌, ◌+◌, ◌<◌, ◌≤◌, ◌�
 ghost use Rattle.bg_ledger.specs.Holdings.{after_leave};
 ghost use Rattle.bg_rollout.specs.Compaction.{with_compacted};
 ghost use Rattle.bg_rollout.specs.Changes.{seat_in};
-ghost use Rattle.bg_book.specs.declared.calls.Reply.TheVariants as reply;
-ghost use Rattle.bg_book.specs.Desks.{AnswersControl, AnswersControlCompacting, AnswersControlIf, AnswersEnter, AnswersEnterCompacting, control_reply, enter_reply};
+ghost use Rattle.bg_book.specs.Desks.{AnswersControlCompacting, AnswersControlIf, AnswersEnterCompacting, AnswersLeave, control_reply, enter_reply};
 ghost use Rattle.bg_book.specs.Headline.{Headline};
 ghost use Rattle.bg_book.specs.Room.{entries_used as used_entries};
-ghost use Rattle.bg_book.specs.Runs.{LeaveStep};
 ghost use Rattle.bg_rollout.specs.Meeting.{Meets};
 ghost use Rattle.bg_rollout.specs.PastState.{goes_on};
 ghost use Rattle.bg_rollout.specs.Refusals.{control_refusal, enter_refusal};
@@ -38,9 +36,10 @@ pub trait Question<A> {
 /// A book behind a lock, which threads share.
 ///
 /// Each call takes the lock once, makes one call of the book and releases the lock; the calls with a compaction make up to
-/// three calls of the book, and one with a condition asks it first. `told` says that one book for which [`headline`] holds, and which has the record of the
-/// seat, gives the answer. If the call records something, it also says what the call makes of this book. It doesn't say
-/// that this book is the one under the lock; the functions that are lent that book say what becomes of it.
+/// three calls of the book, and one with a condition asks it first. `told` says that one book for which [`headline`] holds,
+/// and which has the record of the seat, gives the answer. If the call records something, it also says what the call makes
+/// of this book. It doesn't say that this book is the one under the lock; the functions that are lent that book say what
+/// becomes of it.
 pub struct Desk<N: Names> {
     book: Mutex<Book<N>>,
 }
@@ -60,25 +59,7 @@ impl<N: Names> Desk<N> {
         }
     }
 
-    /// [`Book::enter`].
-    pub fn enter<R: Wait>(
-        &self,
-        rt: &R,
-        seat: &mut Seat<N>,
-        service: Service,
-    ) -> Result<Ticket, EnterFault>
-        requires out { seat.old.number ≡ 0 }
-        ensures seat { IfOk result (λ t. seat.new ≡ seat_in seat.old t) }
-        ensures number { IfOk result (λ t. 0 < t.number) }
-        ensures seat_unchanged { OnErr result (seat.new ≡ seat.old) }
-        ensures told { (b : Routing) × (new : Routing)
-            × AnswersEnter b seat.old service (enter_reply result) new seat.new }
-    {
-        let mut locked = self.book.lock(rt);
-        enter(&mut *locked, seat, service)
-    }
-
-    /// [`Desk::enter`]. If the answer is `HistoryFull`, compacts the history and enters once more, under the same lock. So
+    /// [`Book::enter`]. If the answer is `HistoryFull`, compacts the history and enters once more, under the same lock. So
     /// the answer is `HistoryFull` only if a compacted book has no room either.
     pub fn enter_with_compaction<R: Wait>(
         &self,
@@ -102,15 +83,11 @@ impl<N: Names> Desk<N> {
         requires within { 0 < seat.old.number }
         ensures left { result ≡ record { number = seat.old.number; revision = seat.old.revision } }
         ensures seat { seat.new ≡ after_leave seat.old }
-        ensures told { (b : Routing) × (new : Routing) × Headline b × Headline new × Meets b seat.old
-            × LeaveStep b (seat.old ∷ []) 0 seat.old (reply.Left result) new (seat.new ∷ []) }
+        ensures told { (b : Routing) × (new : Routing) × AnswersLeave b seat.old result new seat.new }
     {
         let mut locked = self.book.lock(rt);
         let book = &mut *locked;
-        book_laws::headline(book);
-        let left = book.leave(seat);
-        book_laws::headline(book);
-        left
+        book.leave(seat)
     }
 
     /// [`Book::may_go_on`].
@@ -125,17 +102,7 @@ impl<N: Names> Desk<N> {
         book.may_go_on(seat)
     }
 
-    /// [`Book::control`].
-    pub fn control<R: Wait>(&self, rt: &R, event: &Control) -> Result<u64, ControlFault>
-        ensures few { IfOk result (λ n. n ≤ 140) }
-        ensures told { (b : Routing) × (new : Routing)
-            × AnswersControl b event.now (control_reply result) new }
-    {
-        let mut locked = self.book.lock(rt);
-        control(&mut *locked, event)
-    }
-
-    /// [`Desk::control`]. If the answer is `HistoryFull`, compacts the history and gives the event once more, under the
+    /// [`Book::control`]. If the answer is `HistoryFull`, compacts the history and gives the event once more, under the
     /// same lock. So the answer is `HistoryFull` only if a compacted book has no room either.
     pub fn control_with_compaction<R: Wait>(
         &self,
@@ -207,24 +174,6 @@ impl<N: Names> Desk<N> {
     }
 }
 
-/// Lets a request enter, and proves what holds of the book before and after.
-fn enter<N: Names>(
-    book: &mut Book<N>,
-    seat: &mut Seat<N>,
-    service: Service,
-) -> Result<Ticket, EnterFault>
-    requires out { seat.old.number ≡ 0 }
-    ensures seat { IfOk result (λ t. seat.new ≡ seat_in seat.old t) }
-    ensures number { IfOk result (λ t. 0 < t.number) }
-    ensures seat_unchanged { OnErr result (seat.new ≡ seat.old) }
-    ensures told { AnswersEnter book.old seat.old service (enter_reply result) book.new seat.new }
-{
-    book_laws::headline(book);
-    let answer = book.enter(seat, service);
-    book_laws::headline(book);
-    answer
-}
-
 /// Lets a request enter. If the history is full, compacts it and lets the request enter once more.
 fn enter_or_compact<N: Names>(
     book: &mut Book<N>,
@@ -232,31 +181,17 @@ fn enter_or_compact<N: Names>(
     service: Service,
 ) -> Result<Ticket, EnterFault>
     requires out { seat.old.number ≡ 0 }
-    ensures seat { IfOk result (λ t. seat.new ≡ seat_in seat.old t) }
-    ensures number { IfOk result (λ t. 0 < t.number) }
-    ensures seat_unchanged { OnErr result (seat.new ≡ seat.old) }
     ensures told { AnswersEnterCompacting book.old seat.old service (enter_reply result) book.new seat.new }
     ensures full { result ≡ Err enter_fault.HistoryFull
         → enter_refusal (with_compacted book.old) service ≡ Some enter_fault.HistoryFull }
 {
-    match enter(book, seat, service) {
+    match book.enter(seat, service) {
         Err(EnterFault::HistoryFull) => {
             let _dropped = book.compact();
-            enter(book, seat, service)
+            book.enter(seat, service)
         }
         answer => answer,
     }
-}
-
-/// Gives an event to the book, and proves what holds of the book before and after.
-fn control<N: Names>(book: &mut Book<N>, event: &Control) -> Result<u64, ControlFault>
-    ensures few { IfOk result (λ n. n ≤ 140) }
-    ensures told { AnswersControl book.old event.now (control_reply result) book.new }
-{
-    book_laws::headline(book);
-    let answer = book.control(event);
-    book_laws::headline(book);
-    answer
 }
 
 /// Gives an event to the book. If the history is full, compacts it and gives the event once more.
@@ -266,10 +201,10 @@ fn control_or_compact<N: Names>(book: &mut Book<N>, event: &Control) -> Result<u
     ensures full { result ≡ Err control_fault.HistoryFull
         → control_refusal (with_compacted book.old) event.now ≡ Some control_fault.HistoryFull }
 {
-    match control(book, event) {
+    match book.control(event) {
         Err(ControlFault::HistoryFull) => {
             let _dropped = book.compact();
-            control(book, event)
+            book.control(event)
         }
         answer => answer,
     }

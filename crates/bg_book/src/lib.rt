@@ -15,7 +15,7 @@ mod order_entries;
 
 pub use bg_rollout::{
     Control, ControlFault, EnterFault, GatherFault, GoOn, JournalFault, Left, Limits, OpenFault,
-    RolloutOpening, Ticket,
+    RolloutOpening, SeatLimit, Ticket,
 };
 pub use book::Book;
 pub use calls::{Call, Reply};

@@ -3,10 +3,10 @@ ghost use Rattle.std.specs.Prelude.{◌≡◌, ◌≤◌, ◌+◌, [], List, IfO
 ghost use Rattle.bg_history.specs.Requests.{open_requests};
 ghost use Rattle.bg_ledger.specs.Blanks.{AreAllFor};
 ghost use Rattle.bg_ledger.specs.declared.holding.Holding.{Holding};
-ghost use Rattle.bg_rollout.specs.Changes.{opened, NewSeats};
 ghost use Rattle.bg_rollout.specs.Compaction.{with_compacted};
 ghost use Rattle.bg_rollout.specs.Gathering.{are_all};
-ghost use Rattle.bg_rollout.specs.Refusals.{open_refusal, many_seats_refusal, AnswersBy};
+ghost use Rattle.bg_rollout.specs.Openings.{opening_fault, opened_by, IsSeatCount, OpensSeats};
+ghost use Rattle.bg_rollout.specs.Refusals.{AnswersBy};
 ghost use Rattle.bg_rollout.specs.Routing.{Routing};
 ghost use Rattle.bg_rollout.specs.declared.fault.OpenFault.TheVariants.{OutOfMemory};
 ghost use Rattle.bg_book.specs.Runs.{AreOut, CallStep, LeavesAll, Runs, Unchanged};
@@ -17,7 +17,7 @@ use crate::fault::RunFault;
 use crate::laws as book_laws;
 use bg_history::History;
 use bg_ledger::{Blanks, Names, Seat};
-use bg_rollout::{OpenFault, RolloutOpening};
+use bg_rollout::{OpenFault, RolloutOpening, SeatLimit};
 use std::alloc::Global;
 use std::marker::Model;
 
@@ -44,42 +44,17 @@ impl<N: Names> OpenBook<N> {
     /// Opens a book as [`Book::open`] does, with the same errors.
     pub fn open(
         alloc: Global,
+        limit: SeatLimit,
         opening: &RolloutOpening,
         blanks: Blanks,
     ) -> Result<OpenBook<N>, OpenFault>
         requires blanks { AreAllFor N.Names blanks }
-        requires seats { 1 ≤ opening.now.seats → opening.now.seats ≤ 8
-            → N.seats ≡ opening.now.seats }
-        ensures refusal { AnswersBy (open_refusal opening.now.strategy.now
-            opening.now.name.now opening.now.ports.now opening.now.seats opening.now.limits)
-            OutOfMemory result }
-        ensures book { IfOk result (λ made. made.book ≡ opened opening.now.strategy.now
-            opening.now.name.now opening.now.ports.now opening.now.seats opening.now.limits
-            made.seats) }
-        ensures seats { IfOk result (λ made. NewSeats opening.now.seats made.seats) }
+        requires count { IsSeatCount limit opening.now N.seats }
+        ensures refusal { AnswersBy (opening_fault limit opening.now) OutOfMemory result }
+        ensures book { IfOk result (λ made. made.book ≡ opened_by opening.now made.seats) }
+        ensures seats { IfOk result (λ made. OpensSeats opening.now N.seats made.seats) }
     {
-        let (book, seats) = Book::open(alloc, opening, blanks)?;
-        Ok(OpenBook { book, seats })
-    }
-
-    /// Opens a book as [`Book::open_with_many_seats`] does, with the same errors.
-    pub fn open_with_many_seats(
-        alloc: Global,
-        opening: &RolloutOpening,
-        blanks: Blanks,
-    ) -> Result<OpenBook<N>, OpenFault>
-        requires blanks { AreAllFor N.Names blanks }
-        requires seats { 1 ≤ opening.now.seats → opening.now.seats ≤ 2048
-            → N.seats ≡ opening.now.seats }
-        ensures refusal { AnswersBy (many_seats_refusal opening.now.strategy.now
-            opening.now.name.now opening.now.ports.now opening.now.seats opening.now.limits)
-            OutOfMemory result }
-        ensures book { IfOk result (λ made. made.book ≡ opened opening.now.strategy.now
-            opening.now.name.now opening.now.ports.now opening.now.seats opening.now.limits
-            made.seats) }
-        ensures seats { IfOk result (λ made. NewSeats opening.now.seats made.seats) }
-    {
-        let (book, seats) = Book::open_with_many_seats(alloc, opening, blanks)?;
+        let (book, seats) = Book::open(alloc, limit, opening, blanks)?;
         Ok(OpenBook { book, seats })
     }
 

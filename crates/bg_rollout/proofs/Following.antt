@@ -12,7 +12,7 @@ use Rattle.bg_strategy.specs.Label.{is_label}
 use Rattle.bg_revisions.specs.PortLists.{are_ports}
 use Rattle.bg_revisions.specs.Rosters.{well_formed}
 use Rattle.bg_revisions.specs.declared.revision_fault.RevisionFault.{RevisionFault}
-use Rattle.bg_revisions.specs.declared.revision_fault.RevisionFault.TheVariants.{BadName, BadPorts, SameTemplate, PortsDiffer}
+use Rattle.bg_revisions.specs.declared.revision_fault.RevisionFault.TheVariants.{BadName, BadPorts, SameTemplate, PortsDiffer, NoSuchRevision, MoreThanDesired, TooManyRevisions}
 use Rattle.bg_promotion.specs.Answers.{abort_answer, promote_full_answer, is_step}
 use Rattle.bg_promotion.specs.declared.faults.AbortFault as abort
 use Rattle.bg_promotion.specs.declared.faults.AbortFault.TheVariants as abort_fault
@@ -35,10 +35,9 @@ use Rattle.bg_history.specs.Steps.{all_allowed, is_settled, with_outcomes, IsLeg
 use Rattle.bg_history_laws.specs.Answers.{template_answer, namesake_answer}
 use Rattle.bg_history_laws.specs.Journaled.{is_of_request}
 use Rattle.bg_rollout.specs.declared.control_fault.ControlFault.{ControlFault}
-use Rattle.bg_rollout.specs.declared.control_fault.ControlFault.TheVariants.{NoSuchRevision, MoreThanDesired, TooManyRevisions}
+use Rattle.bg_rollout.specs.declared.control_fault.ControlFault.TheVariants.{Revision}
 use Rattle.bg_rollout.specs.declared.follow_fault.FollowFault.{FollowFault}
 use Rattle.bg_rollout.specs.declared.follow_fault.FollowFault.TheVariants as follow
-use Rattle.bg_rollout.specs.ControlFaults.{of_revision}
 use Rattle.bg_rollout.specs.Refusals.{fault_if, fault_in, refuse, deploy_fault, deployed_number, has_no_place}
 use Rattle.bg_rollout.specs.Following.{may_follow, same_outcome, fault_at, first_entries, FollowFaultIs, JournalFaultIs, Resumes}
 use Rattle.bg_rollout.specs.Changes.{with_past}
@@ -55,9 +54,9 @@ refuted true h = h refl
 refuted false h = refl
 
 -- a report that has a fault isn't allowed
-pub report_refused : (exists : Bool) (n d : ℕ) (e : ControlFault) → refuse (fault_if (not exists) NoSuchRevision (fault_if (nat_lt d n) MoreThanDesired None)) ≡ Err e → (exists && nat_le n d) ≡ false
+pub report_refused : (exists : Bool) (n d : ℕ) (e : ControlFault) → refuse (fault_if (not exists) (Revision NoSuchRevision) (fault_if (nat_lt d n) (Revision MoreThanDesired) None)) ≡ Err e → (exists && nat_le n d) ≡ false
 report_refused true n d e h = go (nat_lt d n) refl h where
-  go : (t : Bool) → nat_lt d n ≡ t → refuse (cond t (Some MoreThanDesired) None) ≡ Err e → nat_le n d ≡ false
+  go : (t : Bool) → nat_lt d n ≡ t → refuse (cond t (Some (Revision MoreThanDesired)) None) ≡ Err e → nat_le n d ≡ false
   go true is h = grind (arith, nat_tests)
   go false is h = absurd (cc)
 report_refused false n d e h = refl
@@ -98,7 +97,7 @@ full_refused past e h =
 
 -- the name and ports, the template and the number of revisions have no fault
 no_fault : (v : Option ℕ) (formed : Result (Unit {0}) RevisionFault) (owned : Result (Option ℕ) RevisionFault) (full : Bool) → formed ≡ Ok tt → owned ≡ Ok v → full ≡ false
-    → option_or (fault_in of_revision formed) (option_or (fault_in of_revision owned) (fault_if full TooManyRevisions None)) ≡ None
+    → option_or (fault_in Revision formed) (option_or (fault_in Revision owned) (fault_if full (Revision TooManyRevisions) None)) ≡ None
 no_fault v formed owned full is there room = rw (is, there, room) refl
 
 formed_both : (label ports : Bool) → label ≡ true → ports ≡ true → ◌≡◌ {A = Result (Unit {0}) RevisionFault} (cond label (cond ports (Ok tt) (Err BadPorts)) (Err BadName)) (Ok tt)

@@ -1,6 +1,4 @@
--- The faults of the crates that bg_rollout uses, as faults of an event.
-use Rattle.bg_revisions.specs.declared.revision_fault.RevisionFault as revision
-use Rattle.bg_revisions.specs.declared.revision_fault.RevisionFault.TheVariants as revision_fault
+-- The faults of an attempt as faults of an event.
 use Rattle.bg_promotion.specs.declared.faults.AbortFault as abort
 use Rattle.bg_promotion.specs.declared.faults.AbortFault.TheVariants as abort_fault
 use Rattle.bg_promotion.specs.declared.faults.RetryFault as retry
@@ -13,16 +11,6 @@ use Rattle.bg_promotion.specs.declared.faults.VerdictFault as verdict
 use Rattle.bg_promotion.specs.declared.faults.VerdictFault.TheVariants as verdict_fault
 use Rattle.bg_rollout.specs.declared.control_fault.ControlFault.{ControlFault}
 use Rattle.bg_rollout.specs.declared.control_fault.ControlFault.TheVariants as fault
-
-abbrev pub of_revision : revision.RevisionFault → ControlFault
-of_revision revision_fault.BadName = fault.BadName
-of_revision revision_fault.BadPorts = fault.BadPorts
-of_revision revision_fault.SameTemplate = fault.SameTemplate
-of_revision revision_fault.PortsDiffer = fault.PortsDiffer
-of_revision revision_fault.TooManyRevisions = fault.TooManyRevisions
-of_revision revision_fault.NoSuchRevision = fault.NoSuchRevision
-of_revision revision_fault.MoreThanDesired = fault.MoreThanDesired
-of_revision revision_fault.OutOfMemory = fault.OutOfMemory
 
 abbrev pub of_verdict : verdict.VerdictFault → ControlFault
 of_verdict verdict_fault.NoAnalysis = fault.NoAnalysis

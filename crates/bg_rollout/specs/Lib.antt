@@ -8,6 +8,7 @@ pub mod Changes
 pub mod Invariant
 pub mod Meeting
 pub mod Gathering
+pub mod Openings
 pub mod Settling
 pub mod Recording
 pub mod Judging

@@ -6,6 +6,7 @@ use Rattle.bg_strategy.specs.Label.{is_label}
 use Rattle.bg_revisions.specs.PortLists.{are_ports}
 use Rattle.bg_revisions.specs.Rosters.{well_formed}
 use Rattle.bg_revisions.specs.declared.revision.Service.{Service}
+use Rattle.bg_revisions.specs.declared.revision_fault.RevisionFault.TheVariants.{TooManyRevisions, NoSuchRevision, MoreThanDesired}
 use Rattle.bg_history.specs.declared.entry.Entry.{Entry}
 use Rattle.bg_history.specs.declared.entry.Entry.TheVariants as event
 use Rattle.bg_history.specs.AttemptBounds.{moment, newest_of}
@@ -19,6 +20,8 @@ use Rattle.bg_history_laws.specs.Answers.{template_answer}
 use Rattle.bg_rollout.specs.declared.limits.Limits.{Limits}
 use Rattle.bg_history.specs.declared.control.Control.{Control}
 use Rattle.bg_history.specs.declared.control.Control.TheVariants.{Tick, Deploy, Available, Verdict, Promote, PromoteFull, Abort, Retry}
+use Rattle.bg_rollout.specs.declared.opening.SeatLimit.{SeatLimit}
+use Rattle.bg_rollout.specs.declared.opening.SeatLimit.TheVariants.{Few, Many}
 use Rattle.bg_rollout.specs.declared.ticket.Ticket.{Ticket}
 use Rattle.bg_rollout.specs.declared.fault.OpenFault as opening
 use Rattle.bg_rollout.specs.declared.fault.OpenFault.TheVariants as open_fault
@@ -26,7 +29,7 @@ use Rattle.bg_rollout.specs.declared.fault.EnterFault as enter
 use Rattle.bg_rollout.specs.declared.fault.EnterFault.TheVariants as enter_fault
 use Rattle.bg_rollout.specs.declared.control_fault.ControlFault as control
 use Rattle.bg_rollout.specs.declared.control_fault.ControlFault.TheVariants as control_fault
-use Rattle.bg_rollout.specs.ControlFaults.{of_revision, of_verdict, of_promote, of_promote_full, of_abort, of_retry}
+use Rattle.bg_rollout.specs.ControlFaults.{of_verdict, of_promote, of_promote_full, of_abort, of_retry}
 use Rattle.bg_rollout.specs.Routing.{Routing}
 
 -- the fault if the test holds, else the next one
@@ -38,6 +41,11 @@ abbrev pub refuse : {F : Type 0} → Option F → Result (Unit {0}) F
 refuse None = Ok tt
 refuse (Some e) = Err e
 
+-- the greatest number of seats
+abbrev pub most_seats : SeatLimit → ℕ
+most_seats Few = 8
+most_seats Many = 2048
+
 -- the usual limits
 abbrev pub usual_limits : Limits
 usual_limits = record { entries = 1000000; numbers = 2 ^ 53 }
@@ -47,21 +55,13 @@ abbrev pub is_above_usual : Limits → Bool
 is_above_usual l = nat_lt usual_limits.entries l.entries || nat_lt usual_limits.numbers l.numbers
 
 -- the fault of an opening with at most so many seats, if it has one
-abbrev pub open_refusal_up_to
-    : ℕ → Strategy → List ℕ → List ℕ → ℕ → Limits → Option opening.OpenFault
-open_refusal_up_to most s name ports seats limits =
+abbrev pub open_refusal
+    : SeatLimit → Strategy → List ℕ → List ℕ → ℕ → Limits → Option opening.OpenFault
+open_refusal limit s name ports seats limits =
     fault_if (not (is_label name)) open_fault.BadName
     (fault_if (not (are_ports s.replicas ports)) open_fault.BadPorts
-    (fault_if (not (nat_le 1 seats && nat_le seats most)) open_fault.BadSeats
+    (fault_if (not (nat_le 1 seats && nat_le seats (most_seats limit))) open_fault.BadSeats
     (fault_if (is_above_usual limits) open_fault.BadLimits None)))
-
--- the fault of an opening, if it has one
-abbrev pub open_refusal : Strategy → List ℕ → List ℕ → ℕ → Limits → Option opening.OpenFault
-open_refusal s name ports seats limits = open_refusal_up_to 8 s name ports seats limits
-
--- the fault of an opening with many seats, if it has one
-abbrev pub many_seats_refusal : Strategy → List ℕ → List ℕ → ℕ → Limits → Option opening.OpenFault
-many_seats_refusal s name ports seats limits = open_refusal_up_to 2048 s name ports seats limits
 
 -- the number of open requests
 abbrev pub all_open : List Entry → ℕ
@@ -116,10 +116,10 @@ has_no_place b name =
 -- the fault of a deploy: of its name and ports; else of its template; else of the number of revisions
 abbrev pub deploy_fault : Routing → List ℕ → List ℕ → Option control.ControlFault
 deploy_fault b name ports =
-    option_or (fault_in of_revision (well_formed b.strategy.replicas name ports))
+    option_or (fault_in control_fault.Revision (well_formed b.strategy.replicas name ports))
     (option_or
-    (fault_in of_revision (template_answer b.opening (newest_of b.past) name ports b.past))
-    (fault_if (has_no_place b name) control_fault.TooManyRevisions None))
+    (fault_in control_fault.Revision (template_answer b.opening (newest_of b.past) name ports b.past))
+    (fault_if (has_no_place b name) (control_fault.Revision TooManyRevisions) None))
 
 -- the fault of the event itself
 abbrev pub event_fault : Routing → Control → Option control.ControlFault
@@ -128,8 +128,8 @@ event_fault b (Tick m) =
     (fault_if (nat_lt m (moment b.past)) control_fault.MomentBack None)
 event_fault b (Deploy name ports) = deploy_fault b name ports
 event_fault b (Available r n) =
-    fault_if (not (exists_in r b.past)) control_fault.NoSuchRevision
-    (fault_if (nat_lt (desired b.strategy r b.past) n) control_fault.MoreThanDesired None)
+    fault_if (not (exists_in r b.past)) (control_fault.Revision NoSuchRevision)
+    (fault_if (nat_lt (desired b.strategy r b.past) n) (control_fault.Revision MoreThanDesired) None)
 event_fault b (Verdict analysis result) =
     fault_in of_verdict (verdict_answer analysis b.strategy b.past)
 event_fault b Promote = fault_in of_promote (promote_answer b.strategy b.past)

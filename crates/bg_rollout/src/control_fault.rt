@@ -1,9 +1,9 @@
 //! The errors of an event.
 ghost use Rattle.std.specs.Prelude.{◌≡◌};
-ghost use Rattle.bg_rollout.specs.FaultNames.{control_fault_name};
+ghost use Rattle.bg_rollout.specs.FaultNames.{control_fault_name, revision_fault_name};
 ghost use Rattle.bg_rollout.specs.ControlFaults.{of_abort, of_promote, of_promote_full, of_retry};
-ghost use Rattle.bg_rollout.specs.ControlFaults.{of_revision, of_verdict};
-ghost use Rattle.bg_rollout.specs.declared.control_fault.ControlFault.TheVariants.{OutOfMemory};
+ghost use Rattle.bg_rollout.specs.ControlFaults.{of_verdict};
+ghost use Rattle.bg_rollout.specs.declared.control_fault.ControlFault.TheVariants.{OutOfMemory, Revision};
 
 use bg_promotion::{AbortFault, PromoteFault, PromoteFullFault, RetryFault, VerdictFault};
 use bg_revisions::RevisionFault;
@@ -18,20 +18,9 @@ pub enum ControlFault {
     MomentTooLarge,
     #[error("the moment lies before the book's")]
     MomentBack,
-    #[error("a name is 1 to 63 lower-case letters, digits and hyphens, with no hyphen at its ends")]
-    BadName,
-    #[error("a revision has one port for each replica, all distinct and none of them 0")]
-    BadPorts,
-    #[error("the newest revision already has this name and these ports")]
-    SameTemplate,
-    #[error("a revision of this name already has other ports")]
-    PortsDiffer,
-    #[error("64 revisions exist already")]
-    TooManyRevisions,
-    #[error("no revision has this number")]
-    NoSuchRevision,
-    #[error("more endpoints are reported than the revision wants")]
-    MoreThanDesired,
+    /// A deploy or a report of availability is refused, and not for want of memory.
+    #[error(transparent)]
+    Revision(RevisionFault),
     #[error("this analysis is not awaited")]
     NoAnalysis,
     #[error("the last attempt was aborted")]
@@ -55,20 +44,14 @@ pub enum ControlFault {
 }
 
 impl ControlFault {
-    /// The name of the variant.
+    /// The name of the variant, or that of the fault of a revision.
     pub fn name(&self) -> &'static str
         ensures { result.now ≡ control_fault_name self.now }
     {
         match self {
             ControlFault::MomentTooLarge => "MomentTooLarge",
             ControlFault::MomentBack => "MomentBack",
-            ControlFault::BadName => "BadName",
-            ControlFault::BadPorts => "BadPorts",
-            ControlFault::SameTemplate => "SameTemplate",
-            ControlFault::PortsDiffer => "PortsDiffer",
-            ControlFault::TooManyRevisions => "TooManyRevisions",
-            ControlFault::NoSuchRevision => "NoSuchRevision",
-            ControlFault::MoreThanDesired => "MoreThanDesired",
+            ControlFault::Revision(fault) => revision_fault_name(*fault),
             ControlFault::NoAnalysis => "NoAnalysis",
             ControlFault::Aborted => "Aborted",
             ControlFault::NotPaused => "NotPaused",
@@ -83,20 +66,27 @@ impl ControlFault {
     }
 }
 
+/// The name of the variant.
+fn revision_fault_name(fault: RevisionFault) -> &'static str
+    ensures { result.now ≡ revision_fault_name fault }
+{
+    match fault {
+        RevisionFault::BadName => "BadName",
+        RevisionFault::BadPorts => "BadPorts",
+        RevisionFault::SameTemplate => "SameTemplate",
+        RevisionFault::PortsDiffer => "PortsDiffer",
+        RevisionFault::TooManyRevisions => "TooManyRevisions",
+        RevisionFault::NoSuchRevision => "NoSuchRevision",
+        RevisionFault::MoreThanDesired => "MoreThanDesired",
+        RevisionFault::OutOfMemory => "OutOfMemory",
+    }
+}
+
 impl From<RevisionFault> for ControlFault {
-    ghost from_gives = { λ fault e. e ≡ of_revision fault };
+    ghost from_gives = { λ fault e. e ≡ Revision fault };
 
     fn from(fault: RevisionFault) -> ControlFault {
-        match fault {
-            RevisionFault::BadName => ControlFault::BadName,
-            RevisionFault::BadPorts => ControlFault::BadPorts,
-            RevisionFault::SameTemplate => ControlFault::SameTemplate,
-            RevisionFault::PortsDiffer => ControlFault::PortsDiffer,
-            RevisionFault::TooManyRevisions => ControlFault::TooManyRevisions,
-            RevisionFault::NoSuchRevision => ControlFault::NoSuchRevision,
-            RevisionFault::MoreThanDesired => ControlFault::MoreThanDesired,
-            RevisionFault::OutOfMemory => ControlFault::OutOfMemory,
-        }
+        ControlFault::Revision(fault)
     }
 }
 

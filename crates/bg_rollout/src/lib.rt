@@ -24,7 +24,7 @@ pub use fault::{EnterFault, GatherFault, OpenFault};
 pub use follow_fault::{FollowFault, JournalFault};
 pub use go_on::GoOn;
 pub use limits::{Limits, MOST_ENTRIES, PLACES_OF_A_REQUEST};
-pub use opening::RolloutOpening;
+pub use opening::{RolloutOpening, SeatLimit};
 pub use request_lists::{MOST_SEATS, OpenRequest, RequestLists};
 pub use rollout::Rollout;
 pub use ticket::{Left, Ticket};

@@ -1,6 +1,9 @@
 //! With what a rollout is opened.
+ghost use Rattle.std.specs.Prelude.{◌≡◌, ◌≤◌};
+ghost use Rattle.bg_rollout.specs.Refusals.{most_seats};
 
 use crate::limits::Limits;
+use crate::request_lists::MOST_SEATS;
 use bg_strategy::Strategy;
 
 /// With what a rollout is opened.
@@ -17,3 +20,28 @@ pub struct RolloutOpening<'a> {
     /// The limits of the rollout.
     pub limits: Limits,
 }
+
+/// How many seats an opening may have.
+#[derive(Clone, Copy, PartialEq, Eq, Debug, Drop)]
+pub enum SeatLimit {
+    /// 1 to 8 seats, as in a script.
+    Few,
+    /// 1 to 2,048 seats.
+    Many,
+}
+
+impl SeatLimit {
+    /// The greatest number of seats.
+    pub fn most(self) -> u32
+        ensures most { result ≡ most_seats self }
+        ensures fits { result ≤ 2048 }
+    {
+        match self {
+            SeatLimit::Few => FEW_SEATS,
+            SeatLimit::Many => MOST_SEATS,
+        }
+    }
+}
+
+/// The greatest number of seats of a book in a script.
+const FEW_SEATS: u32 = 8;

@@ -46,9 +46,9 @@ fn take_place<'a, N: Names, R: Wait>(run: &Run<'a, R>, desk: &Desk<N>) -> Result
         size: 1,
     };
     // what is refused changes nothing, and the check of it fails
-    let _ = desk.control(run.rt, &deploy);
-    let _ = desk.control(run.rt, &available);
-    let _ = desk.control(run.rt, &Control::Tick(LATE));
+    let _ = desk.control_with_compaction(run.rt, &deploy);
+    let _ = desk.control_with_compaction(run.rt, &available);
+    let _ = desk.control_with_compaction(run.rt, &Control::Tick(LATE));
     Ok(())
 }
 

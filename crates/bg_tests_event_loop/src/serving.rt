@@ -8,7 +8,7 @@ use crate::orders::carry_out_orders;
 use crate::stop::Stop;
 use crate::words::Words;
 use bg_access_log::AccessLog;
-use bg_book::{Book, Control, Desk, Limits, RolloutOpening};
+use bg_book::{Book, Control, Desk, Limits, RolloutOpening, SeatLimit};
 use bg_endpoints::{Directory, OwnPorts, PortList, PortLists, Share};
 use bg_event_loop::{BookPorts, KeptSettings, LoopContext, LoopSettings, run_event_loop};
 use bg_forward::DeskGate;
@@ -131,7 +131,7 @@ where
         seats: SEATS,
         limits: Limits::usual(),
     };
-    let (book, mut seats) = Book::<N>::open_with_many_seats(run.alloc, &opening, blanks)?;
+    let (book, mut seats) = Book::<N>::open(run.alloc, SeatLimit::Many, &opening, blanks)?;
     let desk = Desk::new(book);
     make_available(run, &desk);
     let has_served = serve_beside_input(run, &desk, seats.as_mut_slice());
@@ -159,7 +159,7 @@ fn make_available<'a, N: Names, R: Wait>(run: &Run<'a, R>, desk: &Desk<N>) {
         revision: 1,
         size: u32::try_from(run.words.endpoints.len()).unwrap_or(u32::MAX),
     };
-    let _ = desk.control(run.rt, &available);
+    let _ = desk.control_with_compaction(run.rt, &available);
 }
 
 /// Serves clients by the desk on seats that are out, and carries out in parallel the orders of the input. Each seat keeps its place.
@@ -201,7 +201,7 @@ fn serve_seats<'a, N: Names, R: Wait + Clock>(
         desk,
         directory: run.directory,
         own: OwnPorts {
-            active: run.words.port,
+            active: Some(run.words.port),
             preview: None,
             control: None,
         },
@@ -214,6 +214,7 @@ fn serve_seats<'a, N: Names, R: Wait + Clock>(
         log: Some(run.log),
         redispatches: run.words.redispatches,
         keeps_connections: run.words.persistence == Persistence::Keep,
+        number_offset: 0,
         refused_for_room: &refused_for_room,
     };
     let context = LoopContext {

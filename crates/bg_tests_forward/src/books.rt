@@ -4,7 +4,9 @@ ghost use Rattle.bg_ledger.specs.Blanks.{AreAllFor};
 ghost use Rattle.bg_rollout.specs.Changes.{NewSeats};
 ghost use Rattle.bg_rollout.specs.Gathering.{are_all};
 
-use bg_book::{Book, Control, ControlFault, Desk, Limits, OpenFault, Question, RolloutOpening};
+use bg_book::{
+    Book, Control, ControlFault, Desk, Limits, OpenFault, Question, RolloutOpening, SeatLimit,
+};
 use bg_history::History;
 use bg_ledger::{Blanks, Names, Seat};
 use bg_strategy::Strategy;
@@ -31,7 +33,7 @@ pub fn open<N: Names>(
         seats,
         limits,
     };
-    let (book, seats) = Book::open(alloc, &opening, blanks)?;
+    let (book, seats) = Book::open(alloc, SeatLimit::Few, &opening, blanks)?;
     Ok((Desk::new(book), seats))
 }
 
@@ -41,7 +43,7 @@ pub fn tell_available<N: Names, R: Wait>(
     desk: &Desk<N>,
     size: u32,
 ) -> Result<u64, ControlFault> {
-    desk.control(rt, &Control::Available { revision: 1, size })
+    desk.control_with_compaction(rt, &Control::Available { revision: 1, size })
 }
 
 /// The number of open requests at the first revision.

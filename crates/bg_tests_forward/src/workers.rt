@@ -262,7 +262,7 @@ fn work_none<N: Names + Send + Sync, R: Threads + Wait + Sync>(
 /// Makes the ticks.
 fn tick<N: Names, R: Wait>(rt: &R, desk: &Desk<N>) {
     for moment in 1..=TICKS {
-        let _told = desk.control(rt, &Control::Tick(moment));
+        let _told = desk.control_with_compaction(rt, &Control::Tick(moment));
     }
 }
 

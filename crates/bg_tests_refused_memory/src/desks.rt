@@ -7,7 +7,7 @@ use crate::asking::{Subject, change, made, made_again, say_made, say_refused, sh
 use crate::state::State;
 use crate::stop::Stop;
 use crate::strategies::base_strategy;
-use bg_book::{Call, Control, Limits, OpenBook, RolloutOpening};
+use bg_book::{Call, Control, Limits, OpenBook, RolloutOpening, SeatLimit};
 use bg_ledger::{Blanks, Names};
 use bg_revisions::{Name, Ports, Service};
 use bg_strategy::Strategy;
@@ -29,26 +29,11 @@ pub struct Desk<N: Names> {
 }
 
 impl<N: Names> Desk<N> {
-    /// Opens a book of eight seats.
-    pub fn open(alloc: Global, strategy: &Strategy, blanks: Blanks) -> Result<Desk<N>, Stop>
-        requires blanks { AreAllFor N.Names blanks }
-        requires seats { N.seats ≡ 8 }
-    {
-        let opening = RolloutOpening {
-            strategy,
-            name: "v1",
-            ports: &[9001, 9002],
-            seats: 8,
-            limits: Limits::usual(),
-        };
-        let opened = OpenBook::open(alloc, &opening, blanks)?;
-        Ok(Desk { opened })
-    }
-
     /// Opens a book of this many seats.
-    pub fn open_with_many_seats(
+    pub fn open(
         alloc: Global,
         strategy: &Strategy,
+        limit: SeatLimit,
         seats: u32,
         blanks: Blanks,
     ) -> Result<Desk<N>, Stop>
@@ -62,7 +47,7 @@ impl<N: Names> Desk<N> {
             seats,
             limits: Limits::usual(),
         };
-        let opened = OpenBook::open_with_many_seats(alloc, &opening, blanks)?;
+        let opened = OpenBook::open(alloc, limit, &opening, blanks)?;
         Ok(Desk { opened })
     }
 
@@ -164,7 +149,7 @@ fn work<N: Names, R: AllocGlobal + Print + Eprint>(
     requires blanks { AreAllFor N.Names blanks }
     requires seats { N.seats ≡ 8 }
 {
-    let mut desk = Desk::<N>::open(rt.alloc(), strategy, blanks)?;
+    let mut desk = Desk::<N>::open(rt.alloc(), strategy, SeatLimit::Few, 8, blanks)?;
     let end = make_calls_at(rt, &mut desk);
     desk.close();
     Ok(end)

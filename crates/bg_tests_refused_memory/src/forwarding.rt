@@ -11,7 +11,8 @@ use crate::state::State;
 use crate::stop::Stop;
 use crate::strategies::base_strategy;
 use bg_book::{
-    Book, Desk, EnterFault, GoOn, Left, Limits, Question, RolloutOpening, Ticket, laws as book_laws,
+    Book, Desk, EnterFault, GoOn, Left, Limits, Question, RolloutOpening, SeatLimit, Ticket,
+    laws as book_laws,
 };
 use bg_forward::{DeskGate, Dial, Dialled, End, Gate, InMemoryResult, Worker, serve_in_memory};
 use bg_ledger::{Blanks, Names, Seat};
@@ -120,7 +121,7 @@ fn work<N: Names, R: AllocGlobal + Print + Eprint + Wait>(
         seats: 1,
         limits: Limits::usual(),
     };
-    let (book, mut seats) = Book::<N>::open(rt.alloc(), &opening, blanks)?;
+    let (book, mut seats) = Book::<N>::open(rt.alloc(), SeatLimit::Few, &opening, blanks)?;
     let desk = Desk::new(book);
     let end = serve_first(rt, &desk, seats.as_mut_slice());
     let _history = desk.into_book().close(seats);
@@ -137,9 +138,9 @@ fn serve_first<N: Names, R: AllocGlobal + Print + Eprint + Wait>(
 {
     book_laws::same_order();
     say_made(rt, "Book::open")?;
-    let _outcomes = match made(rt, "Desk::control", record(rt, desk))? {
+    let _outcomes = match made(rt, "Desk::control_with_compaction", record(rt, desk))? {
         Some(outcomes) => outcomes,
-        None => made_again(rt, "Desk::control", record(rt, desk))?,
+        None => made_again(rt, "Desk::control_with_compaction", record(rt, desk))?,
     };
     if seats.is_empty() {
         return Err(Stop::OtherFault);
@@ -149,7 +150,7 @@ fn serve_first<N: Names, R: AllocGlobal + Print + Eprint + Wait>(
 
 /// Reports that the first revision has its endpoints.
 fn record<N: Names, R: Wait>(rt: &R, desk: &Desk<N>) -> Result<u64, Stop> {
-    Ok(desk.control(rt, &available())?)
+    Ok(desk.control_with_compaction(rt, &available())?)
 }
 
 /// Serves a client at a seat, and another one if the first was refused after an allocation failure.
@@ -196,7 +197,7 @@ fn pass_once<N: Names, R: Wait>(rt: &R, desk: &Desk<N>, seat: &mut Seat<N>) -> R
     if seat.is_in() {
         return Err(Stop::OtherFault);
     }
-    let _ticket = desk.enter(rt, seat, Service::Active)?;
+    let _ticket = desk.enter_with_compaction(rt, seat, Service::Active)?;
     let _left = desk.leave(rt, seat);
     Ok(())
 }

@@ -6,7 +6,7 @@ use crate::asking::{Subject, change, make, say_made, say_refused};
 use crate::desks::{Desk, available};
 use crate::stop::Stop;
 use crate::strategies::base_strategy;
-use bg_book::{Call, Control};
+use bg_book::{Call, Control, SeatLimit};
 use bg_ledger::{Blanks, Names};
 use bg_strategy::Strategy;
 use std::fmt;
@@ -65,7 +65,7 @@ pub fn make_calls<R: AllocGlobal + Print + Eprint>(rt: &R) -> Result<(), Stop> {
     match work::<Brand, R>(rt, &strategy, Blanks::new()) {
         Ok(end) => end,
         Err(Stop::OutOfMemory) => {
-            say_refused(rt, "Book::open_with_many_seats")?;
+            say_refused(rt, "Book::open with many seats")?;
             work::<Brand, R>(rt, &strategy, Blanks::new())?
         }
         Err(stop) => Err(stop),
@@ -81,7 +81,7 @@ fn work<N: Names, R: AllocGlobal + Print + Eprint>(
     requires blanks { AreAllFor N.Names blanks }
     requires seats { N.seats ≡ 200 }
 {
-    let mut desk = Desk::<N>::open_with_many_seats(rt.alloc(), strategy, SEATS, blanks)?;
+    let mut desk = Desk::<N>::open(rt.alloc(), strategy, SeatLimit::Many, SEATS, blanks)?;
     let end = make_calls_at(rt, &mut desk);
     desk.close();
     Ok(end)
@@ -91,7 +91,7 @@ fn make_calls_at<N: Names, R: AllocGlobal + Print + Eprint>(
     rt: &R,
     desk: &mut Desk<N>,
 ) -> Result<(), Stop> {
-    say_made(rt, "Book::open_with_many_seats")?;
+    say_made(rt, "Book::open with many seats")?;
     record(rt, desk, "Book::control at many seats", available())?;
     enter_all(rt, desk)?;
     record_moments(rt, desk)?;

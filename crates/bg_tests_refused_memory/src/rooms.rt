@@ -7,7 +7,7 @@ use crate::desks::available;
 use crate::state::State;
 use crate::stop::Stop;
 use crate::strategies::base_strategy;
-use bg_book::{Call, Limits, OpenBook, Reply, RolloutOpening};
+use bg_book::{Call, Limits, OpenBook, Reply, RolloutOpening, SeatLimit};
 use bg_ledger::{Blanks, Names};
 use bg_revisions::Service;
 use bg_strategy::Strategy;
@@ -52,7 +52,7 @@ impl<N: Names> Room<N> {
             seats: 2,
             limits: Limits::usual(),
         };
-        let opened = OpenBook::open(alloc, &opening, blanks)?;
+        let opened = OpenBook::open(alloc, SeatLimit::Few, &opening, blanks)?;
         Ok(Room { opened })
     }
 

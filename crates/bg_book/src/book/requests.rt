@@ -7,12 +7,14 @@ ghost use Rattle.bg_rollout.specs.declared.fault.EnterFault.TheVariants.{OutOfMe
 ghost use Rattle.bg_ledger.specs.Holdings.{after_leave};
 ghost use Rattle.bg_rollout.specs.PastState.{goes_on};
 ghost use Rattle.bg_rollout.specs.Gathering.{indices};
+ghost use Rattle.bg_book.specs.Desks.{AnswersEnter, AnswersLeave, enter_reply};
 ghost use Rattle.bg_book.specs.Runs.{AreOut, EnterAt, LeaveAt, LeavesAll, CallStep, Runs, Unchanged};
 ghost use Rattle.bg_history.specs.declared.entry.Entry.TheVariants as entry;
 
 use crate::book::Book;
 use crate::calls::{Call, Reply};
 use crate::fault::RunFault;
+use crate::laws as book_laws;
 use bg_history_laws as laws;
 use bg_ledger::{Names, Seat};
 use bg_revisions::Service;
@@ -30,20 +32,16 @@ impl<N: Names> Book<N> {
     ///
     /// The book's record of the seat equals the seat before the call, regardless of the calls in between.
     pub fn enter(&mut self, seat: &mut Seat<N>, service: Service) -> Result<Ticket, EnterFault>
-        requires out { seat.old.number ≡ 0 }
-        ensures met { Meets self.old seat.old }
-        ensures refusal { AnswersBy (enter_refusal self.old service) OutOfMemory result }
-        ensures ticket { IfOk result (IsTicket self.old service) }
+        requires { seat.old.number ≡ 0 }
+        ensures told { AnswersEnter self.old seat.old service (enter_reply result) self.new seat.new }
         ensures seat { IfOk result (λ t. seat.new ≡ seat_in seat.old t) }
-        ensures step { IfOk result (λ t. Stepped self.old.strategy
-            (enter_entry seat.old.index service t) self.old.past self.new.past 0) }
-        ensures book { IfOk result (λ t. self.new ≡ with_past self.old
-            self.new.past (slice_set self.old.seats seat.old.index seat.new)) }
-        ensures unchanged { OnErr result (self.new ≡ self.old) }
         ensures seat_unchanged { OnErr result (seat.new ≡ seat.old) }
     {
+        book_laws::headline(self);
         self.meet(seat);
-        self.enter_met(seat, service)
+        let answer = self.enter_met(seat, service);
+        book_laws::headline(self);
+        answer
     }
 
     /// Records that a request enters at a seat that equals the book's record of it.
@@ -75,18 +73,15 @@ impl<N: Names> Book<N> {
     /// The book's record of the seat equals the seat before the call, regardless of the calls in between. So the
     /// request's revision is still scaled, its list has the request, and the port is one of its ports.
     pub fn leave(&mut self, seat: &mut Seat<N>) -> Left
-        requires within { 0 < seat.old.number }
-        ensures met { Meets self.old seat.old }
-        ensures left { result ≡ record { number = seat.old.number; revision = seat.old.revision } }
+        requires { 0 < seat.old.number }
+        ensures told { AnswersLeave self.old seat.old result self.new seat.new }
         ensures seat { seat.new ≡ after_leave seat.old }
-        ensures step { (n : ℕ) × Stepped self.old.strategy
-            (entry.Leave seat.old.index seat.old.number seat.old.revision)
-            self.old.past self.new.past n × (n ≤ 2) }
-        ensures book { self.new ≡ with_past self.old self.new.past
-            (slice_set self.old.seats seat.old.index seat.new) }
     {
+        book_laws::headline(self);
         self.meet(seat);
-        self.leave_met(seat)
+        let left = self.leave_met(seat);
+        book_laws::headline(self);
+        left
     }
 
     /// Records that the request of a seat leaves; the seat equals the book's record of it.

@@ -1,20 +1,19 @@
 //! Resuming a book from a journal.
-ghost use Rattle.std.specs.Prelude.{◌≡◌, ◌≤◌, true, IfErr, IfOk};
+ghost use Rattle.std.specs.Prelude.{IfErr, IfOk};
 ghost use Rattle.bg_ledger.specs.Blanks.{AreAllFor};
-ghost use Rattle.bg_rollout.specs.Changes.{opened, NewSeats};
 ghost use Rattle.bg_rollout.specs.Following.{Resumes};
-ghost use Rattle.bg_rollout.specs.Gathering.{are_all};
+ghost use Rattle.bg_rollout.specs.Openings.{opened_by, IsSeatCount, OpensSeats};
 ghost use Rattle.bg_book.specs.Resuming.{ResumeFaultIs};
 
 use crate::book::Book;
 use crate::fault::ResumeFault;
 use bg_history::Entry;
 use bg_ledger::{Blanks, Names, Seat};
-use bg_rollout::{Rollout, RolloutOpening, laws as rollout_laws};
+use bg_rollout::{Rollout, RolloutOpening, SeatLimit, laws as rollout_laws};
 use std::alloc::Global;
 
 impl<N: Names> Book<N> {
-    /// Opens a book as [`Book::open_with_many_seats`] does, and resumes it from the entries of a journal, the oldest
+    /// Opens a book with up to 2,048 seats as [`Book::open`] does, and resumes it from the entries of a journal, the oldest
     /// first. The book's history is these entries, and then the outcomes that they still allow, each the first allowed
     /// one, until none is allowed; so [`crate::laws::headline`] holds of it. No request is open, and each seat is without
     /// a call.
@@ -29,18 +28,15 @@ impl<N: Names> Book<N> {
         entries: &[Entry],
     ) -> Result<(Book<N>, Vec<Seat<N>>), ResumeFault>
         requires blanks { AreAllFor N.Names blanks }
-        requires seats { 1 ≤ opening.now.seats → opening.now.seats ≤ 2048
-            → N.seats ≡ opening.now.seats }
-        ensures book { IfOk result (λ r. Resumes (opened opening.now.strategy.now
-            opening.now.name.now opening.now.ports.now opening.now.seats opening.now.limits
-            r.1.items) entries.now r.0) }
-        ensures seats { IfOk result (λ r. NewSeats opening.now.seats r.1.items) }
-        ensures all { IfOk result (λ r. are_all N.seats r.1.items ≡ true) }
+        requires count { IsSeatCount SeatLimit.Many opening.now N.seats }
+        ensures book { IfOk result
+            (λ r. Resumes (opened_by opening.now r.1.items) entries.now r.0) }
+        ensures seats { IfOk result (λ r. OpensSeats opening.now N.seats r.1.items) }
         ensures fault { IfErr result (ResumeFaultIs opening.now.strategy.now opening.now.name.now
             opening.now.ports.now opening.now.seats opening.now.limits entries.now) }
     {
         rollout_laws::gathers();
-        let (mut rollout, handed_out) = Rollout::open_with_many_seats(alloc, opening, blanks)?;
+        let (mut rollout, handed_out) = Rollout::open(alloc, SeatLimit::Many, opening, blanks)?;
         match rollout.resume(alloc, entries) {
             Ok(()) => Ok((Book { alloc, rollout }, handed_out)),
             Err(fault) => {

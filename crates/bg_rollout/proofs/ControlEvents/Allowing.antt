@@ -4,7 +4,7 @@ use Rattle.std.proofs.lemmas.Bool.Decides.{nat_tests}
 use Rattle.bg_strategy.specs.Label.{is_label}
 use Rattle.bg_revisions.specs.PortLists.{are_ports}
 use Rattle.bg_revisions.specs.Rosters.{well_formed}
-use Rattle.bg_revisions.specs.declared.revision_fault.RevisionFault.TheVariants.{BadName, BadPorts, SameTemplate, PortsDiffer}
+use Rattle.bg_revisions.specs.declared.revision_fault.RevisionFault.TheVariants.{BadName, BadPorts, SameTemplate, PortsDiffer, TooManyRevisions}
 use Rattle.bg_history.specs.Allowed.{is_allowed, is_template, fits_namesake}
 use Rattle.bg_history.specs.declared.entry.Entry.TheVariants as event
 use Rattle.bg_history.specs.Sizes.{existing, last_number}
@@ -13,7 +13,6 @@ use Rattle.bg_history.specs.AttemptBounds.{newest_of}
 use Rattle.bg_history_laws.specs.Answers.{namesake_answer, template_answer}
 use Rattle.bg_history.specs.declared.control.Control.TheVariants.{Deploy}
 use Rattle.bg_rollout.specs.declared.control_fault.ControlFault.TheVariants as fault
-use Rattle.bg_rollout.specs.ControlFaults.{of_revision}
 use Rattle.bg_rollout.specs.Refusals.{event_fault, fault_in, has_no_place}
 use Rattle.bg_rollout.specs.Routing.{Routing}
 use Rattle.bg_rollout.proofs.ControlEvents.Events.{neither, passed}
@@ -23,28 +22,28 @@ use Rattle.bg_rollout.proofs.OpenRequests.Requests.{and_both, eq_refl}
 record Fits (b : Routing) (name ports : List ℕ) : Type 0 where
   pub well_formed : (is_label name && are_ports b.strategy.replicas ports) ≡ true
   pub other : not (is_template name ports (template b.opening (newest_of b.past) b.past)) ≡ true
-  pub owned : fault_in of_revision (namesake_answer b.opening ports (namesake b.opening name b.past) b.past) ≡ None
+  pub owned : fault_in fault.Revision (namesake_answer b.opening ports (namesake b.opening name b.past) b.past) ≡ None
   pub place : has_no_place b name ≡ false
 
 fits : (b : Routing) (name ports : List ℕ) → event_fault b (Deploy name ports) ≡ None → Fits b name ports
 fits b name ports h =
-    let one = neither (fault_in of_revision (well_formed b.strategy.replicas name ports)) _ h in
-    let two = neither (fault_in of_revision (template_answer b.opening (newest_of b.past) name ports b.past)) _ one.1 in
+    let one = neither (fault_in fault.Revision (well_formed b.strategy.replicas name ports)) _ h in
+    let two = neither (fault_in fault.Revision (template_answer b.opening (newest_of b.past) name ports b.past)) _ one.1 in
     let template_fits = differs (is_template name ports (template b.opening (newest_of b.past) b.past)) two.0 in
     record {
       well_formed = formed (is_label name) (are_ports b.strategy.replicas ports) one.0;
       other = template_fits.0;
       owned = template_fits.1;
-      place = (passed (has_no_place b name) fault.TooManyRevisions None two.1).0;
+      place = (passed (has_no_place b name) (fault.Revision TooManyRevisions) None two.1).0;
     }
   where
-    formed : (l p : Bool) → fault_in of_revision (cond l (cond p (Ok (tt {0})) (Err BadPorts)) (Err BadName)) ≡ None → (l && p) ≡ true
+    formed : (l p : Bool) → fault_in fault.Revision (cond l (cond p (Ok (tt {0})) (Err BadPorts)) (Err BadName)) ≡ None → (l && p) ≡ true
     formed true true h = refl
     formed true false h = absurd (cc)
     formed false p h = absurd (cc)
 
-    differs : (t : Bool) → fault_in of_revision (cond t (Err SameTemplate) (namesake_answer b.opening ports (namesake b.opening name b.past) b.past)) ≡ None
-        → (not t ≡ true) × (fault_in of_revision (namesake_answer b.opening ports (namesake b.opening name b.past) b.past) ≡ None)
+    differs : (t : Bool) → fault_in fault.Revision (cond t (Err SameTemplate) (namesake_answer b.opening ports (namesake b.opening name b.past) b.past)) ≡ None
+        → (not t ≡ true) × (fault_in fault.Revision (namesake_answer b.opening ports (namesake b.opening name b.past) b.past) ≡ None)
     differs true h = absurd (cc)
     differs false h = (refl, h)
 
@@ -58,11 +57,11 @@ allowed_known : (b : Routing) (r : ℕ) (name ports : List ℕ) → event_fault 
     → is_allowed b.strategy b.opening (event.Deploy r name ports) b.past ≡ true
 allowed_known b r name ports h known =
     let fit = fits b name ports h in
-    let has = same_ports (has_ports ports (template b.opening r b.past)) (ap (λ (q : Option ℕ). fault_in of_revision (namesake_answer b.opening ports q b.past)) (sym known) ∙ fit.owned) in
+    let has = same_ports (has_ports ports (template b.opening r b.past)) (ap (λ (q : Option ℕ). fault_in fault.Revision (namesake_answer b.opening ports q b.past)) (sym known) ∙ fit.owned) in
     allowed b r name ports fit
     (ap (λ (q : Option ℕ). fits_namesake b.opening q r ports b.past) known ∙ and_both (r == r) (has_ports ports (template b.opening r b.past)) (eq_refl r) has)
   where
-    same_ports : (t : Bool) → fault_in of_revision (cond t (Ok (Some r)) (Err PortsDiffer)) ≡ None → t ≡ true
+    same_ports : (t : Bool) → fault_in fault.Revision (cond t (Ok (Some r)) (Err PortsDiffer)) ≡ None → t ≡ true
     same_ports true h = refl
     same_ports false h = absurd (cc)
 

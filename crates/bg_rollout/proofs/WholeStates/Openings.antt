@@ -1,7 +1,5 @@
 -- The invariant of a book that was just opened.
-use Rattle.std.proofs.Common.{◌≡◌, ℕ, ◌+◌, ◌*◌, ◌<◌, ◌≤◌, Bool, true, false, not, ◌&&◌, ◌||◌, nat_lt, nat_le, List, [], ◌∷◌, replicate, sum, Option, Some, None, Result, Ok, Err, refl, sym, ap, ◌∙◌, subst, arith}
-use Rattle.std.specs.Prelude.{IfErr}
-use Rattle.std.proofs.Common.{inr}
+use Rattle.std.proofs.Common.{◌≡◌, ℕ, ◌+◌, ◌*◌, ◌<◌, ◌≤◌, Bool, true, false, not, ◌&&◌, ◌||◌, nat_lt, nat_le, List, [], ◌∷◌, replicate, sum, Option, Some, None, refl, sym, ap, ◌∙◌, subst, arith, lit≤}
 use Rattle.std.proofs.lemmas.Bool.Decides.{nat_tests}
 use Rattle.std.proofs.lemmas.List.{get_or-replicate, length-replicate}
 use Rattle.std.proofs.lemmas.List.Folds.{sum_by-replicate}
@@ -12,9 +10,11 @@ use Rattle.bg_promotion.specs.Core.{Core}
 use Rattle.bg_promotion.specs.Represents.{CoreRepresents}
 use Rattle.bg_rollout.specs.declared.limits.Limits.{Limits}
 use Rattle.bg_ledger.specs.declared.holding.Holding.{Holding}
+use Rattle.bg_rollout.specs.declared.opening.SeatLimit.{SeatLimit}
+use Rattle.bg_rollout.specs.declared.opening.SeatLimit.TheVariants.{Few, Many}
 use Rattle.bg_rollout.specs.declared.fault.OpenFault as opening
 use Rattle.bg_rollout.specs.declared.fault.OpenFault.TheVariants as fault
-use Rattle.bg_rollout.specs.Refusals.{fault_if, is_above_usual, open_refusal_up_to, many_seats_refusal, usual_limits, AnswersBy}
+use Rattle.bg_rollout.specs.Refusals.{fault_if, is_above_usual, most_seats, open_refusal, usual_limits}
 use Rattle.bg_rollout.specs.Changes.{NewSeats, opened}
 use Rattle.bg_rollout.specs.PastState.{lists_of, seat_of}
 use Rattle.bg_rollout.specs.Invariant.{RunningParts, PartsRepresent, state_shown}
@@ -53,23 +53,27 @@ none_if false f next e h = h
 none_if true f next e h = absurd (cc)
 
 -- an opening without a fault has as many seats as it may have
-pub seats_in_range : (most : ℕ) (s : Strategy) (name ports : List ℕ) (seats : ℕ) (limits : Limits) → open_refusal_up_to most s name ports seats limits ≡ None → (1 ≤ seats) × (seats ≤ most)
-seats_in_range most s name ports seats limits h =
+pub seats_in_range : (limit : SeatLimit) (s : Strategy) (name ports : List ℕ) (seats : ℕ) (limits : Limits) → open_refusal limit s name ports seats limits ≡ None → (1 ≤ seats) × (seats ≤ most_seats limit)
+seats_in_range limit s name ports seats limits h =
     let one = passed (not (is_label name)) fault.BadName _ h in
     let two = passed (not (are_ports s.replicas ports)) fault.BadPorts _ one.1 in
-    let three = passed (not (nat_le 1 seats && nat_le seats most)) fault.BadSeats _ two.1 in
-    in_range most seats (it_is (nat_le 1 seats && nat_le seats most) three.0)
+    let three = passed (not (nat_le 1 seats && nat_le seats (most_seats limit))) fault.BadSeats _ two.1 in
+    in_range (most_seats limit) seats (it_is (nat_le 1 seats && nat_le seats (most_seats limit)) three.0)
+
+no_more_than_many : (limit : SeatLimit) → most_seats limit ≤ 2048
+no_more_than_many Few = lit≤ tt
+no_more_than_many Many = lit≤ tt
 
 -- and has no fault as an opening with many seats
-pub widened : (most : ℕ) (s : Strategy) (name ports : List ℕ) (seats : ℕ) (limits : Limits) → most ≤ 2048 → open_refusal_up_to most s name ports seats limits ≡ None → many_seats_refusal s name ports seats limits ≡ None
-widened most s name ports seats limits le h =
+pub widened : (limit : SeatLimit) (s : Strategy) (name ports : List ℕ) (seats : ℕ) (limits : Limits) → open_refusal limit s name ports seats limits ≡ None → open_refusal Many s name ports seats limits ≡ None
+widened limit s name ports seats limits h =
     let one = passed (not (is_label name)) fault.BadName _ h in
     let two = passed (not (are_ports s.replicas ports)) fault.BadPorts _ one.1 in
-    let three = passed (not (nat_le 1 seats && nat_le seats most)) fault.BadSeats _ two.1 in
-    let fit = in_wider most seats le (it_is (nat_le 1 seats && nat_le seats most) three.0) in
+    let three = passed (not (nat_le 1 seats && nat_le seats (most_seats limit))) fault.BadSeats _ two.1 in
+    let fit = in_wider (most_seats limit) seats (no_more_than_many limit) (it_is (nat_le 1 seats && nat_le seats (most_seats limit)) three.0) in
     none_if _ fault.BadName _ one.0 (none_if _ fault.BadPorts _ two.0 (none_if _ fault.BadSeats _ (ap not fit) three.1))
 
-pub fits : (s : Strategy) (name ports : List ℕ) (seats : ℕ) (limits : Limits) → many_seats_refusal s name ports seats limits ≡ None → Fits s name ports seats limits
+pub fits : (s : Strategy) (name ports : List ℕ) (seats : ℕ) (limits : Limits) → open_refusal Many s name ports seats limits ≡ None → Fits s name ports seats limits
 fits s name ports seats limits h =
     let one = passed (not (is_label name)) fault.BadName _ h in
     let two = passed (not (are_ports s.replicas ports)) fault.BadPorts _ one.1 in
@@ -156,9 +160,3 @@ pub holds_invariant-shown : (s : Strategy) (name ports : List ℕ) (count : ℕ)
 holds_invariant-shown s name ports count limits seats core fit represents new =
     subst (λ (v : Routing). PartsRepresent v (running-opened s name ports core)) (sym (shown-opened s name ports count limits seats core fit represents new))
     (holds_invariant-opened s name ports count limits seats core fit represents new)
-
--- an answer whose only fault is an allocation failure
-pub answers_by_memory : {A : Type 0} (refusal : Option opening.OpenFault) (r : Result A opening.OpenFault) → refusal ≡ None → IfErr r (λ e. e ≡ fault.OutOfMemory)
-    → AnswersBy refusal fault.OutOfMemory r
-answers_by_memory refusal (Ok a) h e = h
-answers_by_memory refusal (Err x) h e = inr (h, e)

@@ -126,7 +126,7 @@ impl<N: Names> Rollout<N> {
         self.roster.fits(name, ports)?;
         let found = self.find_namesake(name, ports)?;
         if found.is_none() && self.has_all_revisions() {
-            return Err(ControlFault::TooManyRevisions);
+            return Err(ControlFault::Revision(RevisionFault::TooManyRevisions));
         }
         Ok(found)
     }
@@ -158,8 +158,10 @@ impl<N: Names> Rollout<N> {
     {
         laws::finds();
         match self.roster.find_number(revision) {
-            None => Err(ControlFault::NoSuchRevision),
-            Some(found) if found.desired < size => Err(ControlFault::MoreThanDesired),
+            None => Err(ControlFault::Revision(RevisionFault::NoSuchRevision)),
+            Some(found) if found.desired < size => {
+                Err(ControlFault::Revision(RevisionFault::MoreThanDesired))
+            }
             Some(_) => Ok(()),
         }
     }

@@ -2,8 +2,9 @@
 ghost use Rattle.std.specs.Prelude.{◌≡◌, ◌≤◌, true, [], ◌∷◌, IfOk, IfErr, None, replicate, vec_capacity, ℕ, List, length, Some, slice_get};
 ghost use Rattle.bg_ledger.specs.Blanks.{AreAllFor};
 ghost use Rattle.bg_revisions.specs.Rosters.{is_well_formed};
-ghost use Rattle.bg_rollout.specs.Refusals.{open_refusal, open_refusal_up_to, many_seats_refusal, AnswersBy};
-ghost use Rattle.bg_rollout.specs.Changes.{first_listing, opened, NewSeats};
+ghost use Rattle.bg_rollout.specs.Openings.{opening_fault as fault_of, opened_by, IsSeatCount, OpensSeats};
+ghost use Rattle.bg_rollout.specs.Refusals.{AnswersBy};
+ghost use Rattle.bg_rollout.specs.Changes.{first_listing, NewSeats};
 ghost use Rattle.bg_rollout.specs.Gathering.{are_all as are_all_of, gather_fault as fault_in, still_in};
 ghost use Rattle.bg_rollout.specs.declared.fault.OpenFault.TheVariants.{OutOfMemory};
 ghost use Rattle.bg_history.specs.Requests.{open_requests, calls_of};
@@ -11,8 +12,8 @@ ghost use Rattle.bg_ledger.specs.declared.holding.Holding.{Holding};
 
 use crate::fault::{GatherFault, OpenFault};
 use crate::limits::Limits;
-use crate::opening::RolloutOpening;
-use crate::request_lists::{MOST_SEATS, RequestLists};
+use crate::opening::{RolloutOpening, SeatLimit};
+use crate::request_lists::RequestLists;
 use crate::rollout::Rollout;
 use bg_history::History;
 use bg_ledger::{Blanks, Names, Seat, SeatRecord, pair};
@@ -22,113 +23,29 @@ use bg_scaledown::Deadlines;
 use bg_strategy::{Strategy, is_dns_label};
 use std::alloc::Global;
 
-/// The greatest number of seats that [`Rollout::open`] takes.
-const FEW_SEATS: u32 = 8;
-
 impl<N: Names> Rollout<N> {
     /// Opens a rollout of revision 1. Gives it and its seats in order of index, each without a call. An error drops the
     /// blanks.
     ///
     /// The error is the first of these that applies: `BadName` if the name is not a DNS label; `BadPorts` if there are
-    /// not exactly `replicas` distinct ports from 1; `BadSeats` if there are not 1 to 8 seats; `BadLimits` if a limit
-    /// is above the usual one; `OutOfMemory` if an allocation fails.
+    /// not exactly `replicas` distinct ports from 1; `BadSeats` if there is no seat, or if there are more than the limit
+    /// allows; `BadLimits` if a limit is above the usual one; `OutOfMemory` if an allocation fails.
     pub fn open(
         alloc: Global,
+        limit: SeatLimit,
         opening: &RolloutOpening,
         blanks: Blanks,
     ) -> Result<(Rollout<N>, Vec<Seat<N>>), OpenFault>
         requires blanks { AreAllFor N.Names blanks }
-        requires seats { 1 ≤ opening.now.seats → opening.now.seats ≤ 8
-            → N.seats ≡ opening.now.seats }
-        ensures refusal { AnswersBy (open_refusal opening.now.strategy.now
-            opening.now.name.now opening.now.ports.now opening.now.seats opening.now.limits)
-            OutOfMemory result }
-        ensures rollout { IfOk result (λ r. r.0 ≡ record {
-          routing = opened opening.now.strategy.now opening.now.name.now opening.now.ports.now
-              opening.now.seats opening.now.limits r.1.items;
-          spare = 0;
-        }) }
-        ensures count { IfOk result (λ r. opening.now.seats ≡ N.seats) }
-        ensures seats { IfOk result (λ r. NewSeats opening.now.seats r.1.items) }
-        ensures all { IfOk result (λ r. are_all_of N.seats r.1.items ≡ true) }
+        requires count { IsSeatCount limit opening.now N.seats }
+        ensures refusal { AnswersBy (fault_of limit opening.now) OutOfMemory result }
+        ensures rollout { IfOk result (λ r.
+            r.0 ≡ record { routing = opened_by opening.now r.1.items; spare = 0 }) }
+        ensures seats { IfOk result (λ r. OpensSeats opening.now N.seats r.1.items) }
     {
-        Rollout::open_up_to(FEW_SEATS, alloc, opening, blanks)
-    }
-
-    /// Opens a rollout as [`Rollout::open`] does, but with up to [`MOST_SEATS`] seats: the error is `BadSeats` only if
-    /// there are not 1 to 2,048 seats.
-    pub fn open_with_many_seats(
-        alloc: Global,
-        opening: &RolloutOpening,
-        blanks: Blanks,
-    ) -> Result<(Rollout<N>, Vec<Seat<N>>), OpenFault>
-        requires blanks { AreAllFor N.Names blanks }
-        requires seats { 1 ≤ opening.now.seats → opening.now.seats ≤ 2048
-            → N.seats ≡ opening.now.seats }
-        ensures refusal { AnswersBy (many_seats_refusal opening.now.strategy.now
-            opening.now.name.now opening.now.ports.now opening.now.seats opening.now.limits)
-            OutOfMemory result }
-        ensures rollout { IfOk result (λ r. r.0 ≡ record {
-          routing = opened opening.now.strategy.now opening.now.name.now opening.now.ports.now
-              opening.now.seats opening.now.limits r.1.items;
-          spare = 0;
-        }) }
-        ensures count { IfOk result (λ r. opening.now.seats ≡ N.seats) }
-        ensures seats { IfOk result (λ r. NewSeats opening.now.seats r.1.items) }
-        ensures all { IfOk result (λ r. are_all_of N.seats r.1.items ≡ true) }
-    {
-        Rollout::open_up_to(MOST_SEATS, alloc, opening, blanks)
-    }
-
-    /// Opens a rollout with at most this many seats.
-    fn open_up_to(
-        most: u32,
-        alloc: Global,
-        opening: &RolloutOpening,
-        blanks: Blanks,
-    ) -> Result<(Rollout<N>, Vec<Seat<N>>), OpenFault>
-        requires most { most ≤ 2048 }
-        requires blanks { AreAllFor N.Names blanks }
-        requires seats { 1 ≤ opening.now.seats → opening.now.seats ≤ most
-            → N.seats ≡ opening.now.seats }
-        ensures refusal { AnswersBy (open_refusal_up_to most opening.now.strategy.now
-            opening.now.name.now opening.now.ports.now opening.now.seats opening.now.limits)
-            OutOfMemory result }
-        ensures rollout { IfOk result (λ r. r.0 ≡ record {
-          routing = opened opening.now.strategy.now opening.now.name.now opening.now.ports.now
-              opening.now.seats opening.now.limits r.1.items;
-          spare = 0;
-        }) }
-        ensures count { IfOk result (λ r. opening.now.seats ≡ N.seats) }
-        ensures seats { IfOk result (λ r. NewSeats opening.now.seats r.1.items) }
-        ensures all { IfOk result (λ r. are_all_of N.seats r.1.items ≡ true) }
-    {
-        if let Some(fault) = opening_fault(most, opening) {
+        if let Some(fault) = opening_fault(limit, opening) {
             return Err(fault);
         }
-        Rollout::build(alloc, opening, blanks)
-    }
-
-    /// Makes the rollout of an opening without a fault, and its seats. The only error is an allocation failure.
-    fn build(
-        alloc: Global,
-        opening: &RolloutOpening,
-        blanks: Blanks,
-    ) -> Result<(Rollout<N>, Vec<Seat<N>>), OpenFault>
-        requires fits { many_seats_refusal opening.now.strategy.now opening.now.name.now
-            opening.now.ports.now opening.now.seats opening.now.limits ≡ None }
-        requires blanks { AreAllFor N.Names blanks }
-        requires seats { N.seats ≡ opening.now.seats }
-        ensures rollout { IfOk result (λ r. r.0 ≡ record {
-          routing = opened opening.now.strategy.now opening.now.name.now opening.now.ports.now
-              opening.now.seats opening.now.limits r.1.items;
-          spare = 0;
-        }) }
-        ensures count { IfOk result (λ r. opening.now.seats ≡ N.seats) }
-        ensures seats { IfOk result (λ r. NewSeats opening.now.seats r.1.items) }
-        ensures all { IfOk result (λ r. are_all_of N.seats r.1.items ≡ true) }
-        ensures err { IfErr result (λ e. e ≡ OutOfMemory) }
-    {
         let strategy = opening.strategy.clone()?;
         Rollout::assemble(alloc, strategy, opening, blanks)
     }
@@ -141,16 +58,13 @@ impl<N: Names> Rollout<N> {
         opening: &RolloutOpening,
         blanks: Blanks,
     ) -> Result<(Rollout<N>, Vec<Seat<N>>), OpenFault>
-        requires fits { many_seats_refusal strategy opening.now.name.now
-            opening.now.ports.now opening.now.seats opening.now.limits ≡ None }
+        requires copy { strategy ≡ opening.now.strategy.now }
+        requires fits { fault_of SeatLimit.Many opening.now ≡ None }
         requires blanks { AreAllFor N.Names blanks }
-        requires seats { N.seats ≡ opening.now.seats }
-        ensures rollout { IfOk result (λ r. r.0 ≡ record {
-          routing = opened strategy opening.now.name.now opening.now.ports.now
-              opening.now.seats opening.now.limits r.1.items;
-          spare = 0;
-        }) }
-        ensures seats { IfOk result (λ r. NewSeats opening.now.seats r.1.items) }
+        requires count { N.seats ≡ opening.now.seats }
+        ensures rollout { IfOk result (λ r.
+            r.0 ≡ record { routing = opened_by opening.now r.1.items; spare = 0 }) }
+        ensures seats { IfOk result (λ r. OpensSeats opening.now N.seats r.1.items) }
         ensures err { IfErr result (λ e. e ≡ OutOfMemory) }
     {
         let (history, roster, lists) = first_parts(
@@ -220,10 +134,9 @@ impl<N: Names> Rollout<N> {
     }
 }
 
-/// The first fault of an opening with at most this many seats, other than an allocation failure, if it has one.
-fn opening_fault(most: u32, opening: &RolloutOpening) -> Option<OpenFault>
-    ensures { result ≡ open_refusal_up_to most opening.now.strategy.now opening.now.name.now
-        opening.now.ports.now opening.now.seats opening.now.limits }
+/// The first fault of an opening, other than an allocation failure, if it has one.
+fn opening_fault(limit: SeatLimit, opening: &RolloutOpening) -> Option<OpenFault>
+    ensures { result ≡ fault_of limit opening.now }
 {
     if !is_dns_label(opening.name) {
         return Some(OpenFault::BadName);
@@ -231,7 +144,7 @@ fn opening_fault(most: u32, opening: &RolloutOpening) -> Option<OpenFault>
     if !are_replica_ports(opening.strategy.replicas, opening.ports) {
         return Some(OpenFault::BadPorts);
     }
-    if opening.seats < 1 || most < opening.seats {
+    if opening.seats < 1 || limit.most() < opening.seats {
         return Some(OpenFault::BadSeats);
     }
     let usual = Limits::usual();

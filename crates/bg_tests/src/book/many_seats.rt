@@ -4,7 +4,9 @@ ghost use Rattle.bg_ledger.specs.Blanks.{AreAllFor};
 
 use super::samples::strategy;
 use crate::history::gathered::expect_audited;
-use bg_book::{Book, Call, Control, Limits, OpenFault, Reply, RolloutOpening, laws as book_laws};
+use bg_book::{
+    Book, Call, Control, Limits, OpenFault, Reply, RolloutOpening, SeatLimit, laws as book_laws,
+};
 use bg_ledger::{Blanks, Names};
 use bg_revisions::Service;
 use bg_strategy::Strategy;
@@ -31,7 +33,7 @@ fn replies_of<N: Names>(
         seats: count,
         limits: Limits::usual(),
     };
-    match Book::<N>::open_with_many_seats(alloc, &opening, blanks) {
+    match Book::<N>::open(alloc, SeatLimit::Many, &opening, blanks) {
         Ok((mut book, mut seats)) => {
             let replies = book.run(seats.as_mut_slice(), calls);
             let history = book.close(seats);

@@ -4,7 +4,7 @@ ghost use Rattle.bg_ledger.specs.Blanks.{AreAllFor};
 
 use super::samples::strategy;
 use crate::history::gathered::expect_audited;
-use bg_book::{Book, Limits, OpenFault, RolloutOpening, laws as book_laws};
+use bg_book::{Book, Limits, OpenFault, RolloutOpening, SeatLimit, laws as book_laws};
 use bg_ledger::{Blanks, Names};
 use std::alloc::Global;
 use std::marker::Brand;
@@ -76,7 +76,7 @@ fn fault_of<N: Names>(
         seats,
         limits,
     };
-    match Book::<N>::open(alloc, &opening, blanks) {
+    match Book::<N>::open(alloc, SeatLimit::Few, &opening, blanks) {
         Ok((book, seats)) => {
             expect_audited(alloc, &book.close(seats), &strategy)?;
             Ok(None)

@@ -6,7 +6,7 @@ ghost use Rattle.bg_ledger.specs.Blanks.{AreAllFor};
 use super::samples::strategy;
 use crate::history::gathered::expect_audited;
 use bg_book::{
-    Book, Call, Control, Left, Limits, Reply, RolloutOpening, Ticket, laws as book_laws,
+    Book, Call, Control, Left, Limits, Reply, RolloutOpening, SeatLimit, Ticket, laws as book_laws,
 };
 use bg_history::History;
 use bg_ledger::{Blanks, Names};
@@ -40,7 +40,7 @@ fn run_calls<N: Names>(
         seats: 4,
         limits: Limits::usual(),
     };
-    let (mut book, mut seats) = Book::<N>::open(alloc, &opening, blanks)?;
+    let (mut book, mut seats) = Book::<N>::open(alloc, SeatLimit::Few, &opening, blanks)?;
     book_laws::lent();
     let answered = book.run(seats.as_mut_slice(), calls);
     let history = book.close(seats);

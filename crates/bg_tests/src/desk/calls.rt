@@ -19,7 +19,7 @@ pub(super) fn make<N: Names, R: Wait>(
     match call {
         Call::Enter { seat, service } => enter_at(rt, desk, seats, *seat as usize, *service),
         Call::Leave { seat } => leave_at(rt, desk, seats, *seat as usize),
-        Call::Control(control) => match desk.control(rt, control) {
+        Call::Control(control) => match desk.control_with_compaction(rt, control) {
             Ok(outcomes) => Reply::Done(outcomes),
             Err(fault) => Reply::ControlRefused(fault),
         },
@@ -43,7 +43,7 @@ fn enter_at<N: Names, R: Wait>(
     if seat.is_in() {
         return Reply::SeatBusy;
     }
-    match desk.enter(rt, seat, service) {
+    match desk.enter_with_compaction(rt, seat, service) {
         Ok(ticket) => Reply::Entered(ticket),
         Err(fault) => Reply::EnterRefused(fault),
     }

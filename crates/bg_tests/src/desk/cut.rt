@@ -6,7 +6,7 @@ ghost use Rattle.bg_ledger.specs.Blanks.{AreAllFor};
 use super::calls::make;
 use crate::book::samples::strategy_with;
 use crate::history::gathered::expect_audited;
-use bg_book::{Call, Desk, GoOn, Limits, OpenBook, RolloutOpening, laws as book_laws};
+use bg_book::{Call, Desk, GoOn, Limits, OpenBook, RolloutOpening, SeatLimit, laws as book_laws};
 use bg_ledger::{Blanks, Names, Seat};
 use bg_operator::{Command, LineFault, parse_line};
 use bg_strategy::Strategy;
@@ -136,7 +136,7 @@ fn tell_at<N: Names, R: Wait>(
         seats: 4,
         limits: Limits::usual(),
     };
-    let opened = OpenBook::<N>::open(alloc, &opening, blanks)?;
+    let opened = OpenBook::<N>::open(alloc, SeatLimit::Few, &opening, blanks)?;
     let (book, mut seats) = opened.into_parts();
     let desk = Desk::new(book);
     let told = tell(rt, alloc, &desk, seats.as_mut_slice(), story);

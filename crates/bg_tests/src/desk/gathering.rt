@@ -4,7 +4,7 @@ ghost use Rattle.bg_ledger.specs.Blanks.{AreAllFor};
 
 use crate::book::samples::strategy;
 use crate::history::gathered::expect_audited;
-use bg_book::{Book, Control, GatherFault, Limits, RolloutOpening};
+use bg_book::{Book, Control, GatherFault, Limits, RolloutOpening, SeatLimit};
 use bg_ledger::{Blanks, Names, Seat};
 use bg_revisions::Service;
 use std::alloc::Global;
@@ -92,7 +92,7 @@ fn gather_often<N: Names, R: Abort>(rt: &R, alloc: Global, blanks: Blanks) -> Re
         seats: 2,
         limits: Limits::usual(),
     };
-    let (mut book, seats) = Book::<N>::open(alloc, &opening, blanks)?;
+    let (mut book, seats) = Book::<N>::open(alloc, SeatLimit::Few, &opening, blanks)?;
     if book.control(&available).is_err() {
         rt.abort();
     }

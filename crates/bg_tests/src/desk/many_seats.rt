@@ -5,7 +5,7 @@ ghost use Rattle.bg_ledger.specs.Blanks.{AreAllFor};
 use super::threads::work_and_tick;
 use crate::book::samples::strategy;
 use crate::history::gathered::expect_audited;
-use bg_book::{Book, Control, Desk, Limits, RolloutOpening, laws as book_laws};
+use bg_book::{Book, Control, Desk, Limits, RolloutOpening, SeatLimit, laws as book_laws};
 use bg_history::History;
 use bg_ledger::{Blanks, Names, Seat};
 use std::alloc::Global;
@@ -61,9 +61,9 @@ fn open_and_work<N: Names + Send + Sync, R: Threads + Wait + Sync + Abort>(
         seats: SEATS,
         limits: Limits::usual(),
     };
-    let (book, mut seats) = Book::<N>::open_with_many_seats(alloc, &opening, blanks)?;
+    let (book, mut seats) = Book::<N>::open(alloc, SeatLimit::Many, &opening, blanks)?;
     let desk = Desk::new(book);
-    let told = desk.control(rt, &available);
+    let told = desk.control_with_compaction(rt, &available);
     work_and_tick(rt, &desk, seats.as_mut_slice());
     let calls = calls_of(&seats);
     let _dropped = desk.compact(rt);

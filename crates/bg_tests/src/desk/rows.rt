@@ -10,11 +10,12 @@ use crate::book::samples::strategy_with;
 use crate::history::gathered::expect_audited;
 use crate::history::texts::lines_of;
 use bg_book::{
-    Book, Call, Desk, Limits, OpenBook, Question, Reply, RolloutOpening, laws as book_laws,
+    Book, Call, Desk, Limits, OpenBook, Question, Reply, RolloutOpening, SeatLimit,
+    laws as book_laws,
 };
 use bg_history::History;
 use bg_ledger::{Blanks, Names, Seat};
-use bg_operator::{Command, LineFault, parse_line};
+use bg_operator::{Command, LineFault, Query, parse_line};
 use bg_report::{reply, report};
 use bg_strategy::Strategy;
 use std::alloc::Global;
@@ -116,7 +117,7 @@ fn play<P: Player>(
                 reply(&player.call(&Call::Enter { seat, service }), answers)?;
             }
             Command::Leave { seat } => reply(&player.call(&Call::Leave { seat }), answers)?,
-            Command::Report => player.report(answers)?,
+            Command::Ask(Query::Report) => player.report(answers)?,
             Command::Compact => writeln!(answers, "compacted {}", player.compact())?,
             // the other lines are not for a book
             _ => return Err(LineFault::UnknownWord.into()),
@@ -164,7 +165,7 @@ fn open<N: Names>(script: &Script, blanks: Blanks) -> Result<OpenBook<N>, Fail>
         seats: SEATS,
         limits: script.limits,
     };
-    let opened = OpenBook::open(script.alloc, &opening, blanks)?;
+    let opened = OpenBook::open(script.alloc, SeatLimit::Few, &opening, blanks)?;
     Ok(opened)
 }
 

@@ -6,7 +6,7 @@ ghost use Rattle.bg_ledger.specs.Blanks.{AreAllFor};
 
 use crate::book::samples::strategy;
 use crate::history::gathered::expect_audited;
-use bg_book::{Book, Control, Desk, Limits, RolloutOpening, laws as book_laws};
+use bg_book::{Book, Control, Desk, Limits, RolloutOpening, SeatLimit, laws as book_laws};
 use bg_history::History;
 use bg_ledger::{Blanks, Names, Seat};
 use bg_revisions::Service;
@@ -30,7 +30,10 @@ fn work<N: Names, R: Wait>(rt: &R, desk: &Desk<N>, seat: &mut Seat<N>)
     ensures index { seat.new.index ≡ seat.old.index }
 {
     for _ in 0..ROUNDS {
-        if desk.enter(rt, seat, Service::Active).is_ok() {
+        if desk
+            .enter_with_compaction(rt, seat, Service::Active)
+            .is_ok()
+        {
             let _left = desk.leave(rt, seat);
         }
     }
@@ -64,7 +67,7 @@ fn work_all<N: Names + Send + Sync, R: Threads + Wait + Sync>(
 /// Makes the ticks. A refused tick is not repeated.
 fn tick<N: Names, R: Wait>(rt: &R, desk: &Desk<N>) {
     for moment in 1..=LAST_MOMENT {
-        let _told = desk.control(rt, &Control::Tick(moment));
+        let _told = desk.control_with_compaction(rt, &Control::Tick(moment));
     }
 }
 
@@ -125,9 +128,9 @@ fn open_and_work<N: Names + Send + Sync, R: Threads + Wait + Sync + Abort>(
         seats: 2,
         limits: Limits::usual(),
     };
-    let (book, mut seats) = Book::<N>::open(alloc, &opening, blanks)?;
+    let (book, mut seats) = Book::<N>::open(alloc, SeatLimit::Few, &opening, blanks)?;
     let desk = Desk::new(book);
-    let told = desk.control(rt, &available);
+    let told = desk.control_with_compaction(rt, &available);
     work_and_tick(rt, &desk, seats.as_mut_slice());
     let calls = calls_of_both(&seats);
     let history = match desk.into_book().gather(seats) {

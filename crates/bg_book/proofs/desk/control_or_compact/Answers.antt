@@ -37,9 +37,9 @@ full_once_compacted b new event answer (inr (full, answered)) is =
 
 pub returns-in-Err-HistoryFull-clause-told : goal.returns-in-Err-HistoryFull-clause-told
 returns-in-Err-HistoryFull-clause-told g c =
-    compacting c.args.book.now c.control.new.book c.compact-dropped.new.self c.control-in-Err-HistoryFull.new.book c.args.event.now _
-    (rw c.in-Err-HistoryFull.field-0-is at c.in-Err-HistoryFull.ensures.told) c.compact-dropped.ensures.new c.control-in-Err-HistoryFull.ensures.told
+    compacting c.args.book.now c.control.new.self c.compact-dropped.new.self c.control-in-Err-HistoryFull.new.self c.args.event.now _
+    (rw c.in-Err-HistoryFull.field-0-is at c.in-Err-HistoryFull.ensures) c.compact-dropped.ensures.new c.control-in-Err-HistoryFull.ensures
 
 pub returns-in-Err-HistoryFull-clause-full : goal.returns-in-Err-HistoryFull-clause-full
 returns-in-Err-HistoryFull-clause-full g c =
-    full_once_compacted c.args.book.now c.control-in-Err-HistoryFull.new.book c.args.event.now c.control-in-Err-HistoryFull.result (returns-in-Err-HistoryFull-clause-told g c)
+    full_once_compacted c.args.book.now c.control-in-Err-HistoryFull.new.self c.args.event.now c.control-in-Err-HistoryFull.result (returns-in-Err-HistoryFull-clause-told g c)

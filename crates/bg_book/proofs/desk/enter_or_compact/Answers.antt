@@ -12,14 +12,16 @@ use Rattle.bg_book.specs.declared.calls.Reply.TheVariants.{EnterRefused}
 use Rattle.bg_book.specs.Compaction.{is_history_full}
 use Rattle.bg_book.specs.Desks.{AnswersEnter, AnswersEnterCompacting, enter_reply}
 use Rattle.bg_book.specs.Runs.{EnterStep}
+use Rattle.bg_book.proofs.SeatAlone.{alone}
 use Rattle.bg_book.proofs.desk.enter_or_compact.Goals as goal
 
 -- the reply of a book that is compacted because its history is full
 compacting : (b first compacted new : Routing) (seat first_seat new_seat : Holding) (service : Service) (reply : Reply)
-    → AnswersEnter b seat service (EnterRefused HistoryFull) first first_seat → first_seat ≡ seat
+    → AnswersEnter b seat service (EnterRefused HistoryFull) first first_seat
     → compacted ≡ with_compacted first → AnswersEnter compacted first_seat service reply new new_seat
     → AnswersEnterCompacting b seat service reply new new_seat
-compacting b first compacted new seat first_seat new_seat service reply full same is answered =
+compacting b first compacted new seat first_seat new_seat service reply full is answered =
+    let same : first_seat ≡ seat = alone full.step.1.1 in
     let unchanged : first ≡ b = full.step.1.0 in
     inr (
       subst (λ (s : Holding). AnswersEnter b seat service (EnterRefused HistoryFull) b s) same
@@ -43,10 +45,10 @@ full_once_compacted b new seat new_seat service answer (inr (full, answered)) is
 
 pub returns-in-Err-HistoryFull-clause-told : goal.returns-in-Err-HistoryFull-clause-told
 returns-in-Err-HistoryFull-clause-told g c =
-    compacting c.args.book.now c.enter.new.book c.compact-dropped.new.self c.enter-in-Err-HistoryFull.new.book c.args.seat.now c.enter.new.seat c.enter-in-Err-HistoryFull.new.seat c.args.service _
-    (rw c.in-Err-HistoryFull.field-0-is at c.in-Err-HistoryFull.ensures.told) c.in-Err-HistoryFull.ensures.seat_unchanged c.compact-dropped.ensures.new c.enter-in-Err-HistoryFull.ensures.told
+    compacting c.args.book.now c.enter.new.self c.compact-dropped.new.self c.enter-in-Err-HistoryFull.new.self c.args.seat.now c.enter.new.seat c.enter-in-Err-HistoryFull.new.seat c.args.service _
+    (rw c.in-Err-HistoryFull.field-0-is at c.in-Err-HistoryFull.ensures.told) c.compact-dropped.ensures.new c.enter-in-Err-HistoryFull.ensures.told
 
 pub returns-in-Err-HistoryFull-clause-full : goal.returns-in-Err-HistoryFull-clause-full
 returns-in-Err-HistoryFull-clause-full g c =
-    full_once_compacted c.args.book.now c.enter-in-Err-HistoryFull.new.book c.args.seat.now c.enter-in-Err-HistoryFull.new.seat c.args.service c.enter-in-Err-HistoryFull.result
+    full_once_compacted c.args.book.now c.enter-in-Err-HistoryFull.new.self c.args.seat.now c.enter-in-Err-HistoryFull.new.seat c.args.service c.enter-in-Err-HistoryFull.result
     (returns-in-Err-HistoryFull-clause-told g c)

@@ -1,14 +1,15 @@
-use Rattle.std.proofs.Common.{◌≡◌, ℕ, ◌<◌, List, Some, length, get_or, slice_get, slice_set, inl, inr, refl, sym, ap, ◌∙◌, subst}
+use Rattle.std.proofs.Common.{ℕ, ◌<◌, List, Some, length, get_or, slice_get, inl, inr, refl, sym, ap, subst}
 use Rattle.std.proofs.lemmas.List.{set-get_or}
 use Rattle.std.proofs.lemmas.Option.{slice_get-get_or}
 use Rattle.bg_revisions.specs.declared.revision.Service.{Service}
 use Rattle.bg_book.specs.declared.calls.Reply.{Reply}
+use Rattle.bg_book.specs.declared.calls.Reply.TheVariants.{Entered, EnterRefused}
 use Rattle.bg_ledger.specs.declared.holding.Holding.{Holding}
-use Rattle.bg_rollout.specs.Changes.{seat_in, with_past}
 use Rattle.bg_rollout.specs.Gathering.{indices}
 use Rattle.bg_rollout.specs.Routing.{Routing}
 use Rattle.bg_book.specs.Runs.{EnterAt}
 use Rattle.bg_book.proofs.Running.{same_order, holds_one, holds_none}
+use Rattle.bg_book.proofs.SeatAlone.{entered_at}
 use Rattle.bg_book.proofs.book.Book.enter_at.Goals as goal
 
 at_seat : (b : Routing) (seats : List Holding) (place : ℕ) (d : Holding) (service : Service) (reply : Reply) (new : Routing) (new_seats : List Holding) → place < length seats
@@ -22,33 +23,23 @@ returns-then-is_in-clause-reply g c =
 
 pub returns-in-Ok-clause-reply : goal.returns-in-Ok-clause-reply
 returns-in-Ok-clause-reply g c =
-    let b = c.args.self.now in
-    let seats = c.args.seats.now in
-    let seat = get_or seats c.args.place c.index-seats-place.result in
-    let in_seat : c.enter.new.seat ≡ seat_in seat c.in-Ok.ticket = c.in-Ok.ensures.seat in
-    at_seat b seats c.args.place c.index-seats-place.result _ _ _ _ c.if-place-seats.false
-    (inr (
-      holds_none _ _ c.is_in.ensures c.if-is_in.false,
-      (
-        c.in-Ok.ensures.refusal,
-        c.in-Ok.ensures.ticket,
-        (c.in-Ok.ensures.book ∙ ap (λ (v : Holding). with_past b c.enter.new.self.past (slice_set b.seats seat.index v)) in_seat, ap (λ (v : Holding). slice_set seats c.args.place v) in_seat),
-        c.in-Ok.ensures.step,
-      ),
-    ))
-
-pub returns-in-Ok-clause-order : goal.returns-in-Ok-clause-order
-returns-in-Ok-clause-order g c = same_order c.args.seats.now c.args.place c.index-seats-place.result c.enter.new.seat c.if-place-seats.false (ap (λ (v : Holding). v.index) c.in-Ok.ensures.seat)
+    at_seat c.args.self.now c.args.seats.now c.args.place c.index-seats-place.result _ _ _ _ c.if-place-seats.false
+    (inr (holds_none _ _ c.is_in.ensures c.if-is_in.false, entered_at c.args.self.now c.enter.new.self c.args.seats.now c.args.place c.index-seats-place.result c.enter.new.seat c.args.service (Entered c.in-Ok.ticket) c.in-Ok.ensures.told.step))
 
 pub returns-in-Err-clause-reply : goal.returns-in-Err-clause-reply
 returns-in-Err-clause-reply g c =
-    let seats = c.args.seats.now in
-    let same : c.enter.new.seat ≡ get_or seats c.args.place c.index-seats-place.result = c.in-Err.ensures.seat_unchanged in
-    at_seat _ seats c.args.place c.index-seats-place.result _ _ _ _ c.if-place-seats.false
-    (inr (holds_none _ _ c.is_in.ensures c.if-is_in.false, (c.in-Err.ensures.refusal, (c.in-Err.ensures.unchanged, ap (λ (v : Holding). slice_set seats c.args.place v) same ∙ set-get_or _ _ _))))
+    at_seat c.args.self.now c.args.seats.now c.args.place c.index-seats-place.result _ _ _ _ c.if-place-seats.false
+    (inr (holds_none _ _ c.is_in.ensures c.if-is_in.false, entered_at c.args.self.now c.enter.new.self c.args.seats.now c.args.place c.index-seats-place.result c.enter.new.seat c.args.service (EnterRefused c.in-Err.fault) c.in-Err.ensures.told.step))
+
+pub returns-in-Ok-clause-order : goal.returns-in-Ok-clause-order
+returns-in-Ok-clause-order g c =
+    same_order c.args.seats.now c.args.place c.index-seats-place.result c.enter.new.seat c.if-place-seats.false
+    (ap (λ (v : Holding). v.index) c.in-Ok.ensures.seat)
 
 pub returns-in-Err-clause-order : goal.returns-in-Err-clause-order
-returns-in-Err-clause-order g c = same_order c.args.seats.now c.args.place c.index-seats-place.result c.enter.new.seat c.if-place-seats.false (ap (λ (v : Holding). v.index) c.in-Err.ensures.seat_unchanged)
+returns-in-Err-clause-order g c =
+    same_order c.args.seats.now c.args.place c.index-seats-place.result c.enter.new.seat c.if-place-seats.false
+    (ap (λ (v : Holding). v.index) c.in-Err.ensures.seat_unchanged)
 
 pub returns-then-is_in-clause-order : goal.returns-then-is_in-clause-order
 returns-then-is_in-clause-order g c = ap indices (set-get_or c.args.seats.now c.args.place _)
