@@ -35,12 +35,14 @@ from support.rule.strategy import Strategy
 
 # The files of a database, by what follows its path.
 FILES = ("", "-wal")
+# The first word of a row that says a bound of the numbers of requests.
+BOUND = "requests"
 OUTCOMES = (*STEPS, *CLEANUPS)
 Failure = Literal["write", "flush"]
 
 
-def rows_in(path: str) -> list[str]:
-    """The rows of a journal that no process has open, the oldest first. A copy is read, so that the
+def texts_in(path: str) -> list[str]:
+    """The texts of a journal that no process has open, the oldest first. A copy is read, so that the
     next start finds the files as the last one has left them."""
     with tempfile.TemporaryDirectory() as folder:
         for end in FILES:
@@ -51,6 +53,20 @@ def rows_in(path: str) -> list[str]:
             check("sqlite3 finds no fault", faults, [("ok",)])
             rows = connection.execute("SELECT text FROM entries ORDER BY number").fetchall()
     return [text for (text,) in rows]
+
+
+def is_bound(text: str) -> bool:
+    return text.split(maxsplit=1)[:1] == [BOUND]
+
+
+def rows_in(path: str) -> list[str]:
+    """The first row of a journal that no process has open, and those of its orders."""
+    return [text for text in texts_in(path) if not is_bound(text)]
+
+
+def bounds_in(path: str) -> list[int]:
+    """The bounds of the numbers of requests that a journal has, the oldest first."""
+    return [int(text.split()[1]) for text in texts_in(path) if is_bound(text)]
 
 
 def entry_of(line: str) -> Entry:

@@ -18,12 +18,13 @@ from typing import Any
 
 from refused_memory import refuse
 from support import PROGRAM, TOP, checks, clients, processes
-from support.checks import check
+from support.checks import check, comes
 from support.endpoints import Endpoint, by_target
 from support.journals import (
     FILES,
     FailingDisk,
     Failure,
+    bounds_in,
     build_object,
     events_in,
     report_by_rule,
@@ -33,8 +34,10 @@ from support.messages import BY_HAND
 from support.ports import free_ports
 from support.rule.strategy import strategy_of
 from support.switch import LISTENING, Switch, run_to_end
+from support.traffic import ACCESS_LOG
 
 # isort: split; `support` tells where the tools' package is
+from bg_switch_tools.switch.access_log import read_lines
 from bg_switch_tools.switch.connection import UnreachableError
 
 # The program itself, and not the script that starts it, which asks for memory too.
@@ -60,6 +63,8 @@ KILLED_RESTARTS, KILLED_RESTARTS_BY_HAND = 30, 300
 # The files of a restart without room have so many bytes more, run by run, up to so many.
 MORE_BYTES, MOST_BYTES = 16_384, 2**20
 CLIENTS = 4
+# How many numbers a run has before those of the next run begin, if it is killed.
+NUMBERS_OF_RUN = 10**12
 SEED = random.SystemRandom().randrange(10**9)
 
 
@@ -147,6 +152,60 @@ def orders_survive_a_kill() -> None:
                 operator.send_quit()
                 check("the last report", switch.wait(), (f"{was}calls 0\n", 0))
         check("the journal of a switch that has ended", judged(path), (was, "", 0))
+
+
+def numbers_in(log: pathlib.Path) -> list[int]:
+    """The numbers of the requests in an access log."""
+    entries = read_lines(log.read_bytes().splitlines()).entries
+    return [entry.request for entry in entries if entry.request is not None]
+
+
+def numbers_go_on() -> None:
+    """An access log over several runs has each number once: a run goes on above the bound that the last
+    one kept if it was killed, with the next number if it has ended, and if its journal is restarted.
+    """
+    endpoint = Endpoint(by_target(b"one"))
+    with a_folder() as folder:
+        path, log = f"{folder}/journal", pathlib.Path(folder) / "access.log"
+        given = list[int]()
+
+        def request(switch: Switch, count: int, first: int) -> None:
+            """Requests get numbers from this one on, and each is in the log."""
+            for _ in range(count):
+                check("a request", switch.get(switch.active), (200, b"one"))
+            given.extend(range(first, first + count))
+            check("they are in the log", comes(lambda: len(numbers_in(log)) == len(given)), True)
+            check("their numbers", numbers_in(log), given)
+
+        def end(switch: Switch) -> None:
+            with contextlib.closing(switch.operator()) as operator:
+                operator.send_quit()
+            check("the status at the end", switch.wait()[1], 0)
+
+        variables = {ACCESS_LOG: str(log)}
+        with journaled(path, variables=variables) as switch:
+            check("it is begun", switch.answer_to(f"open one {endpoint.port}"), "ok 0")
+            check("its endpoint", switch.answer_to("available 1 1"), "ok 0")
+            request(switch, 3, 1)
+        check("a bound of a run that was killed", bounds_in(path), [NUMBERS_OF_RUN])
+        with journaled(path, variables=variables) as switch:
+            request(switch, 2, NUMBERS_OF_RUN + 1)
+        with journaled(path, variables=variables) as switch:
+            check("no line of the operator", switch.count_told("can't be"), 0)
+            request(switch, 2, 2 * NUMBERS_OF_RUN + 1)
+            check("an order behind them", switch.answer_to("tick 5"), "ok 0")
+            request(switch, 1, 2 * NUMBERS_OF_RUN + 3)
+            end(switch)
+        check("a bound of a run that has ended", bounds_in(path)[-1], given[-1])
+        with journaled(path, variables=variables) as switch:
+            request(switch, 2, given[-1] + 1)
+            end(switch)
+        check("the orders", events_in(rows_in(path)), ["available 1 1", "tick 5"])
+        check("the journal is restarted", restarted(path, BY_HAND).status, 0)
+        check("the bound of the new journal", bounds_in(path), [given[-1]])
+        with journaled(path, variables=variables) as switch:
+            check("its endpoint again", switch.answer_to("available 1 1"), "ok 0")
+            request(switch, 2, given[-1] + 1)
 
 
 def what_a_start_finds_before_an_open() -> None:
@@ -685,6 +744,7 @@ if __name__ == "__main__":
         "live_journal",
         [
             orders_survive_a_kill,
+            numbers_go_on,
             what_a_start_finds_before_an_open,
             journals_that_are_refused,
             a_disk_that_fails,

@@ -9,3 +9,4 @@ pub mod BadLines
 pub mod Utf8
 pub mod LegalEntries
 pub mod SupersededTicks
+pub mod Bounds

@@ -3,3 +3,4 @@ pub mod Words
 pub mod Readings
 pub mod Faults
 pub mod Ticks
+pub mod Bounds

@@ -1,5 +1,5 @@
 //! Laws of the text of a journal. Each stands on a function that does nothing.
-ghost use Rattle.std.specs.Prelude.{◌≡◌, ℕ, not, true, List};
+ghost use Rattle.std.specs.Prelude.{◌≡◌, ◌<◌, ◌^◌, ℕ, not, true, List, None, Some};
 ghost use Rattle.std.specs.List.{list_all};
 ghost use Rattle.std.specs.Str.{IsUtf8};
 ghost use Rattle.bg_history.specs.declared.entry.Entry.{Entry};
@@ -7,6 +7,7 @@ ghost use Rattle.bg_strategy.specs.declared.strategy.Strategy.{Strategy};
 ghost use Rattle.bg_history.specs.Kept.{Opening};
 ghost use Rattle.bg_history.specs.Steps.{IsLegal};
 ghost use Rattle.bg_history_laws.specs.Journaled.{is_of_request, journaled};
+ghost use Rattle.bg_journal.specs.Bounds.{bound_in, bound_text};
 ghost use Rattle.bg_journal.specs.Texts.{entries_text, has_line, is_journaled, line_of};
 ghost use Rattle.bg_journal.specs.Ticks.{KeepsWithoutTicks};
 
@@ -49,3 +50,13 @@ pub fn ticks_may_be_dropped()
     compacts();
     keeps_table();
 }
+
+/// The text of a bound says this bound.
+pub fn bounds_are_read()
+    ensures { (n : ℕ) → n < 2 ^ 64 → bound_in (bound_text n) ≡ Some n }
+{}
+
+/// The text of entries says no bound.
+pub fn entries_say_no_bound()
+    ensures { (entries : List Entry) → bound_in (entries_text entries) ≡ None }
+{}

@@ -45,14 +45,14 @@ pub(crate) fn reopened<S: Alter + Drop, O: OpensJournal<S>>(
     }
 }
 
-/// Appends the first row to a journal without rows.
-pub(crate) fn append_first<S: Alter>(
+/// Appends a row to a journal that has exactly the rows that are remembered.
+pub(crate) fn append_text<S: Alter>(
     journal: &mut Journal<S>,
     text: &str,
 ) -> Result<(), JournalFault>
-    requires { HasCleanDisk (state S.Store journal.old) → Ties (state S.Store journal.old) [] [] }
-    ensures { HasCleanDisk (state S.Store journal.new)
-        → OnOk result (Ties (state S.Store journal.new) (text.now ∷ []) []) }
+    ensures { OnOk result ((rows : List (List ℕ))
+        → (HasCleanDisk (state S.Store journal.old) → Ties (state S.Store journal.old) rows [])
+        → HasCleanDisk (state S.Store journal.new) → Ties (state S.Store journal.new) (rows ++ text.now ∷ []) []) }
 {
     journal.append(text)
 }

@@ -1,17 +1,22 @@
 //! The orders that a database keeps.
-ghost use Rattle.std.specs.Prelude.{IfOk, ◌≡◌, ◌≢◌, ◌∷◌, ◌++◌, ◌+◌, ◌≤◌, [], drop, true, false, length, map, string_bytes, vec_capacity, vec_len};
+ghost use Rattle.std.specs.Prelude.{IfOk, OnErr, OnOk, ◌≡◌, ◌≢◌, ◌∷◌, ◌++◌, ◌+◌, ◌≤◌, [], drop, true, false, length, map, string_bytes, vec_capacity, vec_len};
 ghost use Rattle.sqlite.specs.Held.{state};
 ghost use Rattle.sqlite.specs.State.{HasCleanDisk};
+ghost use Rattle.bg_order_journal.specs.Starts.{IsKeptOrInDoubt, run_bound};
 ghost use Rattle.bg_order_journal.specs.Ties.{IsTied, MayFind, Ties, doubt_in};
 
 use crate::opens_journal::OpensJournal;
 use crate::rows::{append_again, append_row, reopened};
 use crate::start_fault::StartFault;
+use bg_journal::bound_text;
 use bg_journal_store::{Journal, JournalFault};
 use bg_script::OrderJournal;
 use sqlite::Alter;
-use std::alloc::Global;
+use std::alloc::{AllocError, Global};
 use std::marker::Model;
+
+/// More requests than a run gives numbers: 10,000 a second for three years.
+const NUMBERS_OF_RUN: u64 = 1_000_000_000_000;
 
 /// The orders in the database of a journal.
 ///
@@ -81,6 +86,27 @@ impl<S: Alter, O: OpensJournal<S>> StoredOrders<S, O> {
 }
 
 impl<S: Alter + Drop, O: OpensJournal<S>> StoredOrders<S, O> {
+    /// Begins the numbers of a run behind this one, before its first request: appends the bound of all numbers that it gives. If
+    /// the disk is not known to have it, it is in doubt, as an order would be. The only error is an allocation failure.
+    pub(crate) fn begin_numbers(&mut self, offset: u64) -> Result<(), AllocError>
+        ensures bound { OnOk result (self.old.1.1 ≡ []
+            → IsKeptOrInDoubt self.old.1.0 (run_bound offset) self.new.1.0 self.new.1.1) }
+        ensures unchanged { OnErr result (self.new ≡ self.old) }
+    {
+        let bound = bound_text(self.alloc, offset.saturating_add(NUMBERS_OF_RUN))?;
+        let is_ready = repair(
+            self.alloc,
+            &self.opener,
+            &mut self.journal,
+            &mut self.rows,
+            &mut self.doubt,
+        );
+        if is_ready {
+            let _is_kept = append(&mut self.journal, &mut self.rows, &mut self.doubt, bound);
+        }
+        Ok(())
+    }
+
     /// Moves what the log of the database still has into its file, so that the file alone has all rows, and opens the database
     /// again. The error is `Changed` if it has other rows then.
     pub(crate) fn without_log(self) -> Result<StoredOrders<S, O>, StartFault>

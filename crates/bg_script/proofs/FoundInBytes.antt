@@ -1,5 +1,5 @@
 -- The finding for a part is the finding for the bytes from which it was read.
-use Rattle.std.proofs.Common.{◌≡◌, ◌≢◌, ◌≤◌, ◌⊎◌, inl, inr, ℕ, List, length, Option, None, Some, subst}
+use Rattle.std.proofs.Common.{◌≡◌, ◌≢◌, ◌≤◌, ◌⊎◌, inl, inr, ℕ, List, [], length, Option, None, Some, subst}
 use Rattle.std.specs.Prelude.{Result, Ok, Err, MatchResult, IfOk, IfSome}
 use Rattle.std.specs.Io.KnownBytes.{Appends}
 use Rattle.bg_strategy_text.specs.Reading.{IsStrategyIn, IsFaultIn}
@@ -11,7 +11,7 @@ use Rattle.bg_script.specs.declared.run_end.RunEnd.{RunEnd}
 use Rattle.bg_script.specs.declared.run_end.RunEnd.TheVariants as run_end
 use Rattle.bg_operator.specs.declared.strategy_part.StrategyPart.{StrategyPart}
 use Rattle.bg_operator.specs.declared.strategy_part.StrategyPart.TheVariants as part
-use Rattle.bg_operator.specs.Parting.{IsWhole, largest_strategy}
+use Rattle.bg_operator.specs.Parting.{IsWhole, WasRead, largest_strategy}
 use Rattle.bg_operator.specs.Reading.{Known}
 use Rattle.bg_script.specs.Findings.{IsFinding, IsFoundIn, status_of}
 use Rattle.bg_script.specs.Findings.{finding_text}
@@ -27,15 +27,16 @@ refused_found part bytes e (Ok f) found (inl memory) is = absurd (is.1 memory)
 refused_found part bytes e (Ok f) found (inr other) is = found f is.0 (other, is.1)
 refused_found part bytes e (Err end) found why is = is.0
 
-is_finding : (p : StrategyPart) (f : Finding) (xs ys : List ℕ) → IsWhole p xs ys → IsFoundIn p f → IsFinding f xs
-is_finding (part.Whole text) (Means s) xs ys whole found =
-    (subst (λ (l : List ℕ). IsStrategyIn l s) whole.0 found, subst (λ (l : List ℕ). length l ≤ largest_strategy) whole.0 whole.2)
-is_finding (part.Whole text) (Refused e) xs ys whole found =
-    (subst (λ (l : List ℕ). IsFaultIn l e) whole.0 found.0, found.1, subst (λ (l : List ℕ). length l ≤ largest_strategy) whole.0 whole.2)
-is_finding (part.Whole text) TooLarge xs ys whole found = absurd found
-is_finding part.TooLarge (Means s) xs ys whole found = absurd found
-is_finding part.TooLarge (Refused e) xs ys whole found = absurd found
-is_finding part.TooLarge TooLarge xs ys whole found = whole
+-- the finding for a part is that for the text that was read
+pub is_finding : (p : StrategyPart) (f : Finding) (text rest ys : List ℕ) → WasRead p text rest ys → IsFoundIn p f → IsFinding f text
+is_finding (part.Whole whole) (Means s) text rest ys read found =
+    (subst (λ (l : List ℕ). IsStrategyIn l s) read.0 found, subst (λ (l : List ℕ). length l ≤ largest_strategy) read.0 read.2)
+is_finding (part.Whole whole) (Refused e) text rest ys read found =
+    (subst (λ (l : List ℕ). IsFaultIn l e) read.0 found.0, found.1, subst (λ (l : List ℕ). length l ≤ largest_strategy) read.0 read.2)
+is_finding (part.Whole whole) TooLarge text rest ys read found = absurd found
+is_finding part.TooLarge (Means s) text rest ys read found = absurd found
+is_finding part.TooLarge (Refused e) text rest ys read found = absurd found
+is_finding part.TooLarge TooLarge text rest ys read found = read
 
 -- the finding for the part that is the whole input is the finding for the input
 pub found_in_all : (known after : Option (List ℕ)) (p : StrategyPart) (r : Result Finding RunEnd) → Known known after (IsWhole p)
@@ -43,7 +44,7 @@ pub found_in_all : (known after : Option (List ℕ)) (p : StrategyPart) (r : Res
 found_in_all known after p (Err end) taken found = tt
 found_in_all None after p (Ok f) taken found = tt
 found_in_all (Some xs) None p (Ok f) taken found = absurd taken
-found_in_all (Some xs) (Some ys) p (Ok f) taken found = is_finding p f xs ys taken found
+found_in_all (Some xs) (Some ys) p (Ok f) taken found = is_finding p f xs [] ys taken found
 
 -- the lines of the finding for the whole input were written
 pub checks_all : (known first last : Option (List ℕ)) (f : Finding) (status : ℕ)

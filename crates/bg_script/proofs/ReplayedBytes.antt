@@ -1,28 +1,18 @@
 -- The finding for the part before the script, and the answers to the script, are those for the bytes from which both
 -- were read.
-use Rattle.std.proofs.Common.{◌≡◌, ◌≤◌, ℕ, Bool, List, length, if◌then◌else◌, Option, None, Some, refl, subst}
+use Rattle.std.proofs.Common.{◌≡◌, ℕ, Bool, List, if◌then◌else◌, Option, None, Some, refl, subst}
 use Rattle.std.specs.Prelude.{IfSome}
-use Rattle.bg_strategy_text.specs.Reading.{IsStrategyIn, IsFaultIn}
 use Rattle.bg_strategy.specs.declared.strategy.Strategy.{Strategy}
 use Rattle.bg_script.specs.declared.finding.Finding.{Finding}
 use Rattle.bg_script.specs.declared.finding.Finding.TheVariants.{Means, Refused, TooLarge}
 use Rattle.bg_operator.specs.declared.strategy_part.StrategyPart.{StrategyPart}
 use Rattle.bg_operator.specs.declared.strategy_part.StrategyPart.TheVariants as part
-use Rattle.bg_script.specs.Findings.{IsFinding, IsFoundIn}
-use Rattle.bg_operator.specs.Parting.{IsPart, part_of, rest_of, largest_strategy}
+use Rattle.bg_script.specs.Findings.{IsFoundIn}
+use Rattle.bg_operator.specs.Parting.{IsPart, part_of, rest_of}
+use Rattle.bg_script.proofs.FoundInBytes.{is_finding}
 use Rattle.bg_operator.specs.Reading.{Known}
 use Rattle.bg_script.specs.LineSteps.{Closed}
 use Rattle.bg_script.specs.Scripts.{Ran, RanBy, Refuses, Replays}
-
-part_finding : (p : StrategyPart) (f : Finding) (xs ys : List ℕ) → IsPart p xs ys → IsFoundIn p f → IsFinding f (part_of xs)
-part_finding (part.Whole text) (Means s) xs ys taken found =
-    (subst (λ (l : List ℕ). IsStrategyIn l s) taken.0 found, subst (λ (l : List ℕ). length l ≤ largest_strategy) taken.0 taken.2)
-part_finding (part.Whole text) (Refused e) xs ys taken found =
-    (subst (λ (l : List ℕ). IsFaultIn l e) taken.0 found.0, found.1, subst (λ (l : List ℕ). length l ≤ largest_strategy) taken.0 taken.2)
-part_finding (part.Whole text) TooLarge xs ys taken found = absurd found
-part_finding part.TooLarge (Means s) xs ys taken found = absurd found
-part_finding part.TooLarge (Refused e) xs ys taken found = absurd found
-part_finding part.TooLarge TooLarge xs ys taken found = taken
 
 part_rest : (p : StrategyPart) (s : Strategy) (xs ys : List ℕ) → IsPart p xs ys → IsFoundIn p (Means s) → ys ≡ rest_of xs
 part_rest (part.Whole text) s xs ys taken found = taken.1
@@ -42,7 +32,7 @@ replays_refused None after first last p f seats status taken found other r = tt
 replays_refused (Some xs) None first last p f seats status taken found other r = absurd taken
 replays_refused (Some xs) (Some ys) first last p f seats status taken found other r = record {
   finding = f;
-  found = part_finding p f xs ys taken found;
+  found = is_finding p f (part_of xs) (rest_of xs) ys taken found;
   run = refuses f seats first last status xs other r;
 }
 
@@ -54,7 +44,7 @@ replays_script None after first last p s seats faulted status taken found ran is
 replays_script (Some xs) None first last p s seats faulted status taken found ran is = absurd taken
 replays_script (Some xs) (Some ys) first last p s seats faulted status taken found ran is = record {
   finding = Means s;
-  found = part_finding p (Means s) xs ys taken found;
+  found = is_finding p (Means s) (part_of xs) (rest_of xs) ys taken found;
   run = (
     faulted,
     subst (λ (l : List ℕ). Ran (Closed s seats) first last faulted l) (part_rest p s xs ys taken found) ran,

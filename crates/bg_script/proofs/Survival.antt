@@ -12,13 +12,18 @@ use Rattle.bg_history.specs.Steps.{with_outcomes}
 use Rattle.bg_journal.specs.Texts.{entries_text, entry_text, is_journaled}
 use Rattle.bg_rollout.specs.Following.{Resumes}
 use Rattle.bg_rollout.specs.Routing.{Routing}
-use Rattle.bg_script.specs.Survival.{AreReadFrom, AreTextsOf, BeginsWith, entries_of}
+use Rattle.bg_script.specs.Survival.{AreReadFrom, AreTextsOf, BeginsWith, entries_of, order_text}
 
 -- the text of all orders is their texts, one after the other
 text_of_orders : (orders : List (List Entry)) → flat_map (λ text. text) (map entries_text orders) ≡ entries_text (entries_of orders)
 text_of_orders [] = refl
 text_of_orders (first ∷ orders) =
     ap (λ t. entries_text first ++ t) (text_of_orders orders) ∙ sym (flat_map-append entry_text first (entries_of orders))
+
+-- the texts of the entries that texts have, one after the other
+order_texts : (texts : List (List ℕ)) → flat_map order_text texts ≡ flat_map (λ text. text) (map order_text texts)
+order_texts [] = refl
+order_texts (text ∷ texts) = ap (λ t. order_text text ++ t) (order_texts texts)
 
 both_true : (a b : Bool) → a ≡ true → b ≡ true → (a && b) ≡ true
 both_true a b p q = ap (λ t. t && b) p ∙ q
@@ -47,19 +52,20 @@ Differ = (first second : List Entry) → list_all is_journaled first ≡ true �
 
 -- the entries that texts have, with their superseded ticks
 record IsRead (texts : List (List ℕ)) (entries : List Entry) : Type 0 where
-  text_is : entries_text entries ≡ flat_map (λ text. text) texts
+  text_is : entries_text entries ≡ flat_map order_text texts
   journaled : list_all is_journaled entries ≡ true
 
 -- the entries that are read from the texts of orders are those of the orders
 read_back : Differ → (orders : List (List Entry)) (texts : List (List ℕ)) (entries : List Entry) → AreTextsOf orders texts → IsRead texts entries
     → entries ≡ entries_of orders
 read_back differ orders texts entries are read =
-    differ entries (entries_of orders) read.journaled are.journaled (read.text_is ∙ ap (flat_map (λ text. text)) are.texts_are ∙ text_of_orders orders)
+    differ entries (entries_of orders) read.journaled are.journaled (read.text_is ∙ order_texts texts ∙ ap (flat_map (λ text. text)) are.texts_are ∙ text_of_orders orders)
 
 -- the texts of these orders, and then of those
 both_texts : (orders unsure : List (List Entry)) (kept doubt : List (List ℕ)) → AreTextsOf orders kept → AreTextsOf unsure doubt → AreTextsOf (orders ++ unsure) (kept ++ doubt)
 both_texts orders unsure kept doubt p q = record {
-  texts_are = ap (λ l. l ++ doubt) p.texts_are ∙ ap (λ l. map entries_text orders ++ l) q.texts_are ∙ sym (map-append entries_text orders unsure);
+  texts_are = map-append order_text kept doubt ∙ ap (λ l. l ++ map order_text doubt) p.texts_are ∙ ap (λ l. map entries_text orders ++ l) q.texts_are
+      ∙ sym (map-append entries_text orders unsure);
   journaled = ap (list_all is_journaled) (flat_map-append (λ entries. entries) orders unsure)
       ∙ list_all-append is_journaled (entries_of orders) (entries_of unsure) ∙ both_true _ _ p.journaled q.journaled;
 }

@@ -115,3 +115,10 @@ BookReplies condition j event _ next = ⊥
 abbrev pub OrderReply : (Routing → Bool → Type 0) → JournalState → Control → Answer → JournalState → Type 0
 OrderReply condition j event JournalFailed next = IsBehind j × (next ≡ j)
 OrderReply condition j event said next = (j.is_lost ≡ false) × BookReplies condition j event said next
+
+-- the text of a bound of request numbers, which is kept then or in doubt if each earlier order is kept
+abbrev pub AppendsBound : JournalState → List ℕ → JournalState → Type 0
+AppendsBound j text next =
+    (IsBehind j × (next ≡ j))
+    ⊎ ((j.is_lost ≡ false) × ((next ≡ with_text (without_doubt j) text j.known)
+    ⊎ (next ≡ with_doubt (without_doubt j) text j.known)))

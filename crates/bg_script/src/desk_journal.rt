@@ -1,7 +1,7 @@
 //! The journal to which a desk appends its orders.
 ghost use Rattle.std.specs.Prelude.{◌≡◌, [], false, reverse, IfSome, string_bytes};
 ghost use Rattle.bg_book.specs.OrderEntries.{leading_outcomes};
-ghost use Rattle.bg_script.specs.Journaling.{IsTextOf, Readies, SavesOrder, SavesText, journal_state};
+ghost use Rattle.bg_script.specs.Journaling.{AppendsBound, IsTextOf, Readies, SavesOrder, SavesText, journal_state};
 
 use crate::answer::Answer;
 use crate::order_journal::OrderJournal;
@@ -42,6 +42,17 @@ impl<J: OrderJournal> DeskJournal<J> {
         ensures { Readies (journal_state J.kept J.doubt self.old) result (journal_state J.kept J.doubt self.new) }
     {
         !self.is_lost && self.journal.is_ready()
+    }
+
+    /// Appends the text of a bound of request numbers, if each earlier order is kept. If the disk is not known to have it, it is
+    /// in doubt, as an order would be.
+    pub(crate) fn append_bound(&mut self, bound: String)
+        ensures { AppendsBound (journal_state J.kept J.doubt self.old) (string_bytes bound)
+            (journal_state J.kept J.doubt self.new) }
+    {
+        if self.is_ready() {
+            let _is_kept = self.journal.append(bound);
+        }
     }
 
     /// Saves an order that was carried out. Returns the answer to it: `Unsaved` if the disk is not known to have it.

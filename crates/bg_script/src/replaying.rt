@@ -12,7 +12,7 @@ use crate::answering::{FirstRevision, LinesEnd, answer_lines};
 use crate::finding::{Finding, finding_in, write_finding};
 use crate::run_end::RunEnd;
 use crate::stages::{ScriptSettings, WithoutBook};
-use bg_book::{Limits, OpenBook, OpenFault, RolloutOpening};
+use bg_book::{Limits, OpenBook, OpenFault, RolloutOpening, SeatLimit};
 use bg_ledger::{Blanks, Names};
 use bg_operator::{MOST_TURNS, OperatorLines, part_before_script};
 use bg_strategy::Strategy;
@@ -173,7 +173,7 @@ fn open<N: Names>(opening: &Opening, blanks: Blanks) -> Result<OpenBook<N>, Open
         seats: settings.seats,
         limits: Limits::usual(),
     };
-    OpenBook::open(settings.alloc, &rollout_opening, blanks)
+    OpenBook::open(settings.alloc, SeatLimit::Few, &rollout_opening, blanks)
 }
 
 /// Writes that the book is open, and answers each later line by it. Returns whether a fault was among the answers.

@@ -6,16 +6,17 @@ ghost use Rattle.bg_rollout.specs.Gathering.{are_all};
 
 use crate::context::{JournaledContext, ServeContext};
 use crate::journal::{
-    JournalRefusal, begun_journal, note_other_settings, note_resumed, resumed_book,
+    JournalRefusal, begun_journal, end_numbers, note_other_settings, note_resumed, number_offset,
+    resumed_book,
 };
 use crate::operators::Operator;
 use crate::serve::{write_listening, written};
 use crate::serving::serve_beside_operators;
-use bg_book::{Book, Desk, Limits, ResumeFault, RolloutOpening};
+use bg_book::{Book, Desk, Limits, RolloutOpening, SeatLimit};
 use bg_ledger::{Blanks, Names, Seat};
-use bg_order_journal::{OpensJournal, Resumption, open_journal};
+use bg_order_journal::{OpensJournal, Resumption, StartFault, open_journal};
 use bg_report::report;
-use bg_script::{Answer, DeskJournal, FirstRevision, LineResult, OrderJournal, RunEnd};
+use bg_script::{Answer, FirstRevision, LineResult, NumberedJournal, OrderJournal, RunEnd};
 use sqlite::Alter;
 use std::io;
 use std::io::Write;
@@ -24,6 +25,9 @@ use std::net::{Net, TcpListener, TcpStream};
 use std::sync::Wait;
 use std::thread::Threads;
 use std::time::Clock;
+
+/// The calls of a request that has left: it has entered, too.
+const CALLS_OF_A_REQUEST: u64 = 2;
 
 /// Resumes the book of the journal, if there is one and it has orders, and serves clients by it to the end. Else awaits an
 /// `open`. The error says why the journal cannot be used; then nothing was written.
@@ -41,7 +45,7 @@ where
     match open_journal::<S, O>(serve.alloc, opener, serve.strategy) {
         Ok(Some(resumption)) => {
             let blanks = Blanks::new();
-            Ok(resume_and_serve::<Brand, R, S, O, W>(serve, blanks, resumption, output)?)
+            resume_and_serve::<Brand, R, S, O, W>(serve, blanks, resumption, output)
         }
         Ok(None) => Ok(await_open::<R, S, O, W>(context, output)),
         Err(fault) => {
@@ -57,7 +61,7 @@ fn resume_and_serve<'a, N: Names + Send + Sync, R, S: Alter + Drop, O: OpensJour
     blanks: Blanks,
     resumption: Resumption<S, O>,
     output: &mut W,
-) -> Result<Result<(), RunEnd>, ResumeFault>
+) -> Result<Result<(), RunEnd>, JournalRefusal>
 where
     R: Net<Listener = TcpListener, Stream = TcpStream> + Threads + Wait + Clock + Sync,
     requires blanks { AreAllFor N.Names blanks }
@@ -71,14 +75,21 @@ where
         &resumption,
     )?;
     note_resumed(context.notices, &opened.0, resumption.count);
-    Ok(serve_resumed(context, opened, resumption.into_journal(), output))
+    match resumption.into_journal() {
+        Ok(journal) => Ok(serve_resumed(context, opened, journal, output)),
+        Err(refused) => {
+            let (book, seats) = opened;
+            let _history = book.close(seats);
+            Err(JournalRefusal::Start(StartFault::from(refused)))
+        }
+    }
 }
 
 /// Writes `listening`, and serves clients to the end by a book that was resumed.
 fn serve_resumed<'a, N: Names + Send + Sync, R, J: OrderJournal, W: Write>(
     context: &ServeContext<'a, R>,
     opened: (Book<N>, Vec<Seat<N>>),
-    journal: DeskJournal<J>,
+    journal: NumberedJournal<J>,
     output: &mut W,
 ) -> Result<(), RunEnd>
 where
@@ -169,7 +180,7 @@ where
         seats: serve.seats,
         limits: Limits::usual(),
     };
-    match Book::<N>::open_with_many_seats(serve.alloc, &opening, blanks) {
+    match Book::<N>::open(serve.alloc, SeatLimit::Many, &opening, blanks) {
         Ok(opened) => { begin_and_serve::<N, R, S, O, W>(context, opened, first, operator, output) }
         Err(fault) => Err(Answer::OpenRefused(fault)),
     }
@@ -199,12 +210,13 @@ where
     }
 }
 
-/// Serves clients by an open book to the end. Then writes the report and the number of calls.
+/// Serves clients by an open book to the end, with the numbers of requests that the journal gives, if there is one. Then ends
+/// these numbers in the journal, and writes the report and the number of calls.
 fn serve_book<'a, N: Names + Send + Sync, R, J: OrderJournal, W: Write>(
     context: &ServeContext<'a, R>,
     opened: (Book<N>, Vec<Seat<N>>),
     operator: &mut Operator<R>,
-    journal: Option<DeskJournal<J>>,
+    journal: Option<NumberedJournal<J>>,
     output: &mut W,
 ) -> Result<(), RunEnd>
 where
@@ -213,13 +225,22 @@ where
     requires out { AllOut opened.1.items }
 {
     let (book, mut seats) = opened;
+    let mut journal = journal;
     let desk = Desk::new(book);
-    serve_beside_operators(context, &desk, seats.as_mut_slice(), operator, journal);
+    let numbered = context.with_number_offset(number_offset(&journal));
+    serve_beside_operators(
+        &numbered,
+        &desk,
+        seats.as_mut_slice(),
+        operator,
+        &mut journal,
+    );
     context.notices.write_refusals();
     context.notices.write_log_trouble();
     let book = desk.into_book();
-    let reported = report(&book, output);
     let calls = calls_of(&seats);
+    end_numbers(context.alloc, &mut journal, calls / CALLS_OF_A_REQUEST);
+    let reported = report(&book, output);
     let _history = book.close(seats);
     write_calls(reported, calls, output)
 }

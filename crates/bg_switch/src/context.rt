@@ -1,4 +1,5 @@
 //! What the threads of `serve` share.
+ghost use Rattle.std.specs.Prelude.{◌≡◌};
 
 use bg_access_log::AccessLog;
 use bg_command_line::{MessageTimeout, ServeSettings};
@@ -30,12 +31,26 @@ pub struct ServeContext<'a, R> {
     pub timeout: MessageTimeout,
     /// The log of ended connections.
     pub log: Option<&'a AccessLog>,
+    /// What the log adds to the numbers of requests in the book: 0 without a journal.
+    pub number_offset: u64,
     /// The endpoints of the revisions, if a request may be dialled at another one than its ticket's.
     pub directory: Option<&'a Directory>,
     /// What refusals have as their bodies.
     pub refusal_body: RefusalBody,
     /// The notices on standard error.
     pub notices: &'a Notices<'a>,
+}
+
+impl<'a, R> ServeContext<'a, R> {
+    /// The same, with this offset of the numbers of requests.
+    pub fn with_number_offset(&self, number_offset: u64) -> ServeContext<'a, R>
+        ensures { result ≡ record self.now { number_offset = number_offset } }
+    {
+        ServeContext {
+            number_offset,
+            ..*self
+        }
+    }
 }
 
 /// What a book is opened by: what the threads share, and what opens the journal of orders, if there is one.

@@ -1,8 +1,10 @@
 //! The journal of `serve`: the book that is resumed from it, its begin, and what is told of it.
-ghost use Rattle.std.specs.Prelude.{◌≡◌, ◌≤◌, ◌∷◌, [], false, is_some, true, IfErr, IfOk, IfSome};
+ghost use Rattle.std.specs.Prelude.{◌≡◌, ◌≤◌, ◌∷◌, [], is_some, true, IfErr, IfOk, IfSome};
+ghost use Rattle.std.specs.Option.{option_map_or};
 ghost use Rattle.bg_book.specs.Resuming.{ResumeFaultIs};
 ghost use Rattle.bg_ledger.specs.Blanks.{AreAllFor};
 ghost use Rattle.bg_order_journal.specs.FirstRow.{first_row};
+ghost use Rattle.bg_order_journal.specs.Starts.{GoesOn};
 ghost use Rattle.bg_rollout.specs.Changes.{NewSeats};
 ghost use Rattle.bg_rollout.specs.Gathering.{are_all};
 ghost use Rattle.bg_rollout.specs.Refusals.{usual_limits};
@@ -14,11 +16,11 @@ use crate::serve::written;
 use bg_book::{Book, Limits, ResumeFault, RolloutOpening};
 use bg_ledger::{Blanks, Names, Seat};
 use bg_order_journal::{
-    OpensJournal, Resumption, StartFault, StoredOrders, begin_journal, recorded_strategy,
+    OpensJournal, Resumption, StartFault, StoredOrders, begin_numbered, recorded_strategy,
     settings_of,
 };
 use bg_ports::{Notices, Resumed};
-use bg_script::{DeskJournal, FirstRevision, RunEnd};
+use bg_script::{FirstRevision, NumberedJournal, OrderJournal, RunEnd};
 use bg_strategy::Strategy;
 use sqlite::Alter;
 use std::alloc::Global;
@@ -78,27 +80,48 @@ pub fn resumed_book<N: Names, S: Alter, O: OpensJournal<S>>(
     Book::resume(alloc, &opening, blanks, &resumption.entries)
 }
 
-/// Begins the journal of a book that was just opened with this revision; `None` without a journal. A notice tells why it
-/// cannot be begun.
+/// Begins the journal of a book that was just opened with this revision; `None` without a journal. The numbers of its requests
+/// begin at 1. A notice tells why it cannot be begun.
 pub fn begun_journal<R, S: Alter + Drop, O: OpensJournal<S> + Copy>(
     context: &JournaledContext<R, O>,
     first: &FirstRevision,
-) -> Result<Option<DeskJournal<StoredOrders<S, O>>>, StartFault>
+) -> Result<Option<NumberedJournal<StoredOrders<S, O>>>, StartFault>
     ensures given { IfOk result (λ begun. is_some begun ≡ is_some context.now.journal) }
-    ensures row { IfOk result (λ begun. IfSome begun (λ made. made.journal.1.0
-        ≡ first_row (strategy_text context.now.serve.now.strategy.now) first.now.name first.now.ports ∷ [])) }
-    ensures none { IfOk result (λ begun. IfSome begun (λ made. made.known ≡ 0)) }
+    ensures state { IfOk result (λ begun. IfSome begun
+        (GoesOn (first_row (strategy_text context.now.serve.now.strategy.now) first.now.name first.now.ports ∷ []) 0 0)) }
 {
     let Some(opener) = context.journal else {
         return Ok(None);
     };
     let serve = context.serve;
-    match begin_journal(serve.alloc, opener, serve.strategy, first) {
-        Ok(orders) => Ok(Some(DeskJournal::resumed(orders, &[]))),
+    match begin_numbered(serve.alloc, opener, serve.strategy, first) {
+        Ok(journal) => Ok(Some(journal)),
         Err(fault) => {
             note_refused(serve.alloc, serve.notices, &fault);
             Err(fault)
         }
+    }
+}
+
+/// Ends the numbers of the requests of a run, which gave so many, if there is a journal. If memory is short, the next run goes
+/// on as after a crash.
+pub fn end_numbers<J: OrderJournal>(
+    alloc: Global,
+    journal: &mut Option<NumberedJournal<J>>,
+    given: u64,
+) {
+    if let Some(journal) = journal {
+        let _ = journal.end(alloc, given);
+    }
+}
+
+/// The offset of the numbers of requests: 0 without a journal.
+pub fn number_offset<J: OrderJournal>(journal: &Option<NumberedJournal<J>>) -> u64
+    ensures { result ≡ option_map_or (λ numbered. numbered.offset) journal.now 0 }
+{
+    match journal {
+        Some(journal) => journal.offset,
+        None => 0,
     }
 }
 

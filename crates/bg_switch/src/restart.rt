@@ -7,7 +7,7 @@ use crate::audit::report_end;
 use crate::journal::{JournalRefusal, resumed_book, write_journal_fault};
 use crate::journal_files::{JournalFiles, remove_copy};
 use crate::serve::{write_fault, written};
-use bg_book::{Book, Limits, ResumeFault, RolloutOpening};
+use bg_book::{Book, Limits, ResumeFault, RolloutOpening, SeatLimit};
 use bg_ledger::{Blanks, Names};
 use bg_order_journal::{
     FileOpener, OpensJournal, Resumption, StartFault, StoredOrders, begin_in_file, open_journal,
@@ -178,6 +178,14 @@ struct NewJournal<'a, O: Drop> {
     ports: Option<Ports>,
 }
 
+/// What a journal begins with beside its strategy.
+#[derive(Drop)]
+struct Begin {
+    first: FirstRevision,
+    /// The bound behind which the numbers of requests begin.
+    numbers: u64,
+}
+
 /// Judges the old journal, copies it, and puts the new one in its place. The old one stays open until then, so that no other
 /// process opens it.
 fn restarted<R: Files + AllocGlobal, S: Alter + Drop, O: OpensJournal<S> + Copy>(
@@ -186,9 +194,9 @@ fn restarted<R: Files + AllocGlobal, S: Alter + Drop, O: OpensJournal<S> + Copy>
     new: &NewJournal<O>,
     report: &mut Vec<u8>,
 ) -> Result<(), RestartFault> {
-    let (_held, first) = judged_for::<S, O>(rt.alloc(), old, new)?;
+    let (_held, begin) = judged_for::<S, O>(rt.alloc(), old, new)?;
     let copy = new.files.copy(rt)?;
-    match put_in_place::<R, S, O>(rt, new, first, report) {
+    match put_in_place::<R, S, O>(rt, new, begin, report) {
         Ok(()) => match new.files.settle(rt) {
             Ok(()) => Ok(()),
             Err(error) => Err(RestartFault::Unsettled(error)),
@@ -201,19 +209,22 @@ fn restarted<R: Files + AllocGlobal, S: Alter + Drop, O: OpensJournal<S> + Copy>
 }
 
 /// Judges the old journal, and whether a book can be opened with what the new one begins with. Then moves what the log of the old
-/// one still has into its file. Gives the old one, which is open, and the first revision of the new one.
+/// one still has into its file. Gives the old one, which is open, and what the new one begins with.
 fn judged_for<S: Alter + Drop, O: OpensJournal<S> + Copy>(
     alloc: Global,
     old: O,
     new: &NewJournal<O>,
-) -> Result<(StoredOrders<S, O>, FirstRevision), RestartFault> {
+) -> Result<(StoredOrders<S, O>, Begin), RestartFault> {
     let Some(kept) = recorded_strategy::<S, O>(alloc, &old)? else {
         return Err(RestartFault::Journal(JournalRefusal::NotBegun));
     };
     match open_journal::<S, O>(alloc, old, &kept)? {
         Some(resumption) => {
-            let first = judged_first(alloc, &kept, &resumption, new)?;
-            Ok((resumption.into_file()?, first))
+            let begin = Begin {
+                first: judged_first(alloc, &kept, &resumption, new)?,
+                numbers: resumption.numbers,
+            };
+            Ok((resumption.into_file()?, begin))
         }
         None => Err(RestartFault::Journal(JournalRefusal::NotBegun)),
     }
@@ -323,7 +334,7 @@ fn judge_opening<N: Names>(
         seats: 1,
         limits: Limits::usual(),
     };
-    let (book, seats) = Book::<N>::open_with_many_seats(alloc, &opening, blanks)?;
+    let (book, seats) = Book::<N>::open(alloc, SeatLimit::Many, &opening, blanks)?;
     let _history = book.close(seats);
     Ok(())
 }
@@ -332,12 +343,13 @@ fn judge_opening<N: Names>(
 fn put_in_place<R: Files + AllocGlobal, S: Alter + Drop, O: OpensJournal<S> + Copy>(
     rt: &R,
     new: &NewJournal<O>,
-    first: FirstRevision,
+    begin: Begin,
     report: &mut Vec<u8>,
 ) -> Result<(), RestartFault> {
     let alloc = rt.alloc();
     new.files.remove_fresh(rt)?;
-    let begun = begin_in_file::<S, O>(alloc, new.opener, new.strategy, first)?;
+    let Begin { first, numbers } = begin;
+    let begun = begin_in_file::<S, O>(alloc, new.opener, new.strategy, first, numbers)?;
     let blanks = Blanks::new();
     report_end::<Brand, S, O, Vec<u8>>(alloc, new.strategy, blanks, &begun, report)??;
     new.files.replace(rt)?;

@@ -7,13 +7,13 @@ use crate::loops::serve_by_loops;
 use crate::operators::{Operator, answer_operators};
 use bg_book::Desk;
 use bg_ledger::{Names, Seat};
-use bg_script::{DeskJournal, OrderJournal};
+use bg_script::{NumberedJournal, OrderJournal};
 use std::sync::Wait;
 use std::thread::{Threads, join_mut};
 use std::time::Clock;
 
 /// Serves the clients of both services, and answers operators in parallel. Returns when both are done. If there is a journal,
-/// it keeps the orders of operators; it is dropped, and so closed, after the last one.
+/// it keeps the orders of operators.
 pub fn serve_beside_operators<
     'a,
     N: Names + Send + Sync,
@@ -24,19 +24,18 @@ pub fn serve_beside_operators<
     desk: &Desk<N>,
     seats: &mut [Seat<N>],
     operator: &mut Operator<R>,
-    journal: Option<DeskJournal<J>>,
+    journal: &mut Option<NumberedJournal<J>>,
 )
     requires { AllOut seats.old }
     ensures { AllServed seats.old seats.new }
 {
-    let mut journal = journal;
     join_mut(
         context.rt,
         &mut ||
             requires { AllOut seats.now }
             ensures { AllServed seats.entry.now seats.exit.now }
         { serve_beside_log_writer(context, desk, seats) },
-        &mut || run_operators(context, desk, operator, journal.take()),
+        &mut || run_operators(context, desk, operator, journal),
     );
 }
 
@@ -46,7 +45,7 @@ fn run_operators<'a, N: Names, R: Clock + Wait, J: OrderJournal>(
     context: &ServeContext<'a, R>,
     desk: &Desk<N>,
     operator: &mut Operator<R>,
-    journal: Option<DeskJournal<J>>,
+    journal: &mut Option<NumberedJournal<J>>,
 ) {
     answer_operators(context, desk, operator, journal);
     context.ports.control.close(context.rt);

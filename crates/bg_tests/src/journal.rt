@@ -1,6 +1,8 @@
 //! The texts of journals.
 use bg_history::Entry;
-use bg_journal::{TextFault, has_line, read_entries, read_entry, write_entries, write_entry};
+use bg_journal::{
+    TextFault, bound_in, bound_text, has_line, read_entries, read_entry, write_entries, write_entry,
+};
 use bg_revisions::{Name, Ports, Service};
 use std::alloc::Global;
 use std::test::Fail;
@@ -73,6 +75,19 @@ static OTHER_TEXTS: [(&str, usize); 5] = [
     ("abort", 1),
 ];
 
+/// Texts that say no bound of request numbers.
+static NO_BOUNDS: [&str; 9] = [
+    "",
+    "requests",
+    "requests ",
+    "requests 1\n",
+    "requests -1",
+    "requests 18446744073709551616",
+    "request 1",
+    " requests 1",
+    "tick 1\n",
+];
+
 /// The text of the entries of a text.
 fn written_again(alloc: Global, text: &str) -> Result<(usize, Vec<u8>), Fail> {
     let entries = read_entries(alloc, text)?;
@@ -143,5 +158,16 @@ fn entries_without_a_line_are_refused(rt: HostRuntime) -> Result<(), Fail> {
     // it would be read as a deploy of `a` with a port more
     assert!(rt; is_refused(alloc, &deploy(alloc, "a 1", &[5])?));
     assert!(rt; is_refused(alloc, &deploy(alloc, "a", &[5, 0])?));
+    Ok(())
+}
+
+#[test]
+fn bounds_are_read(rt: HostRuntime) -> Result<(), Fail> {
+    let greatest = bound_text(rt.alloc(), u64::MAX)?;
+    assert!(rt; greatest.as_str() == "requests 18446744073709551615");
+    assert!(rt; bound_in(greatest.as_str()) == Some(u64::MAX));
+    for text in &NO_BOUNDS {
+        assert!(rt; bound_in(text).is_none(), "{text}");
+    }
     Ok(())
 }
