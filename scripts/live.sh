@@ -23,6 +23,7 @@
 #   live_access_log, live_access_log_random   the access log, and two thousand connections of all kinds beside it
 #   live_history     a full history
 #   live_error_pages the pages of refusals
+#   live_addresses   endpoints at other addresses than 127.0.0.1
 #   live_event_loop  the event loop of bg_event_loop, by a program of its own
 #   live_keep_alive  connections of clients and to endpoints that are kept
 #   live_journal     what a start resumes from a journal, disks that fail, and kills at random
@@ -41,7 +42,8 @@ trap 'rm -rf "$work"' EXIT
 # has more of the processors.
 parts='live_clients live_history live_endpoints live_operators live_access_log_random live_control live_operator live_concurrency
     live_access_log live_timeouts live_operating live_random live_analysis live_shutdown live_attack live_controller live_event_loop
-    live_keep_alive live_resources live_journal live_memory live live_readme live_production live_error_pages live_starting'
+    live_keep_alive live_resources live_journal live_memory live live_readme live_production live_error_pages live_addresses
+    live_starting'
 # These run alone, since they start many programs: controllers with their switches, a browser, and fleets.
 alone='live_crash live_resumed live_dashboard live_fleet live_fleet_pages'
 # play COUNT PART..: runs the parts, so many at a time.

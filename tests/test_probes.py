@@ -13,6 +13,7 @@ from bg_switch_tools.controller.plan.plan import Health
 from support import endpoints
 from support.messages import response
 from support.pace import is_within
+from support.ports import IPV6, has_ipv6
 from tests.fake_port import free_port
 from tests.tool_runs import TOP, WAIT, Endpoint, comes
 
@@ -121,6 +122,17 @@ class Answers(unittest.TestCase):
 
     def test_nothing_listens(self) -> None:
         self.assertIs(asyncio.run(is_up(free_port(), HEALTH)), False)
+
+    def test_the_address_of_the_endpoint(self) -> None:
+        for address in ("127.0.0.2", *([IPV6] if has_ipv6() else [])):
+            endpoint = endpoints.Endpoint(endpoints.by_target(b"ok"), free_port(), address)
+            try:
+                ups = [
+                    asyncio.run(is_up(endpoint.port, HEALTH, at)) for at in (address, "127.0.0.1")
+                ]
+            finally:
+                endpoint.stop()
+            self.assertEqual(ups, [True, False])
 
     def test_the_limit_is_for_the_whole(self) -> None:
         begun = time.monotonic()

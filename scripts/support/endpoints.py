@@ -75,17 +75,21 @@ def read_request(connection: socket.socket) -> Request | None:
 class Endpoint:
     """A server that reads each request whole and answers it by a function. It counts its requests,
     and it can be stopped. One that is started again needs a port that was given to it, since the
-    system gives the ports that it chose to connections meanwhile."""
+    system gives the ports that it chose to connections meanwhile. It listens at an address of this
+    machine."""
 
-    def __init__(self, answer: Answer, port: int = 0) -> None:
+    def __init__(self, answer: Answer, port: int = 0, address: str = HOST) -> None:
         self.answer = answer
-        self.port = port
+        self.port, self.address = port, address
         self.served = 0
         self.lock = threading.Lock()
         self.start()
 
     def start(self) -> None:
-        self.listener = socket.create_server((HOST, self.port), backlog=BACKLOG)
+        family = socket.AF_INET6 if ":" in self.address else socket.AF_INET
+        self.listener = socket.create_server(
+            (self.address, self.port), family=family, backlog=BACKLOG
+        )
         self.port = self.listener.getsockname()[1]
         threading.Thread(target=self.accept, args=(self.listener,), daemon=True).start()
 

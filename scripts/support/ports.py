@@ -1,4 +1,5 @@
-"""Ports of 127.0.0.1 that nothing listens at, and whether connections to a port are refused."""
+"""Ports of 127.0.0.1 that nothing listens at, whether connections to a port are refused, and whether
+the machine has IPv6."""
 import itertools
 import os
 import pathlib
@@ -10,6 +11,7 @@ from collections.abc import Iterator
 from support.checks import LONGEST_WAIT, comes
 
 HOST = "127.0.0.1"
+IPV6 = "::1"
 # The scripts that run side by side. Each takes its ports from a share of its own, so that none
 # takes another's; all are below those that the system gives to connections of itself.
 SCRIPTS = (
@@ -45,6 +47,7 @@ SCRIPTS = (
     "keep_alive_soak",
     "live_journal",
     "live_resumed",
+    "live_addresses",
 )
 # The first port of the scripts, and the first that the system gives to connections of itself.
 FIRST_PORT, SYSTEM_PORT = 19_500, 32_768
@@ -62,6 +65,15 @@ def all_ports() -> Iterator[int]:
     start = os.getpid() % PORTS_EACH
     for place in itertools.count():
         yield first + (start + place) % PORTS_EACH
+
+
+def has_ipv6() -> bool:
+    """Whether the machine has the address ::1."""
+    try:
+        socket.create_server((IPV6, 0), family=socket.AF_INET6).close()
+    except OSError:
+        return False
+    return True
 
 
 class FreePorts:

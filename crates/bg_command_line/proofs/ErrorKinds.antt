@@ -12,7 +12,7 @@ use Rattle.clap.specs.declared.error.kind.ErrorKind.{ErrorKind}
 use Rattle.clap.specs.declared.error.kind.ErrorKind.TheVariants as kind
 use Rattle.bg_command_line.specs.declared.invocation.InvocationFault.{InvocationFault}
 use Rattle.bg_command_line.specs.declared.invocation.InvocationFault.TheVariants.{OutOfMemory, Words}
-use Rattle.bg_command_line.specs.CommandLine.{IsConflict, IsFaultFrom, IsFaultIn, flags_of, is_in_conflict, kinds_of, program}
+use Rattle.bg_command_line.specs.CommandLine.{IsAddressFault, IsConflict, IsFaultFrom, IsFaultIn, flags_of, is_in_conflict, kinds_of, program}
 use Rattle.bg_command_line.proofs.AcceptedWords.{is_free_program}
 
 among_first : (k : ErrorKind) (first second : Kinds) → IsAmong k first → IsAmong k (or_else first second)
@@ -30,7 +30,7 @@ fault_as words app e (Words x) is has from =
       | inl memory ↦ absurd (from.1 memory)
       | inr h ↦ among_first (kind_of e) (fault_of (program (flags_of words)) words) _ h
     ] in
-    rw from.0 (among, from.1)
+    rw from.0 (inl (among, from.1))
 
 -- words that `clap` accepts give no error other than that of a conflict
 kinds_are : (words : List Text) (name : Text) (rows : List Row) (b : Bool) → fault_of (program (flags_of words)) words ≡ []
@@ -49,4 +49,10 @@ pub conflict_as : (words : List Text) (name : Text) (rows : List Row) (fault : I
 conflict_as words name rows OutOfMemory none is conflict e_is = tt
 conflict_as words name rows (Words e) none is conflict e_is =
     let kinds : kinds_of words ≡ kind.ArgumentConflict ∷ [] = kinds_are words name rows true none is conflict in
-    (rw kinds (inl e_is), λ memory. cc)
+    inl (rw kinds (inl e_is), λ memory. cc)
+
+-- the fault for a bad address, if the words are accepted but for it
+pub address_as : (words : List Text) (name : Text) (rows : List Row) (fault : InvocationFault) → kinds_of words ≡ []
+    → subcommand_of (program (flags_of words)) words ≡ Some (name, rows) → IsAddressFault rows fault → IsFaultIn words fault
+address_as words name rows OutOfMemory none is bad = tt
+address_as words name rows (Words e) none is bad = inr ((none, (name, rows, is, bad.0)), bad.1)

@@ -6,3 +6,4 @@ pub mod SubcommandRows
 pub mod AcceptedWords
 pub mod ErrorKinds
 mod Additions
+pub mod BadAddresses

@@ -62,7 +62,8 @@ client_and_later flags =
 
 abbrev endpoint_and_later : Flags → List Rule
 endpoint_and_later flags =
-    held (flag_rule (codes "redispatch")) ∷ held (number_rule (codes "endpoint-limit") 1023) ∷ client_and_later flags
+    held (flag_rule (codes "redispatch")) ∷ held (number_rule (codes "endpoint-limit") 1023)
+    ∷ held (text_rule (codes "endpoint-address")) ∷ client_and_later flags
 
 abbrev worker_and_later : Flags → List Rule
 worker_and_later flags =
@@ -104,7 +105,10 @@ client_and_later_keep flags = let c = (serve flags).rules in (
 endpoint_and_later_keep : (flags : Flags) → Each (Keeps (serve flags).rules) (endpoint_and_later flags)
 endpoint_and_later_keep flags = let c = (serve flags).rules in (
   flag_keeps c false (codes "redispatch") refl,
-  (number_keeps c (codes "endpoint-limit") 1023 refl, client_and_later_keep flags),
+  (
+    number_keeps c (codes "endpoint-limit") 1023 refl,
+    (text_keeps c false (codes "endpoint-address") refl, client_and_later_keep flags),
+  ),
 )
 
 worker_and_later_keep : (flags : Flags) → Each (Keeps (serve flags).rules) (worker_and_later flags)
@@ -173,7 +177,10 @@ client_and_later_defaults flags = let c = (serve flags).rules in (
 endpoint_and_later_defaults : (flags : Flags) → Each (DefaultKeeps (serve flags).rules) (endpoint_and_later flags)
 endpoint_and_later_defaults flags = let c = (serve flags).rules in (
   flag_default_keeps c false (codes "redispatch") refl,
-  (no_default_keeps c (held (number_rule (codes "endpoint-limit") 1023)) refl, client_and_later_defaults flags),
+  (
+    no_default_keeps c (held (number_rule (codes "endpoint-limit") 1023)) refl,
+    (no_default_keeps c (held (text_rule (codes "endpoint-address"))) refl, client_and_later_defaults flags),
+  ),
 )
 
 worker_and_later_defaults : (flags : Flags) → Each (DefaultKeeps (serve flags).rules) (worker_and_later flags)

@@ -1,5 +1,5 @@
 -- The program's command line, and what the words ask for.
-use Rattle.std.specs.Prelude.{◌≡◌, ◌≢◌, ◌≤◌, ◌/◌, max, eqb, ◌&&◌, ◌||◌, ℕ, Bool, List, [], ◌∷◌, codes, drop, Option, Some, None, IfSome, if◌then◌else◌, is_some, not, false, true, option_map, unwrap_or}
+use Rattle.std.specs.Prelude.{◌≡◌, ◌≢◌, ◌≤◌, ◌⊎◌, ◌/◌, max, eqb, ◌&&◌, ◌||◌, ℕ, Bool, List, [], ◌∷◌, codes, drop, Option, Some, None, IfSome, if◌then◌else◌, is_some, not, false, true, option_map, unwrap_or}
 use Rattle.std.specs.List.{list_any, starts_with}
 use Rattle.std.specs.Option.{option_map_or}
 use Rattle.std.specs.Str.{bytes_eq}
@@ -10,6 +10,7 @@ use Rattle.clap.specs.declared.error.Error.{Error}
 use Rattle.clap.specs.declared.error.kind.ErrorKind.TheVariants as kind
 use Rattle.clap.specs.declared.builder.action.ArgAction.TheVariants.{SetTrue}
 use Rattle.clap.specs.declared.builder.value_parser.ValueParser.TheVariants as value_parser
+use Rattle.bg_command_line.specs.Addresses.{HasBadAddress, IsEndpointAddress}
 use Rattle.bg_command_line.specs.declared.command_option.CommandOption.{CommandOption}
 use Rattle.bg_command_line.specs.declared.command_option.OptionValue.{OptionValue}
 use Rattle.bg_command_line.specs.declared.command_option.OptionValue.TheVariants as option_value
@@ -126,10 +127,11 @@ with_worker_rules concurrency a = with_rule (with_rule (with_rule (with_rule a
     (number_rule (codes "preview-concurrency") 1023))
     (number_rule (codes "threads") 64)
 
--- `[--redispatch] [--endpoint-limit M]`
+-- `[--redispatch] [--endpoint-limit M] [--endpoint-address ADDRESS]`
 abbrev pub with_endpoint_rules : App → App
-with_endpoint_rules a = with_rule (with_rule a (flag_rule (codes "redispatch")))
-    (number_rule (codes "endpoint-limit") 1023)
+with_endpoint_rules a = with_rule (with_rule (with_rule a (flag_rule (codes "redispatch")))
+    (number_rule (codes "endpoint-limit") 1023))
+    (text_rule (codes "endpoint-address"))
 
 -- `[--abort-on-close] [--shutdown-grace S] [--error-pages]`
 abbrev pub with_client_rules : App → App
@@ -153,10 +155,10 @@ abbrev pub with_connection_rules : Bool → App → App
 with_connection_rules forever a = with_rule (with_rule a (count_rule forever)) (forever_rule forever)
 
 -- `serve --active P [--preview P] [--control-socket-mode MODE] [--control-socket-group GROUP] [--preview-concurrency M]
--- [--threads N] [--redispatch] [--endpoint-limit M] [--abort-on-close] [--shutdown-grace S] [--error-pages] [--keep-alive]
--- [--keep-alive-timeout S] [--keep-alive-requests N] [--endpoint-keep-alive-timeout S] [--journal FILE]`, with `--control P`
--- or `--control-socket PATH` or both, `--workers N` or `--concurrency N`, and `--count K` or `--forever`; the flags say which of
--- each two is required
+-- [--threads N] [--redispatch] [--endpoint-limit M] [--endpoint-address ADDRESS] [--abort-on-close] [--shutdown-grace S]
+-- [--error-pages] [--keep-alive] [--keep-alive-timeout S] [--keep-alive-requests N] [--endpoint-keep-alive-timeout S]
+-- [--journal FILE]`, with `--control P` or `--control-socket PATH` or both, `--workers N` or `--concurrency N`, and `--count K`
+-- or `--forever`; the flags say which of each two is required
 abbrev pub serve_app : Flags → App
 serve_app flags = with_connection_rules flags.forever (with_journal_rule (with_keep_alive_rules (with_client_rules
     (with_endpoint_rules (with_worker_rules flags.concurrency (with_control_rules flags.socket
@@ -299,6 +301,7 @@ pub record IsServe (flags : Flags) (rows : List Row) (settings : ServeSettings) 
   pub redispatch_is : settings.redispatch ≡ has_flag (codes "redispatch") rows
   pub endpoint_limit_is : settings.endpoint_limit ≡ number_of (codes "endpoint-limit") rows
   pub endpoint_limit_range : IfSome settings.endpoint_limit (IsBetween 1 1023)
+  pub endpoint_address_is : IsEndpointAddress rows settings.endpoint_address
   pub abort_on_close_is : settings.abort_on_close ≡ has_flag (codes "abort-on-close") rows
   pub shutdown_grace_is : settings.shutdown_grace ≡ unwrap_or (number_of (codes "shutdown-grace") rows) 1
   pub shutdown_grace_range : IsBetween 1 60 settings.shutdown_grace
@@ -328,11 +331,19 @@ IsInvocationIn words o = (kinds_of words ≡ [])
     × (subcommand_of (program (flags_of words)) words ≡ Some (name, rows))
     × IsInvocationOf (flags_of words) name rows o)
 
+-- the words are accepted but for an address, which is bad
+abbrev pub HasBadAddressIn : List Text → Type 0
+HasBadAddressIn words = (kinds_of words ≡ [])
+    × ((name : Text) × (rows : List Row)
+    × (subcommand_of (program (flags_of words)) words ≡ Some (name, rows))
+    × HasBadAddress rows)
+
 -- an allocation failed, or the words are refused with this error
 abbrev pub IsFaultIn : List Text → InvocationFault → Type 0
 IsFaultIn words OutOfMemory = Unit {0}
 IsFaultIn words (Words e) =
-    IsAmong (kind_of e) (kinds_of words) × (kind_of e ≢ kind.OutOfMemory)
+    (IsAmong (kind_of e) (kinds_of words) × (kind_of e ≢ kind.OutOfMemory))
+    ⊎ (HasBadAddressIn words × (kind_of e ≡ kind.ValueValidation))
 
 -- the words ask for the program's version
 abbrev pub AsksForVersion : InvocationFault → Type 0
@@ -348,6 +359,16 @@ IsFaultFrom e (Words x) = (x ≡ e) × (kind_of e ≢ kind.OutOfMemory)
 abbrev pub IsConflict : InvocationFault → Type 0
 IsConflict OutOfMemory = Unit {0}
 IsConflict (Words e) = kind_of e ≡ kind.ArgumentConflict
+
+-- the fault for a bad value
+abbrev pub IsValueFault : InvocationFault → Type 0
+IsValueFault OutOfMemory = Unit {0}
+IsValueFault (Words e) = kind_of e ≡ kind.ValueValidation
+
+-- the fault for a bad address among the arguments
+abbrev pub IsAddressFault : List Row → InvocationFault → Type 0
+IsAddressFault rows OutOfMemory = Unit {0}
+IsAddressFault rows (Words e) = HasBadAddress rows × (kind_of e ≡ kind.ValueValidation)
 
 -- the argument is a number in this range, if it is given
 abbrev pub IsIn : ℕ → ℕ → Text → List Row → Type 0

@@ -72,12 +72,16 @@ serve takes, on ports of 127.0.0.1:
                1 with --workers, and with --concurrency an eighth of N, at least 1; it has no effect
                without --preview
   --threads N  how many event loops serve the clients of the active port, each in a thread of its own,
-               1 to 64; as many as the machine has processors where it isn't given
+               1 to 64; as many as the machine has processors, but at most one for each four requests at
+               a time, where it isn't given
   --redispatch another endpoint of the same revision is asked if one can't be connected to
   --endpoint-limit M
                how many requests at a time an endpoint gets while another one of its revision is free,
                1 to 1023; twice an equal part of all requests at a time, but at most half of them, where it
                isn't given; it has no effect without --redispatch
+  --endpoint-address ADDRESS
+               IPv4 or IPv6 address at which the ports of endpoints are, as 127.0.0.2 or fd00::2; 127.0.0.1 where
+               it isn't given
   --abort-on-close
                a request ends once its client has ended its input, not only once it has reset the connection
   --shutdown-grace S
@@ -165,10 +169,10 @@ fn journal_command<'a>(alloc: Global) -> Result<Command<'a>, AllocError>
 }
 
 /// `serve --active P [--preview P] [--control-socket-mode MODE] [--control-socket-group GROUP] [--preview-concurrency M]
-/// [--threads N] [--redispatch] [--endpoint-limit M] [--abort-on-close] [--shutdown-grace S] [--error-pages] [--keep-alive]
-/// [--keep-alive-timeout S] [--keep-alive-requests N] [--endpoint-keep-alive-timeout S] [--journal FILE]`, with `--control P`
-/// or `--control-socket PATH` or both, `--workers N` or `--concurrency N`, and `--count K` or `--forever`. The flags say which
-/// of each two is required.
+/// [--threads N] [--redispatch] [--endpoint-limit M] [--endpoint-address ADDRESS] [--abort-on-close] [--shutdown-grace S]
+/// [--error-pages] [--keep-alive] [--keep-alive-timeout S] [--keep-alive-requests N] [--endpoint-keep-alive-timeout S]
+/// [--journal FILE]`, with `--control P` or `--control-socket PATH` or both, `--workers N` or `--concurrency N`, and `--count K`
+/// or `--forever`. The flags say which of each two is required.
 fn serve_command<'a>(alloc: Global, flags: Flags) -> Result<Command<'a>, AllocError>
     ensures app { IfOk result (λ c. app_of c ≡ serve_app flags) }
     ensures local { IfOk result (λ c. (fields_of c).has_globals ≡ false) }
@@ -179,9 +183,13 @@ fn serve_command<'a>(alloc: Global, flags: Flags) -> Result<Command<'a>, AllocEr
     with_options(alloc, named, &serve_options(flags))
 }
 
-/// The error for `serve` with two words of which one replaces the other.
-pub fn conflict<'a>(alloc: Global, message: &'a str) -> Result<Error, AllocError>
-    ensures { IfOk result (λ e. kind_of e ≡ ErrorKind.ArgumentConflict) }
+/// The error of this kind for the words of `serve`.
+pub fn error_of_serve<'a>(
+    alloc: Global,
+    kind: ErrorKind,
+    message: &'a str,
+) -> Result<Error, AllocError>
+    ensures { IfOk result (λ e. kind_of e ≡ kind) }
 {
     let flags = Flags {
         forever: true,
@@ -189,7 +197,7 @@ pub fn conflict<'a>(alloc: Global, message: &'a str) -> Result<Error, AllocError
         socket: true,
     };
     let mut command: Command<'a> = serve_command(alloc, flags)?.bin_name("bg_switch serve")?;
-    command.error(ErrorKind::ArgumentConflict, message)
+    command.error(kind, message)
 }
 
 /// `bg_switch`, without its subcommands.

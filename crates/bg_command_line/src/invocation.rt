@@ -6,6 +6,7 @@ ghost use Rattle.bg_command_line.specs.declared.invocation.InvocationFault.TheVa
 use clap::Error;
 use clap::error::ErrorKind;
 use std::alloc::AllocError;
+use std::net::IpAddr;
 use thiserror::Error as DeriveError;
 
 /// What the words of the command line ask for.
@@ -95,7 +96,8 @@ pub struct ServeSettings<'a> {
     /// 1 with `--workers`, and with `--concurrency` an eighth of its number, at least 1.
     pub preview_workers: u16,
     /// The number of event loops that serve the clients of the active port, each in a thread of its own (nginx's
-    /// `worker_processes`, HAProxy's `nbthread`), 1 to 64; `None` stands for as many as the machine has processors.
+    /// `worker_processes`, HAProxy's `nbthread`), 1 to 64; `None` stands for as many as the machine has processors, but at
+    /// most one for each four requests at a time.
     pub threads: Option<u16>,
     /// Whether another endpoint of the revision is asked if one can't be connected to (HAProxy's `option
     /// redispatch`, nginx's `proxy_next_upstream error`).
@@ -104,6 +106,9 @@ pub struct ServeSettings<'a> {
     /// of a server), 1 to 1,023; `None` stands for twice an equal part of the requests at a time, but at most half of
     /// them. It has no effect unless `redispatch` holds.
     pub endpoint_limit: Option<u16>,
+    /// The address at which the ports of endpoints are (that of a `server` of nginx's `upstream` or of HAProxy's `backend`): not
+    /// 0.0.0.0 or `::`, and no IPv4-mapped IPv6 address.
+    pub endpoint_address: IpAddr,
     /// Whether a request ends if its client has only ended its input (HAProxy's `option abortonclose`). If not, it ends
     /// only if its client resets the connection.
     pub abort_on_close: bool,

@@ -1,9 +1,11 @@
 //! The program's settings: the words of its command line, and the variable of its environment.
 #![tactic(auto)]
 
+mod addresses;
 mod arguments;
 mod command_line;
 mod command_option;
+mod faults;
 mod invocation;
 mod message_timeout;
 mod numbers;

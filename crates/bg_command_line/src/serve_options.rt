@@ -28,11 +28,12 @@ const MOST_COUNT: u64 = 1_000_000;
 
 /// The options of `serve`: `--active P [--preview P]`; `--control P`, `--control-socket PATH`, `[--control-socket-mode MODE]`
 /// and `[--control-socket-group GROUP]`; `--workers N`, `--concurrency N`, `[--preview-concurrency M]` and `[--threads N]`;
-/// `[--redispatch] [--endpoint-limit M]`; `[--abort-on-close] [--shutdown-grace S] [--error-pages]`; `[--keep-alive]
+/// `[--redispatch] [--endpoint-limit M]
+/// [--endpoint-address ADDRESS]`; `[--abort-on-close] [--shutdown-grace S] [--error-pages]`; `[--keep-alive]
 /// [--keep-alive-timeout S] [--keep-alive-requests N] [--endpoint-keep-alive-timeout S]`; `[--journal FILE]`; `--count K` and
 /// `--forever`. The flags say which of `--control` and `--control-socket` is required, which of `--workers` and
 /// `--concurrency`, and which of `--count` and `--forever`.
-pub(crate) fn serve_options<'a>(flags: Flags) -> [CommandOption<'a>; 22]
+pub(crate) fn serve_options<'a>(flags: Flags) -> [CommandOption<'a>; 23]
     ensures { (before : App) → fold with_rule before (map option_rule result) ≡ with_connection_rules flags.forever
         (with_journal_rule (with_keep_alive_rules (with_client_rules (with_endpoint_rules (with_worker_rules flags.concurrency
         (with_control_rules flags.socket (with_port_rules before))))))) }
@@ -109,6 +110,12 @@ pub(crate) fn serve_options<'a>(flags: Flags) -> [CommandOption<'a>; 22]
             value: OptionValue::UpTo(MOST_REQUESTS),
             required: false,
             help: "How many requests at a time an endpoint gets while another one of its revision is free, 1 to 1023; twice an equal part of all, but at most half, where it isn't given; has no effect without --redispatch",
+        },
+        CommandOption {
+            name: "endpoint-address",
+            value: OptionValue::Text("ADDRESS"),
+            required: false,
+            help: "The IPv4 or IPv6 address at which the ports of endpoints are; 127.0.0.1 where it isn't given",
         },
         CommandOption {
             name: "abort-on-close",

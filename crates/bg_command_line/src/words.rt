@@ -2,10 +2,13 @@
 ghost use Rattle.std.specs.Prelude.{◌≡◌, IfOk, IfErr, IfSome, map, codes, option_map, is_some, false, true, unwrap_or};
 ghost use Rattle.std.specs.List.{list_any};
 ghost use Rattle.clap.specs.Words.{IsUnsignedIn, first_of, found_of, rows_of};
-ghost use Rattle.bg_command_line.specs.CommandLine.{AreConnections, AreWorkers, HasWordsOfServe, IsBetween, IsConflict, IsFaultFrom, IsFaultIn, IsIn, IsKnown, IsInvocationIn, IsInvocationOf, IsControlSocket, IsKeepAlive, IsMode, default_preview_workers, flags_of, has_flag, has_option, has_word, is_in_conflict, is_option, number, number_of};
+ghost use Rattle.bg_command_line.specs.Addresses.{IsEndpointAddress};
+ghost use Rattle.bg_command_line.specs.CommandLine.{AreConnections, AreWorkers, IsAddressFault, HasWordsOfServe, IsBetween, IsFaultIn, IsIn, IsKnown, IsInvocationIn, IsInvocationOf, IsControlSocket, IsKeepAlive, IsMode, default_preview_workers, flags_of, has_flag, has_option, has_word, is_in_conflict, is_option, number, number_of};
 
+use crate::addresses::endpoint_address_of;
 use crate::arguments::{argument_text, has_flag, required_text};
-use crate::command_line::{conflict, program_command};
+use crate::command_line::program_command;
+use crate::faults::{address_fault, conflict_fault, fault_of};
 use crate::invocation::{
     Connections, ControlSocket, Flags, Invocation, InvocationFault, KeepAlive, ServeSettings,
 };
@@ -13,9 +16,9 @@ use crate::numbers::{
     count_in, grace_in, idle_seconds_in, mode_in, port_in, requests_in, seats_in, threads_in,
     workers_in,
 };
-use clap::error::ErrorKind;
-use clap::{ArgMatches, Error};
+use clap::ArgMatches;
 use std::alloc::Global;
+use std::net::IpAddr;
 
 /// The number of seats of a replay if `--seats` is not given.
 const DEFAULT_SEATS: u8 = 4;
@@ -40,14 +43,14 @@ const DEFAULT_KEPT_REQUESTS: u32 = 1_000;
 /// P]` with `--control P` or `--control-socket PATH` or both, with ports from 1 to 65535, either `--workers N` with N from 1 to 7 or `--concurrency N`
 /// with N from 1 to 1023, and either `--count K` with K from 1 to 1,000,000 or `--forever`. `serve` also takes
 /// `--preview-concurrency M` and `--endpoint-limit M` with M from 1 to 1023, `--threads N` with N from 1 to 64,
-/// `--redispatch`, `--abort-on-close`, `--error-pages`, `--shutdown-grace S` with S from 1 to 60, `--control-socket-mode
-/// MODE` with MODE from 1 to 777, `--control-socket-group GROUP`, `--keep-alive`, `--keep-alive-timeout S` and
-/// `--endpoint-keep-alive-timeout S` with S from 1 to 3,600, `--keep-alive-requests N` with N from 1 to 1,000,000, and
-/// `--journal FILE`. A value may also follow its option after `=`, in the same word.
+/// `--redispatch`, `--endpoint-address ADDRESS`, `--abort-on-close`, `--error-pages`, `--shutdown-grace S` with S from 1 to 60,
+/// `--control-socket-mode MODE` with MODE from 1 to 777, `--control-socket-group GROUP`, `--keep-alive`,
+/// `--keep-alive-timeout S` and `--endpoint-keep-alive-timeout S` with S from 1 to 3,600, `--keep-alive-requests N` with N from
+/// 1 to 1,000,000, and `--journal FILE`. A value may also follow its option after `=`, in the same word.
 ///
-/// The error is `Words` only if `clap` refuses the words, if they ask for help or for the version, or if
-/// both `--count` and `--forever` are given, or both `--workers` and `--concurrency`. It is `OutOfMemory` if an
-/// allocation fails.
+/// The error is `Words` only if `clap` refuses the words, if they ask for help or for the version, if
+/// both `--count` and `--forever` are given, or both `--workers` and `--concurrency`, or if ADDRESS is no IPv4 or IPv6 address
+/// (RFC 4291 section 2.2), 0.0.0.0 or `::`. It is `OutOfMemory` if an allocation fails.
 pub fn parse_command_line<'a>(
     alloc: Global,
     words: &'a [&'a str],
@@ -65,7 +68,7 @@ pub fn parse_command_line<'a>(
     if is_in_conflict(flags, inner) {
         Err(conflict_fault(alloc, inner))
     } else {
-        Ok(invocation_of(flags, name, inner))
+        invocation_of(alloc, flags, name, inner)
     }
 }
 
@@ -123,56 +126,35 @@ fn is_in_conflict(flags: Flags, matches: &ArgMatches) -> bool
             && argument_text(matches, "workers").is_some()
 }
 
-/// Which two words are in conflict.
-fn conflict_message(matches: &ArgMatches) -> &'static str {
-    if argument_text(matches, "concurrency").is_some()
-        && argument_text(matches, "workers").is_some()
-    {
-        "the argument '--workers <N>' cannot be used with '--concurrency <N>'"
-    } else {
-        "the argument '--count <N>' cannot be used with '--forever'"
-    }
-}
-
-/// The fault for two words of which one replaces the other.
-fn conflict_fault(alloc: Global, matches: &ArgMatches) -> InvocationFault
-    ensures { IsConflict result }
-{
-    match conflict(alloc, conflict_message(matches)) {
-        Ok(error) => InvocationFault::Words(error),
-        Err(_) => InvocationFault::OutOfMemory,
-    }
-}
-
-fn fault_of(error: Error) -> InvocationFault
-    ensures { IsFaultFrom error result }
-{
-    match error.kind() {
-        ErrorKind::OutOfMemory => InvocationFault::OutOfMemory,
-        _ => InvocationFault::Words(error),
-    }
-}
-
-fn invocation_of<'a>(flags: Flags, name: &str, matches: &ArgMatches<'a>) -> Invocation<'a>
+fn invocation_of<'a>(
+    alloc: Global,
+    flags: Flags,
+    name: &str,
+    matches: &ArgMatches<'a>,
+) -> Result<Invocation<'a>, InvocationFault>
     requires { IsKnown flags name.now (rows_of (found_of matches.now)) }
-    ensures { IsInvocationOf flags name.now (rows_of (found_of matches.now)) result }
+    ensures ok { IfOk result (IsInvocationOf flags name.now (rows_of (found_of matches.now))) }
+    ensures fault { IfErr result (IsAddressFault (rows_of (found_of matches.now))) }
 {
     if name == "check" {
-        Invocation::Check
+        Ok(Invocation::Check)
     } else if name == "replay" {
-        Invocation::Replay {
+        Ok(Invocation::Replay {
             seats: seats_of(matches),
-        }
+        })
     } else if name == "journal" {
         let path = required_text(matches, "file");
         if has_flag(matches, "restart") {
             let ports = argument_text(matches, "ports");
-            Invocation::RestartJournal { path, ports }
+            Ok(Invocation::RestartJournal { path, ports })
         } else {
-            Invocation::Journal { path }
+            Ok(Invocation::Journal { path })
         }
     } else {
-        serve_of(flags, matches)
+        match endpoint_address_of(matches) {
+            Ok(address) => Ok(serve_of(flags, address, matches)),
+            Err(fault) => Err(address_fault(alloc, fault)),
+        }
     }
 }
 
@@ -188,8 +170,9 @@ fn seats_of(matches: &ArgMatches) -> u8
     }
 }
 
-fn serve_of<'a>(flags: Flags, matches: &ArgMatches<'a>) -> Invocation<'a>
-    requires { HasWordsOfServe flags (rows_of (found_of matches.now)) }
+fn serve_of<'a>(flags: Flags, endpoint_address: IpAddr, matches: &ArgMatches<'a>) -> Invocation<'a>
+    requires words { HasWordsOfServe flags (rows_of (found_of matches.now)) }
+    requires address { IsEndpointAddress (rows_of (found_of matches.now)) endpoint_address }
     ensures { IsInvocationOf flags (codes "serve") (rows_of (found_of matches.now)) result }
 {
     let workers = workers_of(flags.concurrency, matches);
@@ -206,6 +189,7 @@ fn serve_of<'a>(flags: Flags, matches: &ArgMatches<'a>) -> Invocation<'a>
         threads: threads_of(matches),
         redispatch: has_flag(matches, "redispatch"),
         endpoint_limit: endpoint_limit_of(matches),
+        endpoint_address,
         abort_on_close: has_flag(matches, "abort-on-close"),
         shutdown_grace: shutdown_grace_of(matches),
         error_pages: has_flag(matches, "error-pages"),

@@ -71,8 +71,8 @@ impl<'a, P: EndpointPorts> Endpoints<'a, P> {
         self.connections.get_mut(client.endpoint?)
     }
 
-    /// Takes a connection to a port that was kept, for the request of a client. Each on which something has come is
-    /// closed: no event has told of it yet, and the request would get it as its response.
+    /// Takes a connection to a port that was kept, for the request of a client. Each on which something has come is closed, since
+    /// the request would get it as its response: the events have told of it, or it is read once.
     pub(crate) fn take_kept(&mut self, port: u16, client: usize) -> Option<usize> {
         for _ in 0..self.kept.get().len() {
             let key = self.kept.take(port)?.key;
@@ -97,7 +97,7 @@ impl<'a, P: EndpointPorts> Endpoints<'a, P> {
         let DialledStream {
             stream,
             is_complete,
-        } = connect(port)?;
+        } = connect(self.settings.address, port)?;
         let endpoint = Endpoint {
             stream,
             port,

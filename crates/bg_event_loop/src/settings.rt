@@ -1,5 +1,6 @@
 //! The settings of an event loop.
 ghost use Rattle.std.specs.Prelude.{◌≡◌, false, true};
+ghost use Rattle.bg_event_loop.specs.Addresses.{IsLocalhost};
 ghost use Rattle.bg_http.specs.Persistences.{keeps};
 ghost use Rattle.bg_http.specs.declared.refusal.RefusalBody.TheVariants as body;
 
@@ -8,10 +9,13 @@ use bg_endpoint_side::Timeouts;
 use bg_http::{Persistence, RefusalBody};
 use bg_load::LoadSettings;
 use bg_revisions::Service;
+use std::net::{IpAddr, Ipv4Addr};
 
 /// The settings of the connections to endpoints. Times are milliseconds.
 #[derive(Clone, Copy, Drop)]
 pub struct EndpointSettings {
+    /// The address at which their ports are.
+    pub address: IpAddr,
     /// Whether a connection is kept for further requests.
     pub persistence: Persistence,
     /// The timeouts of a request.
@@ -58,12 +62,13 @@ pub struct LoopSettings {
 }
 
 impl LoopSettings {
-    /// The usual settings: each connection, of either side, carries one request, a refusal has an empty body, and the gate is
-    /// asked whether requests go on.
+    /// The usual settings: endpoints are at 127.0.0.1, each connection, of either side, carries one request, a refusal has an
+    /// empty body, and the gate is asked whether requests go on.
     pub fn usual(service: Service) -> LoopSettings
         ensures service { result.service ≡ service }
         ensures clients { keeps result.clients.persistence ≡ false }
         ensures endpoints { keeps result.endpoints.persistence ≡ false }
+        ensures address { IsLocalhost result.endpoints.address }
         ensures refusals { result.clients.refusal_body ≡ body.Empty }
         ensures drains { result.limits_drains ≡ true }
     {
@@ -77,6 +82,7 @@ impl LoopSettings {
                 refusal_body: RefusalBody::Empty,
             },
             endpoints: EndpointSettings {
+                address: IpAddr::V4(Ipv4Addr::LOCALHOST),
                 persistence: Persistence::Close,
                 timeouts: Timeouts {
                     response: 60_000,

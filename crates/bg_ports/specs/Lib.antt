@@ -1,2 +1,3 @@
+pub mod OwnPorts
 pub mod ServiceNames
 pub mod SocketModes

@@ -8,6 +8,7 @@ mod descriptors;
 mod event_loops;
 mod notice;
 mod notices;
+mod own_ports;
 mod ports;
 mod socket_mode;
 

@@ -5,6 +5,7 @@ ghost use Rattle.bg_ports.specs.ServiceNames.{name_of_service};
 use crate::addresses::{Address, Addresses, control_place};
 use crate::bind_fault::BindFault;
 use crate::event_loops::EventLoops;
+use crate::own_ports::own_ports;
 use bg_command_line::{Connections, ServeSettings};
 use bg_control_port::{ControlPort, SocketFile};
 use bg_endpoints::OwnPorts;
@@ -26,7 +27,7 @@ pub struct Ports {
     pub control: ControlPort<Line>,
     /// The file of the control socket, if there is one.
     socket_file: Option<SocketFile>,
-    /// The numbers of the ports.
+    /// Those of the ports that are at the address of the endpoints.
     pub own: OwnPorts,
 }
 
@@ -67,11 +68,7 @@ impl Ports {
             preview,
             control,
             socket_file: listeners.socket_file,
-            own: OwnPorts {
-                active: settings.active,
-                preview: settings.preview,
-                control: settings.control,
-            },
+            own: own_ports(settings),
         })
     }
 

@@ -89,6 +89,7 @@ fn serve_port<'a, N: Names + Send + Sync, R: Threads + Wait + Clock + Sync>(
         log: context.log,
         redispatches: context.directory.is_some(),
         keeps_connections: context.words.keep_alive.is_some(),
+        number_offset: context.number_offset,
         refused_for_room: context.notices.refused_requests(),
     };
     let loop_context = LoopContext {
@@ -106,7 +107,8 @@ fn serve_port<'a, N: Names + Send + Sync, R: Threads + Wait + Clock + Sync>(
 /// The settings of the event loops of a port. The bounds are those of the port. The gate is asked whether requests go on if the
 /// strategy has a drain limit.
 fn settings_of<R>(context: &ServeContext<R>, service: Service) -> LoopSettings
-    ensures { result.limits_drains ≡ is_some context.now.strategy.now.drain_limit }
+    ensures drains { result.limits_drains ≡ is_some context.now.strategy.now.drain_limit }
+    ensures address { result.endpoints.address ≡ context.now.words.now.endpoint_address }
 {
     let usual = kept_or_closed(context, service).with_refusal_body(context.refusal_body);
     let bounds = bounds_of(context.words, context.loops);
@@ -116,6 +118,7 @@ fn settings_of<R>(context: &ServeContext<R>, service: Service) -> LoopSettings
             ..usual.clients
         },
         endpoints: EndpointSettings {
+            address: context.words.endpoint_address,
             timeouts: timeouts_of(context.timeout),
             ..usual.endpoints
         },

@@ -183,6 +183,7 @@ where
         shuts_down: words.connections == Connections::Forever,
         timeout: settings.timeout,
         log: settings.log,
+        number_offset: 0,
         directory: directory.as_ref(),
         refusal_body: RefusalBody::of_pages(words.error_pages),
         notices: &notices,

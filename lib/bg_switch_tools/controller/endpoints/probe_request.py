@@ -76,9 +76,9 @@ class Response(http.client.HTTPResponse):
             raise MalformedResponseError
 
 
-def _get(connected: socket.socket, port: int, path: str) -> int:
+def _get(connected: socket.socket, address: str, port: int, path: str) -> int:
     """The status that an endpoint answers a GET with."""
-    connection = http.client.HTTPConnection(HOST, port)
+    connection = http.client.HTTPConnection(address, port)
     connection.response_class = Response
     connection.sock = connected
     with contextlib.closing(connection):
@@ -96,12 +96,12 @@ def _get(connected: socket.socket, port: int, path: str) -> int:
             return response.status
 
 
-async def _connected(port: int) -> socket.socket:
+async def _connected(address: str, port: int) -> socket.socket:
     """A connection to an endpoint, which blocks its reader."""
-    connection = socket.socket()
+    connection = socket.socket(socket.AF_INET6 if ":" in address else socket.AF_INET)
     try:
         connection.setblocking(False)
-        await asyncio.get_running_loop().sock_connect(connection, (HOST, port))
+        await asyncio.get_running_loop().sock_connect(connection, (address, port))
         connection.setblocking(True)
         return connection
     except BaseException:
@@ -109,14 +109,14 @@ async def _connected(port: int) -> socket.socket:
         raise
 
 
-async def status_of(port: int, health: Health) -> int:
+async def status_of(port: int, health: Health, address: str = HOST) -> int:
     """The status that an endpoint answers a probe with. `TimeoutError` if the whole takes longer
     than the limit. The connection is cut then, and also if the caller is cancelled, so that no
     thread waits for it any more. `RuntimeError` if no thread can be started."""
     async with asyncio.timeout(health.timeout):
-        connected = await _connected(port)
+        connected = await _connected(address, port)
         try:
-            request = THREADS.submit(_get, connected, port, health.path)
+            request = THREADS.submit(_get, connected, address, port, health.path)
         except RuntimeError:
             connected.close()
             raise

@@ -10,6 +10,7 @@ from collections.abc import Collection, Iterable, Sequence
 
 from bg_switch_tools.controller.endpoints.probe_request import status_of
 from bg_switch_tools.controller.plan.plan import Health
+from bg_switch_tools.switch.control import HOST
 
 # If the system refuses the controller itself a descriptor or memory, a probe says nothing of its
 # endpoint.
@@ -17,11 +18,11 @@ OWN_FAULTS = (errno.EMFILE, errno.ENFILE, errno.ENOBUFS, errno.ENOMEM)
 END = 1.0  # seconds within which the probes that run are cut
 
 
-async def is_up(port: int, health: Health) -> bool | None:
+async def is_up(port: int, health: Health, address: str = HOST) -> bool | None:
     """Whether an endpoint answers whole, with a status from 200 to 399, within the limit; None if
     no probe could be made."""
     try:
-        return 200 <= await status_of(port, health) < 400
+        return 200 <= await status_of(port, health, address) < 400
     except OSError as error:
         return None if error.errno in OWN_FAULTS else False
     except (http.client.HTTPException, ValueError):
@@ -34,7 +35,7 @@ class Probes:
     """Probes the endpoints that `watch` names, each every `interval` seconds, up to `stop`."""
 
     def __init__(self) -> None:
-        self.health = Health()
+        self.health, self.address = Health(), HOST
         self.failed: dict[int, int] = {}  # by port: failures in a row, once a probe has ended
         # by port: when the first of the failures in a row was seen
         self.failing_since: dict[int, float] = {}
@@ -60,9 +61,10 @@ class Probes:
         self._set(frozenset())
         self.loop.call_soon(self.loop.stop)  # after the tasks, which are cancelled by then
 
-    def watch(self, ports: Collection[int], health: Health) -> None:
-        """Probes these endpoints from now on, and no others. Any thread may call this."""
-        self.health = health
+    def watch(self, ports: Collection[int], health: Health, address: str = HOST) -> None:
+        """Probes the endpoints at these ports of an address from now on, and no others. Any thread
+        may call this."""
+        self.health, self.address = health, address
         if frozenset(ports) != self.watched:
             self.watched = frozenset(ports)
             with contextlib.suppress(RuntimeError):  # the probes have ended
@@ -79,7 +81,7 @@ class Probes:
     async def _probe(self, port: int) -> None:
         while True:
             begun, generation = self.loop.time(), self.generation.get(port)
-            up = await is_up(port, self.health)
+            up = await is_up(port, self.health, self.address)
             if generation == self.generation.get(port):
                 self._take_in(port, up)
             await asyncio.sleep(begun + self.health.interval - self.loop.time())

@@ -60,7 +60,9 @@ class Controller:
     def _watch_endpoints(self) -> None:
         revisions = [*self.plan.revisions, *self.memory.revisions(self.plan).values()]
         self.probes.watch(
-            [port for revision in revisions for port in revision.ports], self.plan.health
+            [port for revision in revisions for port in revision.ports],
+            self.plan.health,
+            self.plan.endpoint_address,
         )
 
     def take_plan(self, plan: Plan) -> None:

@@ -1,0 +1,63 @@
+//! The faults for words that are refused.
+ghost use Rattle.std.specs.Prelude.{◌≡◌, IfOk};
+ghost use Rattle.clap.specs.Words.{kind_of};
+ghost use Rattle.bg_command_line.specs.CommandLine.{IsConflict, IsFaultFrom, IsValueFault};
+
+use crate::addresses::AddressFault;
+use crate::arguments::argument_text;
+use crate::command_line::error_of_serve;
+use crate::invocation::InvocationFault;
+use clap::error::ErrorKind;
+use clap::{ArgMatches, Error};
+use std::alloc::{AllocError, Global};
+
+/// Which two words are in conflict.
+fn conflict_message(matches: &ArgMatches) -> &'static str {
+    if argument_text(matches, "concurrency").is_some()
+        && argument_text(matches, "workers").is_some()
+    {
+        "the argument '--workers <N>' cannot be used with '--concurrency <N>'"
+    } else {
+        "the argument '--count <N>' cannot be used with '--forever'"
+    }
+}
+
+/// The fault for two words of which one replaces the other.
+pub(crate) fn conflict_fault(alloc: Global, matches: &ArgMatches) -> InvocationFault
+    ensures { IsConflict result }
+{
+    match error_of_serve(
+        alloc,
+        ErrorKind::ArgumentConflict,
+        conflict_message(matches),
+    ) {
+        Ok(error) => InvocationFault::Words(error),
+        Err(_) => InvocationFault::OutOfMemory,
+    }
+}
+
+pub(crate) fn fault_of(error: Error) -> InvocationFault
+    ensures { IsFaultFrom error result }
+{
+    match error.kind() {
+        ErrorKind::OutOfMemory => InvocationFault::OutOfMemory,
+        _ => InvocationFault::Words(error),
+    }
+}
+
+/// The fault for a bad address.
+pub(crate) fn address_fault(alloc: Global, fault: AddressFault) -> InvocationFault
+    ensures { IsValueFault result }
+{
+    match address_error(alloc, fault) {
+        Ok(error) => InvocationFault::Words(error),
+        Err(_) => InvocationFault::OutOfMemory,
+    }
+}
+
+fn address_error(alloc: Global, fault: AddressFault) -> Result<Error, AllocError>
+    ensures { IfOk result (λ e. kind_of e ≡ ErrorKind.ValueValidation) }
+{
+    let message = format!(in alloc; "{fault}")?;
+    error_of_serve(alloc, ErrorKind::ValueValidation, message.as_str())
+}
