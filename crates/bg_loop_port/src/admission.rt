@@ -28,8 +28,9 @@ const TOLERANCE_MILLIS: u64 = 20;
 ///   place free but the request of another loop before its own is woken after that one.
 ///
 /// Each loop has a share of the places, so that loops work side by side: one that has its share leaves a free place to a loop
-/// that has less, if the request there began to wait at most 20 milliseconds later. Of the loops whose turn it is, the one whose
-/// request has waited longest leaves a place only to another of them, so a free place is always left to one that takes it.
+/// that has less, if the request there began to wait at most 20 milliseconds later, and if fewer places are free than there are
+/// loops. Of the loops whose turn it is, the one whose request has waited longest leaves a place only to another of them, so a
+/// free place is always left to one that takes it.
 #[derive(Drop)]
 pub(crate) struct Admission {
     inside: AtomicU64,
@@ -140,12 +141,13 @@ impl Admission {
         is_next(since, self.earliest()) && !self.leaves_place(number, since)
     }
 
-    /// Whether a loop leaves a free place to another one: it has its share of the requests inside, the other one has less, and
-    /// the request of the other one comes next after its own, which waits since this moment.
+    /// Whether a loop leaves a free place to another one: it has its share of the requests inside, the other one has less, the
+    /// request of the other one comes next after its own, which waits since this moment, and there is not a place for each loop.
     fn leaves_place(&self, number: usize, since: u64) -> bool {
         self.loops
             .get(number)
             .is_some_and(|own| own.inside() >= self.share)
+            && !self.has_place_for_each()
             && self.loops.iter().enumerate().any(|(other, waiting)| other != number
                 && waiting.inside() < self.share
                 && is_next(waiting.since(), since))
@@ -183,6 +185,11 @@ impl Admission {
 
     fn has_place(&self) -> bool {
         self.inside.load(Ordering::SeqCst) < self.most
+    }
+
+    /// Whether at least as many places are free as there are loops.
+    fn has_place_for_each(&self) -> bool {
+        self.most.saturating_sub(self.inside.load(Ordering::SeqCst)) >= self.loops.len() as u64
     }
 
     /// Since when the request waits that has waited longest of all.
