@@ -108,6 +108,40 @@ class Good(unittest.TestCase):
         )
         self.assertEqual((plan.analyses.commands, plan.analyses.seconds), ({}, 600))
         self.assertIs(plan.first, plan.last)
+        self.assertEqual(plan.endpoint_address, "127.0.0.1")
+
+    def test_the_address_of_the_endpoints(self) -> None:
+        for told, address in (
+            ("127.0.0.2", "127.0.0.2"),
+            ("FD00:0::2", "fd00::2"),
+            ("::ffff:192.0.2.1", "192.0.2.1"),
+        ):
+            plan = read_plan(json.dumps(with_keys(endpoint_address=told)).encode())
+            self.assertEqual(plan.endpoint_address, address)
+
+    def test_ports_of_the_switch_at_another_address(self) -> None:
+        """They are no ports of the switch there, whose own still differ."""
+        revisions = [{"name": "web-v1", "ports": [8080, 8082]}]
+        self.assertEqual(problems(with_keys(endpoint_address="127.0.0.2", revisions=revisions)), [])
+        self.assertEqual(
+            problems(with_keys(endpoint_address="127.0.0.2", preview=8080, revisions=revisions)),
+            ["preview: 8080 is already at active"],
+        )
+        self.assertEqual(len(problems(with_keys(revisions=revisions))), 2)
+
+    def test_what_is_no_address_of_endpoints(self) -> None:
+        for told, problem in (
+            ("localhost", '"localhost" is not an IPv4 or IPv6 address'),
+            ("127.0.0.1:80", '"127.0.0.1:80" is not an IPv4 or IPv6 address'),
+            ("fe80::1%lo", '"fe80::1%lo" is not an IPv4 or IPv6 address'),
+            ("127.1", '"127.1" is not an IPv4 or IPv6 address'),
+            (2130706433, "2130706433 is not an IPv4 or IPv6 address"),
+            ("0.0.0.0", 'no connection can be opened to "0.0.0.0"'),
+            ("::", 'no connection can be opened to "::"'),
+        ):
+            self.assertEqual(
+                problems(with_keys(endpoint_address=told)), [f"endpoint_address: {problem}"]
+            )
 
 
 class SeveralAnalyses(unittest.TestCase):

@@ -8,6 +8,7 @@ import unittest
 from collections.abc import Iterator
 from typing import Any
 
+from bg_switch_tools.controller.plan.plan_kinds import names_of
 from bg_switch_tools.controller.plan.plan_reader import KEYS, PlanError, read_plan
 from tests.test_plan import GOOD
 from tests.tool_runs import TOP
@@ -135,7 +136,7 @@ class Schema(unittest.TestCase):
 
     def test_each_key_has_a_description(self) -> None:
         schema: Value = plan_schema.schema()
-        self.assertEqual(set(schema["properties"]), set(KEYS))
+        self.assertEqual(set(schema["properties"]), set(names_of(KEYS)))
         objects = [
             schema,
             *(each for each in schema["properties"].values() if each["type"] == "object"),
@@ -187,7 +188,7 @@ class Page(unittest.TestCase):
     def test_the_table_has_each_key_with_its_default(self) -> None:
         rows = [row.split(" | ") for row in plan_schema.table().splitlines()[2:]]
         told = {row[0].strip("| `"): row[-1].strip("| `") for row in rows}
-        self.assertLessEqual(set(KEYS), set(told))
+        self.assertLessEqual(set(names_of(KEYS)), set(told))
         self.assertEqual(
             (
                 told["control"],

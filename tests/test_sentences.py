@@ -37,6 +37,8 @@ REFUSING = (
 ANSWERS, WRITERS = ("Reply", "Answer"), ("bg_report/src/replies.rt", "bg_script/src/answer.rt")
 
 ENUM = re.compile(r"^pub enum (\w+) \{\n(.*?)^\}", re.M | re.S)
+# A variant that holds another fault has the sentence of that one.
+HOLDER = re.compile(r"(?: {4}///.*\n)* {4}#\[error\(transparent\)\]\n.*\n")
 VARIANT = re.compile(r'((?: {4}///.*\n)*)(?: {4}#\[error\("(.*)"\)\]\n)? {4}(\w+)(?:[({].*)?,\n')
 
 Sentences = dict[str, str]
@@ -57,7 +59,7 @@ def enums() -> Iterator[tuple[str, Sentences]]:
             for name, body in ENUM.findall(file.read_text(encoding="utf-8")):
                 yield name, {
                     variant: told(comment, error)
-                    for comment, error, variant in VARIANT.findall(body)
+                    for comment, error, variant in VARIANT.findall(HOLDER.sub("", body))
                 }
 
 

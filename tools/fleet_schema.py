@@ -16,20 +16,24 @@ sys.path.insert(0, str(pathlib.Path(__file__).resolve().parents[1]))
 from tools.plan_schema import (  # noqa: E402  (the path stands above)
     DRAFT,
     TOP,
-    WORD,
-    Schema,
-    an_object,
-    command,
-    control,
-    port,
     print_or_write,
     schema_text,
-    seconds,
-    text_of,
-    told,
 )
 
-from bg_switch_tools.controller.plan.plan import Commands  # noqa: E402
+from bg_switch_tools.controller.plan.plan_kinds import (  # noqa: E402
+    COMMAND,
+    CONTROL,
+    REVISION_NAME,
+    TEXT,
+    WORD,
+    Key,
+    Schema,
+    described,
+    numbers,
+    object_schema,
+    text_of,
+)
+from bg_switch_tools.controller.plan.plan_reader import COMMANDS, SCHEMA, SERVICES  # noqa: E402
 from bg_switch_tools.fleet.plan.fleet_file import (  # noqa: E402
     LEAST_TIMEOUT,
     LONGEST_TIMEOUT,
@@ -40,15 +44,10 @@ from bg_switch_tools.fleet.plan.fleet_file import (  # noqa: E402
     USER,
 )
 from bg_switch_tools.fleet.store.etcd_gateway import EtcdSettings  # noqa: E402
-from bg_switch_tools.fleet.store.store_endpoints import TEXT  # noqa: E402
-from bg_switch_tools.switch.json_values import NAME  # noqa: E402
+from bg_switch_tools.fleet.store.store_endpoints import TEXT as STORE_ENDPOINT  # noqa: E402
 
 FILE = TOP / "share" / "fleet.schema.json"
 PATH: Schema = {**WORD, "minLength": 1}
-
-
-def name() -> Schema:
-    return text_of(NAME.pattern)
 
 
 def both(*pair: str) -> Schema:
@@ -57,20 +56,17 @@ def both(*pair: str) -> Schema:
 
 
 def schema() -> Schema:
-    places = (
-        "{revision}, {port} and {number}, the place of the port from 1, are replaced in its words"
-    )
     tls: Schema = {
-        **an_object(
+        **object_schema(
             {
-                "ca": told(
+                "ca": described(
                     "The file of the authorities that are trusted, in PEM; those of the system where it is left out.",
                     PATH,
                 ),
-                "certificate": told(
+                "certificate": described(
                     "The file of the certificate that the tools show, in PEM.", PATH
                 ),
-                "key": told(
+                "key": described(
                     "The file of the key of that certificate, in PEM and without a password.", PATH
                 ),
             }
@@ -80,67 +76,59 @@ def schema() -> Schema:
     analyses: Schema = {
         "type": "object",
         "maxProperties": MOST_ANALYSES,
-        "propertyNames": name(),
-        "additionalProperties": command(),
+        "propertyNames": REVISION_NAME.schema,
+        "additionalProperties": COMMAND.schema,
     }
     properties: Schema = {
-        "$schema": told(
-            "The place of this schema, for editors. The tools do not read it.", {"type": "string"}
+        SCHEMA: described(
+            "The place of this schema, for editors. The tools do not read it.", TEXT.schema
         ),
-        "fleet": told(
-            "The name of the fleet: its keys in etcd are below /bg-switch/NAME/.", name()
+        "fleet": described(
+            "The name of the fleet: its keys in etcd are below /bg-switch/NAME/.",
+            REVISION_NAME.schema,
         ),
-        "etcd": told(
+        "etcd": described(
             "The endpoints of etcd, each as HOST:PORT; the first one that answers is used.",
             {
                 "type": "array",
                 "minItems": 1,
                 "maxItems": MOST_ENDPOINTS,
                 "uniqueItems": True,
-                "items": text_of(TEXT.pattern),
+                "items": text_of(STORE_ENDPOINT.pattern),
             },
         ),
-        "tls": told(
+        "tls": described(
             "TLS for the connections to etcd; without this key they are in the clear.", tls
         ),
-        "user": told("The user of etcd.", text_of(USER.pattern)),
-        "password_file": told(
+        "user": described("The user of etcd.", text_of(USER.pattern)),
+        "password_file": described(
             "The file of the user's password, which is read at each authentication.", PATH
         ),
-        "timeout_seconds": told(
+        "timeout_seconds": Key(
+            "timeout_seconds",
             "Seconds within which a call of etcd has to end.",
-            {"type": "number", "minimum": LEAST_TIMEOUT, "maximum": LONGEST_TIMEOUT},
+            numbers(LEAST_TIMEOUT, LONGEST_TIMEOUT),
             EtcdSettings._field_defaults["timeout"],
-        ),
-        "host": told(
+        ).schema(),
+        "host": described(
             "The name of this machine as a member of the fleet. A file for people alone has no key of a machine.",
-            name(),
+            REVISION_NAME.schema,
         ),
-        "control": told(
+        "control": described(
             "The control port of the switch of this machine, or the absolute path of its control socket.",
-            control(),
+            CONTROL.schema,
         ),
-        "rollout": told(
+        "rollout": described(
             "The file of the Rollout with which the switch of this machine is started. The agent needs it: it refuses a "
             "Rollout that lets the switch promote by itself.",
             PATH,
         ),
-        "active": told("The port of the active service, which no revision may have.", port()),
-        "preview": told("The port of the preview service, which no revision may have.", port()),
-        "analyses": told(
+        **{key.name: key.schema() for key in SERVICES},
+        "analyses": described(
             "The commands of the analyses, by their names in plans. They run in the folder of this file.",
             analyses,
         ),
-        "start": told(f"The command that starts an endpoint; {places}.", command()),
-        "stop": told(f"The command that stops an endpoint; {places}.", command()),
-        "notify": told(
-            "The command that gets each line of the log on its standard input, as a JSON object.",
-            command(),
-        ),
-        "timeout": told(
-            "Seconds within which start, stop and notify each have to end.",
-            seconds(Commands.timeout),
-        ),
+        **{key.name: key.schema() for key in COMMANDS},
     }
     needed: Schema = {key: ["host", "control"] for key in MACHINE_KEYS}
     for pair in TOGETHER:
@@ -148,7 +136,7 @@ def schema() -> Schema:
     return {
         "$schema": DRAFT,
         "title": "Fleet file of bg_switch",
-        **an_object(properties, ("fleet", "etcd")),
+        **object_schema(properties, ("fleet", "etcd")),
         "dependencies": needed,
     }
 

@@ -11,7 +11,8 @@ from bg_switch_tools.controller.endpoints.probes import Probes
 from bg_switch_tools.controller.log import Log
 from bg_switch_tools.controller.plan.plan import Plan
 from bg_switch_tools.controller.plan.plan_file import OpenPlan, PlanFile, plan_of
-from bg_switch_tools.controller.plan.plan_reader import PlanError
+from bg_switch_tools.controller.plan.plan_kinds import help_of
+from bg_switch_tools.controller.plan.plan_reader import PLAN_SCHEMA, PlanError
 from bg_switch_tools.controller.rounds.book_opener import OpeningError
 from bg_switch_tools.controller.rounds.composition import files_beside, make_controller
 from bg_switch_tools.controller.rounds.switch_silence import SwitchSilence
@@ -24,7 +25,8 @@ from bg_switch_tools.switch.reports import ReportError
 USAGE = """bin/controller [--json] PLAN              runs the plan, until SIGTERM or ctrl-C
        bin/controller check PLAN [--rollout FILE]   judges it: prints its problems, and carries nothing out
        bin/controller deploy PLAN NAME PORT..   makes a revision the last one of the plan, which a running controller then deploys"""
-ABOUT = """
+ABOUT = (
+    """
 The controller looks at the switch five times a second. It ticks each second (the moment is the number of seconds since the book
 was opened first), tells the switch which ports are down and how many endpoints of each revision are up, runs the analyses that
 the phase needs and sends their verdict, starts and stops endpoints if the plan has commands for it, and deploys the
@@ -35,39 +37,28 @@ other ones is held back, and needs a new name.
 The controller does not change what an operator does (bin/operator): promote, abort, retry, an undo.
 
 A plan:
-  {"control": 8082,                                         the control port of the switch, or the path of its control socket
-   "active": 8080, "preview": 8081,                         its other ports, which no revision may have
-   "health": {"path": "/", "interval": 2,                   how each endpoint is probed: a GET request every "interval"
-              "timeout": 2, "failures": 2},                 seconds, whose whole response has to come within "timeout"
-                                                            seconds, with a status from 200 to 399; after so many failures
-                                                            in a row the endpoint is down
-   "analyses": {"pre": ["./smoke_test.sh", "8081"],         the commands of the analyses before and after the switch, run
-                "post": ["./smoke_test.sh", "8080"],        in the plan's folder: status 0 is successful, 1 is failed; any
-                "seconds": 600},                            other status, or a run of more seconds, is an error
-   "progress": {"seconds": 600, "abort": false,             an attempt is named in the log if no further endpoint comes up
-                                                            within so many seconds, and aborted if "abort" is true
-                "outage": 5},                               an attempt that has switched ends if no endpoint of it was up
-                                                            for so many seconds
-   "redispatch": true,                                      false for a switch that was started without --redispatch
-   "start": ["systemctl", "start", "web@{revision}-{port}"],
-   "stop": ["systemctl", "stop", "web@{revision}-{port}"],  run for each port of a revision, also with {number}, the place
-                                                            of the port from 1: start before its deploy and while it is
-                                                            down, stop once it is scaled down or removed
-   "notify": ["./tell_the_chat.sh"],                        gets each line of the log on its standard input, as an object
-                                                            of JSON
-   "timeout": 60,                                           seconds within which each of these three has to end
-   "revisions": [{"name": "web-v1", "ports": [9101, 9102]}, from the first one to the one that is to be live
-                 {"name": "web-v2", "ports": [9201, 9202]}]}
-What "health" and "progress" leave out is as above; an analysis that is left out waits for a verdict by hand; other keys that
-are left out do nothing. In the place of a command, "pre" and "post" can be a list of 1 to 16 analyses, which all have to succeed:
-[{"name": "errors", "command": ["./errors.sh"]}, {"name": "latency", "command": ["./latency.sh"]}]. A command finds the name, the
-number and the ports of the revision that it judges in BG_REVISION, BG_REVISION_NUMBER and BG_PORTS; bin/analysis is one that judges
-by the access log. A plan may be in YAML if python3-yaml is installed. The key "$schema" can name the JSON schema of plans for
-editors: share/plan.schema.json. docs/OPERATING.md says what each line of the log means.
+  {"control": 8082, "active": 8080, "preview": 8081,
+   "health": {"path": "/ready", "interval": 2},
+   "analyses": {"pre": ["./smoke_test.sh", "8081"], "post": ["./smoke_test.sh", "8080"], "seconds": 60},
+   "progress": {"seconds": 300, "abort": true},
+   "start": ["systemctl", "start", "web@{revision}-{port}"], "stop": ["systemctl", "stop", "web@{revision}-{port}"],
+   "revisions": [{"name": "web-v1", "ports": [9101, 9102]}, {"name": "web-v2", "ports": [9201, 9202]}]}
+
+"""
+    + help_of(PLAN_SCHEMA)
+    + """
+
+Each port of a revision is started before its deploy and while it is down, and stopped once its revision is scaled down or removed.
+An analysis that is left out waits for a verdict by hand; other keys without a value for that do nothing where they are left out. A
+command of an analysis finds the name, the number and the ports of the revision that it judges in BG_REVISION, BG_REVISION_NUMBER
+and BG_PORTS; bin/analysis is one that judges by the access log. A plan may be in YAML if python3-yaml is installed. The key
+"$schema" can name the JSON schema of plans for editors: share/plan.schema.json. docs/OPERATING.md says what each line of the log
+means.
 
 Exit status: 0 after SIGTERM or ctrl-C, and for a plan in which `check` finds nothing wrong; 1 if the plan is wrong when it starts,
 by `check` or after `deploy`, if the switch can't be opened with it, or if another controller runs it; 2 if the words are wrong.
 """
+)
 FRAME = Frame("controller")
 FAULT = 70  # the exit status after a fault of its own
 # seconds within which a connection is taken, and for the answers of a round

@@ -2,6 +2,7 @@
 reading goes on."""
 import collections
 import difflib
+import ipaddress
 import json
 import os
 import re
@@ -9,13 +10,14 @@ import shlex
 from collections.abc import Callable, Iterable, Sequence
 from typing import TypeVar
 
-from bg_switch_tools.switch.control import ABSOLUTE, LONGEST_PATH, Control
+from bg_switch_tools.switch.control import ABSOLUTE, HOST, LONGEST_PATH, Control
 from bg_switch_tools.switch.meanings import REFUSALS
 
 LONGEST_TOLD = 60  # characters of a value that a problem repeats
 NAME = re.compile(r"[a-z0-9]([a-z0-9-]{0,61}[a-z0-9])?")
 MOST_PORTS, GREATEST_PORT = 64, 65535
 PATH = re.compile(r"/[\x21-\x7e]*")
+ADDRESS = re.compile(r"[0-9A-Fa-f:.]{2,45}")  # what only addresses are made of
 Value = TypeVar("Value")
 
 
@@ -175,6 +177,18 @@ class Judge:
             )
         return value
 
+    def address(self, value: object, place: str) -> str:
+        """An IPv4 or IPv6 address to which connections can be opened, in its shortest form; an
+        IPv4-mapped IPv6 address stands for the IPv4 address in it."""
+        address = address_of(value) if isinstance(value, str) else None
+        if address is None:
+            self.note(place, f"{shown(value)} is not an IPv4 or IPv6 address")
+        elif address.is_unspecified:
+            self.note(place, f"no connection can be opened to {shown(value)}")
+        else:
+            return str(address)
+        return HOST
+
     def controls(self, value: object, place: str) -> tuple[Control, ...]:
         """Control ports and control sockets, 64 at most."""
         if not isinstance(value, list) or len(value) > MOST_PORTS:
@@ -208,6 +222,17 @@ class Judge:
                     f"{shown(port)} is already at {place}[{value.index(port)}]",
                 )
         return ports
+
+
+def address_of(text: str) -> ipaddress.IPv4Address | ipaddress.IPv6Address | None:
+    """The address that a text writes, or None. An IPv4-mapped IPv6 address (RFC 4291 section
+    2.5.5.2) stands for the IPv4 address in it."""
+    try:
+        address = ipaddress.ip_address(text if ADDRESS.fullmatch(text) else "")
+    except ValueError:
+        return None
+    mapped = address.ipv4_mapped if isinstance(address, ipaddress.IPv6Address) else None
+    return mapped or address
 
 
 def split(text: str) -> list[str]:

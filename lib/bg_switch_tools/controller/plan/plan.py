@@ -2,7 +2,7 @@
 import dataclasses
 from collections.abc import Mapping
 
-from bg_switch_tools.switch.control import Control
+from bg_switch_tools.switch.control import HOST, Control
 
 
 @dataclasses.dataclass(frozen=True)
@@ -100,6 +100,7 @@ class Plan(Revisions):
     """A whole plan. `control` is where its switch takes lines. `revisions` go from the first one to
     the one that is to be live. `services` are the ports of the active and the preview service, if
     the plan names them. `redispatch` says whether the switch passes over endpoints that are down.
+    `endpoint_address` is the address at which the ports of the revisions are.
     """
 
     control: Control
@@ -110,3 +111,4 @@ class Plan(Revisions):
     commands: Commands = Commands()
     redispatch: bool = True
     services: Mapping[str, int] = dataclasses.field(default_factory=dict)
+    endpoint_address: str = HOST

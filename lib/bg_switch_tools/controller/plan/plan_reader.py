@@ -1,5 +1,5 @@
 """Reads a plan, and judges it as a whole before any of it is used."""
-from collections.abc import Sequence
+from collections.abc import Mapping, Sequence
 
 from bg_switch_tools.controller.plan.plan import (
     Analyses,
@@ -10,33 +10,39 @@ from bg_switch_tools.controller.plan.plan import (
     PlannedRevision,
     Progress,
 )
+from bg_switch_tools.controller.plan.plan_kinds import (
+    COMMAND,
+    CONTROL,
+    ENDPOINT_ADDRESS,
+    FLAG,
+    MOST_FAILURES,
+    PORT,
+    PORTS,
+    REQUEST_PATH,
+    REVISION_NAME,
+    SECONDS,
+    TEXT,
+    Key,
+    Kind,
+    names_of,
+    needed_of,
+    object_of,
+    schema_of,
+    values_of,
+    whole_numbers,
+)
 from bg_switch_tools.controller.plan.plan_limits import judge_limits
 from bg_switch_tools.controller.plan.plan_text import value_of
-from bg_switch_tools.switch.control import Control
-from bg_switch_tools.switch.json_values import GREATEST_PORT, JsonObject, Judge
+from bg_switch_tools.switch.control import HOST, Control
+from bg_switch_tools.switch.json_values import JsonObject, Judge
 
 LARGEST = 1 << 20  # bytes of a plan
 MOST_REVISIONS = 64
-LEAST_SECONDS, LONGEST = 0.1, 86400  # of each interval and limit of a plan
-MOST_FAILURES = 1000
 MOST_AT_ONCE = 16  # analyses that `pre` and `post` each may have
-COMMAND_KEYS = ("start", "stop", "notify")
-SERVICE_KEYS = ("active", "preview")
 SCHEMA = (
     "$schema"  # the place of the schema by which an editor judges the plan: share/plan.schema.json
 )
-KEYS = (
-    "control",
-    *SERVICE_KEYS,
-    "health",
-    "analyses",
-    "progress",
-    "redispatch",
-    *COMMAND_KEYS,
-    "timeout",
-    "revisions",
-    SCHEMA,
-)
+PLACES = "{revision}, {port} and {number}, the place of the port from 1, are replaced in its words"
 
 
 class PlanError(Exception):
@@ -46,49 +52,6 @@ class PlanError(Exception):
     def __init__(self, problems: list[str]) -> None:
         super().__init__("; ".join(problems))
         self.problems = problems
-
-
-def seconds(judge: Judge, members: JsonObject, key: str, place: str, default: float) -> float:
-    return judge.member(
-        members,
-        key,
-        place,
-        lambda value, at: judge.number(value, at, LEAST_SECONDS, LONGEST),
-        default,
-    )
-
-
-def read_control(judge: Judge, members: JsonObject) -> Control:
-    """The control port or socket. An object that `judge` finds nothing wrong with has one."""
-    none: Control = 1
-    return judge.member(members, "control", "", judge.control, none)
-
-
-def read_health(judge: Judge, json_value: object, place: str) -> Health:
-    members, default = (
-        judge.members(json_value, place, ("path", "interval", "timeout", "failures")),
-        Health(),
-    )
-    return Health(
-        judge.member(members, "path", place, judge.path, default.path),
-        seconds(judge, members, "interval", place, default.interval),
-        seconds(judge, members, "timeout", place, default.timeout),
-        judge.member(
-            members,
-            "failures",
-            place,
-            lambda value, at: judge.whole_number(value, at, 1, MOST_FAILURES),
-            default.failures,
-        ),
-    )
-
-
-def read_named_analysis(judge: Judge, value: object, place: str) -> PlannedAnalysis:
-    members = judge.members(value, place, ("name", "command"), ("name", "command"))
-    return PlannedAnalysis(
-        judge.member(members, "command", place, judge.command, ()),
-        judge.member(members, "name", place, judge.name, ""),
-    )
 
 
 def note_repeated(judge: Judge, names: Sequence[str], number: int, place: str) -> None:
@@ -101,6 +64,41 @@ def note_repeated(judge: Judge, names: Sequence[str], number: int, place: str) -
         )
 
 
+HEALTH = object_of(
+    Health,
+    Key(
+        "path",
+        "The path of the GET request. A status from 200 to 399 is a success.",
+        REQUEST_PATH,
+        Health.path,
+    ),
+    Key("interval", "Seconds between two probes of an endpoint.", SECONDS, Health.interval),
+    Key(
+        "timeout",
+        "Seconds within which the whole response has to come.",
+        SECONDS,
+        Health.timeout,
+    ),
+    Key(
+        "failures",
+        "The number of failed probes in a row after which an endpoint is down.",
+        whole_numbers(1, MOST_FAILURES),
+        Health.failures,
+    ),
+)
+NAMED_ANALYSIS = object_of(
+    PlannedAnalysis,
+    Key(
+        "name",
+        "The name of one of several analyses, which all run at the same time; it stands once.",
+        REVISION_NAME,
+        "",
+        is_needed=True,
+    ),
+    Key("command", "Its command.", COMMAND, (), is_needed=True),
+)
+
+
 def read_commands_of_analysis(
     judge: Judge, value: object, place: str
 ) -> tuple[PlannedAnalysis, ...]:
@@ -111,47 +109,85 @@ def read_commands_of_analysis(
         judge.note(place, f"it is not a list of 1 to {MOST_AT_ONCE} analyses")
         return ()
     several = tuple(
-        read_named_analysis(judge, one, f"{place}[{number}]") for number, one in enumerate(value)
+        NAMED_ANALYSIS.read(judge, one, f"{place}[{number}]") for number, one in enumerate(value)
     )
     for number in range(len(several)):
         note_repeated(judge, [each.name for each in several], number, place)
     return several
 
 
-def read_analyses(judge: Judge, value: object, place: str) -> Analyses:
-    members = judge.members(value, place, ("pre", "post", "seconds"))
-    commands = {
-        name: read_commands_of_analysis(judge, members[name], f"{place}.{name}")
-        for name in ("pre", "post")
-        if name in members
-    }
-    return Analyses(commands, seconds(judge, members, "seconds", place, Analyses.seconds))
+COMMANDS_OF_ANALYSIS = Kind(
+    read_commands_of_analysis,
+    {
+        "anyOf": [
+            COMMAND.schema,
+            {
+                "type": "array",
+                "minItems": 1,
+                "maxItems": MOST_AT_ONCE,
+                "items": NAMED_ANALYSIS.schema,
+            },
+        ]
+    },
+)
 
 
-def read_progress(judge: Judge, value: object, place: str) -> Progress:
-    members = judge.members(value, place, ("seconds", "abort", "outage"))
-    return Progress(
-        seconds(judge, members, "seconds", place, Progress.seconds),
-        judge.member(members, "abort", place, judge.flag, Progress.abort),
-        seconds(judge, members, "outage", place, Progress.outage),
-    )
+def analyses_of(
+    pre: tuple[PlannedAnalysis, ...] | None,
+    post: tuple[PlannedAnalysis, ...] | None,
+    seconds: float,
+) -> Analyses:
+    commands = {"pre": pre, "post": post}
+    return Analyses({key: each for key, each in commands.items() if each is not None}, seconds)
 
 
-def read_commands(judge: Judge, members: JsonObject) -> Commands:
-    none: tuple[str, ...] = ()
-    start, stop, notify = (
-        judge.member(members, key, "", judge.command, none) for key in COMMAND_KEYS
-    )
-    return Commands(start, stop, notify, seconds(judge, members, "timeout", "", Commands.timeout))
-
-
-def read_revision(judge: Judge, value: object, place: str) -> PlannedRevision:
-    """A revision. An object that `judge` finds nothing wrong with has a name and ports."""
-    members = judge.members(value, place, ("name", "ports"), ("name", "ports"))
-    return PlannedRevision(
-        judge.member(members, "name", place, judge.name, ""),
-        judge.member(members, "ports", place, judge.ports, ()),
-    )
+ANALYSES = object_of(
+    analyses_of,
+    Key(
+        "pre",
+        "The command of the analysis before the switch, or a list of analyses, which all have to succeed.",
+        COMMANDS_OF_ANALYSIS,
+    ),
+    Key(
+        "post",
+        "The command of the analysis after the switch, or a list of analyses, which all have to succeed.",
+        COMMANDS_OF_ANALYSIS,
+    ),
+    Key("seconds", "Seconds within which each analysis has to end.", SECONDS, Analyses.seconds),
+)
+PROGRESS = object_of(
+    Progress,
+    Key(
+        "seconds",
+        "Seconds within which a further endpoint has to be up.",
+        SECONDS,
+        Progress.seconds,
+    ),
+    Key("abort", "Whether the attempt is aborted after that.", FLAG, Progress.abort),
+    Key(
+        "outage",
+        "Seconds without an endpoint that is up, after which an attempt that has switched ends.",
+        SECONDS,
+        Progress.outage,
+    ),
+)
+REVISION = object_of(
+    PlannedRevision,
+    Key(
+        "name",
+        "Lower-case letters, digits and hyphens, with no hyphen at either end.",
+        REVISION_NAME,
+        "",
+        is_needed=True,
+    ),
+    Key(
+        "ports",
+        "The port of each endpoint at its address: one for each replica.",
+        PORTS,
+        (),
+        is_needed=True,
+    ),
+)
 
 
 def compare(judge: Judge, revisions: tuple[PlannedRevision, ...], place: str) -> None:
@@ -178,12 +214,15 @@ def compare(judge: Judge, revisions: tuple[PlannedRevision, ...], place: str) ->
 
 
 def compare_ports(judge: Judge, plan: Plan) -> None:
-    """Notes ports of the switch itself that are named twice, or as those of an endpoint."""
+    """Notes ports of the switch itself that are named twice, or as those of an endpoint. Endpoints
+    at another address than the switch may have the numbers of its ports."""
     own = {plan.control: "control"} if isinstance(plan.control, int) else {}
     for key, port in plan.services.items():
         if port in own:
             judge.note(key, f"{port} is already at {own[port]}")
         own.setdefault(port, key)
+    if plan.endpoint_address != HOST:
+        return
     for number, revision in enumerate(plan.revisions):
         for index, port in enumerate(revision.ports):
             if port in own:
@@ -198,10 +237,96 @@ def read_revisions(judge: Judge, value: object, place: str) -> tuple[PlannedRevi
         judge.note(place, f"it is not a list of 1 to {MOST_REVISIONS} revisions")
         return ()
     revisions = tuple(
-        read_revision(judge, one, f"{place}[{number}]") for number, one in enumerate(value)
+        REVISION.read(judge, one, f"{place}[{number}]") for number, one in enumerate(value)
     )
     compare(judge, revisions, place)
     return revisions
+
+
+REVISIONS = Kind(
+    read_revisions,
+    {"type": "array", "minItems": 1, "maxItems": MOST_REVISIONS, "items": REVISION.schema},
+)
+SERVICES = (
+    Key("active", "The port of the active service, which no revision may have.", PORT),
+    Key("preview", "The port of the preview service, which no revision may have.", PORT),
+)
+COMMANDS = (
+    Key("start", f"The command that starts an endpoint; {PLACES}.", COMMAND, ()),
+    Key("stop", f"The command that stops an endpoint; {PLACES}.", COMMAND, ()),
+    Key(
+        "notify",
+        "The command that gets each line of the log on its standard input, as a JSON object.",
+        COMMAND,
+        (),
+    ),
+    Key(
+        "timeout",
+        "Seconds within which start, stop and notify each have to end.",
+        SECONDS,
+        Commands.timeout,
+    ),
+)
+# Those that are fields of a `Plan` of the same names.
+FIELDS = (
+    Key(
+        "endpoint_address",
+        "The address of the endpoints, as --endpoint-address of the switch. At another one than 127.0.0.1 a revision may "
+        "have a port of the switch.",
+        ENDPOINT_ADDRESS,
+        HOST,
+    ),
+    Key("health", "How each endpoint is probed.", HEALTH, Health()),
+    Key(
+        "analyses",
+        "The commands of the analyses, which run in the folder of the plan: status 0 is successful, 1 is failed, and "
+        "any other status, or a timeout, is an error.",
+        ANALYSES,
+        Analyses({}),
+    ),
+    Key("progress", "Limits on an attempt that makes no progress.", PROGRESS, Progress()),
+    Key(
+        "redispatch",
+        "false for a switch that was started without --redispatch.",
+        FLAG,
+        Plan.redispatch,
+    ),
+)
+REVISIONS_KEY = Key(
+    "revisions",
+    "The revisions, from the first one to the one that is to be live.",
+    REVISIONS,
+    (),
+    is_needed=True,
+)
+CONTROL_KEY = Key(
+    "control",
+    "The control port of the switch, or the absolute path of its control socket.",
+    CONTROL,
+    1,
+    is_needed=True,
+)
+SCHEMA_KEY = Key(
+    SCHEMA, "The place of this schema, for editors. The controller does not read it.", TEXT, ""
+)
+KEYS = (CONTROL_KEY, *SERVICES, *FIELDS, *COMMANDS, REVISIONS_KEY, SCHEMA_KEY)
+PLAN_SCHEMA = schema_of(KEYS)
+
+
+def read_control(judge: Judge, members: JsonObject) -> Control:
+    """The control port or socket. An object that `judge` finds nothing wrong with has one."""
+    none: Control = 1
+    return CONTROL.member(judge, members, "control", "", none)
+
+
+def read_commands(judge: Judge, members: JsonObject) -> Commands:
+    return Commands(**values_of(judge, members, COMMANDS))
+
+
+def read_services(judge: Judge, members: JsonObject) -> Mapping[str, int]:
+    """The ports of the services that are there."""
+    ports = values_of(judge, members, SERVICES)
+    return {name: port for name, port in ports.items() if port is not None}
 
 
 def read_plan(text: bytes) -> Plan:
@@ -213,29 +338,13 @@ def read_plan(text: bytes) -> Plan:
         json_value = value_of(text)
     except ValueError as error:
         raise PlanError([str(error)]) from None
-    members = judge.members(json_value, "", KEYS, ("control", "revisions"))
-    judge.member(members, SCHEMA, "", judge.text, "")
-
-    def port(value: object, place: str) -> int:
-        return judge.whole_number(value, place, 1, GREATEST_PORT)
-
+    members = judge.members(json_value, "", names_of(KEYS), needed_of(KEYS))
+    values_of(judge, members, [SCHEMA_KEY])
     plan = Plan(
-        read_control(judge, members),
-        judge.member(
-            members, "health", "", lambda value, at: read_health(judge, value, at), Health()
-        ),
-        judge.member(
-            members, "analyses", "", lambda value, at: read_analyses(judge, value, at), Analyses({})
-        ),
-        judge.member(
-            members, "progress", "", lambda value, at: read_progress(judge, value, at), Progress()
-        ),
-        judge.member(
-            members, "revisions", "", lambda value, at: read_revisions(judge, value, at), ()
-        ),
-        read_commands(judge, members),
-        judge.member(members, "redispatch", "", judge.flag, True),
-        {key: port(members[key], key) for key in SERVICE_KEYS if key in members},
+        control=read_control(judge, members),
+        commands=read_commands(judge, members),
+        services=read_services(judge, members),
+        **values_of(judge, members, (*FIELDS, REVISIONS_KEY)),
     )
     if not judge.problems:
         compare_ports(judge, plan)

@@ -5,28 +5,36 @@ import re
 from typing import NamedTuple
 
 from bg_switch_tools.controller.plan.plan import Analyses, Health, Plan, PlannedAnalysis, Progress
+from bg_switch_tools.controller.plan.plan_kinds import names_of, numbers, values_of
 from bg_switch_tools.controller.plan.plan_limits import missing_commands
 from bg_switch_tools.controller.plan.plan_reader import (
-    COMMAND_KEYS,
+    COMMANDS,
     LARGEST,
     SCHEMA,
-    SERVICE_KEYS,
+    SCHEMA_KEY,
+    SERVICES,
     compare_ports,
     read_commands,
     read_control,
+    read_services,
 )
 from bg_switch_tools.controller.plan.plan_text import value_of
 from bg_switch_tools.fleet.plan.fleet_plan import MachineSettings
 from bg_switch_tools.fleet.store.etcd_gateway import EtcdSettings
 from bg_switch_tools.fleet.store.store_endpoints import StoreEndpoint, store_endpoint_of
 from bg_switch_tools.fleet.store.tls_files import TlsFiles
-from bg_switch_tools.switch.json_values import GREATEST_PORT, JsonObject, Judge, is_argument, shown
+from bg_switch_tools.switch.json_values import JsonObject, Judge, is_argument, shown
 
 MOST_ENDPOINTS = 16
 LEAST_TIMEOUT, LONGEST_TIMEOUT = 0.1, 60  # seconds of a call of the store
 MOST_ANALYSES = 64
 USER = re.compile(r"[\x21-\x7e]{1,128}")
-MACHINE_KEYS = ("host", "control", "rollout", *SERVICE_KEYS, "analyses", *COMMAND_KEYS, "timeout")
+MACHINE_KEYS = (
+    *("host", "control", "rollout"),
+    *names_of(SERVICES),
+    "analyses",
+    *names_of(COMMANDS),
+)
 KEYS = ("fleet", "etcd", "tls", "user", "password_file", "timeout_seconds", *MACHINE_KEYS, SCHEMA)
 # neither of a pair can stand without the other
 TOGETHER = (("user", "password_file"), ("host", "control"))
@@ -134,17 +142,13 @@ def read_machine(judge: Judge, members: JsonObject, folder: str) -> MachineSetti
     there = [key for key in MACHINE_KEYS if key in members]
     if not there:
         return None
-
-    def port(value: object, place: str) -> int:
-        return judge.whole_number(value, place, 1, GREATEST_PORT)
-
     return MachineSettings(
         read_control(judge, members),
         judge.member(
             members, "analyses", "", lambda value, at: read_analyses(judge, value, at), {}
         ),
         read_commands(judge, members),
-        {key: port(members[key], key) for key in SERVICE_KEYS if key in members},
+        read_services(judge, members),
         judge.member(
             members, "rollout", "", lambda value, at: read_path(judge, value, at, folder), ""
         ),
@@ -176,7 +180,7 @@ def read_fleet_file(text: bytes, folder: str) -> FleetFile:
     except ValueError as error:
         raise FleetFileError([str(error)]) from None
     members = judge.members(json_value, "", KEYS, ("fleet", "etcd"))
-    judge.member(members, SCHEMA, "", judge.text, "")
+    values_of(judge, members, [SCHEMA_KEY])
     for keys in TOGETHER:
         needs_both(judge, members, "", *keys)
     if (
@@ -194,12 +198,8 @@ def read_fleet_file(text: bytes, folder: str) -> FleetFile:
         judge.member(
             members, "password_file", "", lambda value, at: read_path(judge, value, at, folder), ""
         ),
-        judge.member(
-            members,
-            "timeout_seconds",
-            "",
-            lambda value, at: judge.number(value, at, LEAST_TIMEOUT, LONGEST_TIMEOUT),
-            EtcdSettings._field_defaults["timeout"],
+        numbers(LEAST_TIMEOUT, LONGEST_TIMEOUT).member(
+            judge, members, "timeout_seconds", "", EtcdSettings._field_defaults["timeout"]
         ),
     )
     machine = read_machine(judge, members, folder)

@@ -15,17 +15,24 @@ from bg_switch_tools.controller.plan.plan import (
     Progress,
     Revisions,
 )
-from bg_switch_tools.controller.plan.plan_reader import (
-    LARGEST,
+from bg_switch_tools.controller.plan.plan_kinds import (
+    FLAG,
     LONGEST,
+    SECONDS,
+    numbers,
+    values_of,
+    whole_numbers,
+)
+from bg_switch_tools.controller.plan.plan_reader import (
+    HEALTH,
+    LARGEST,
     MOST_AT_ONCE,
+    PROGRESS,
+    REVISIONS,
     SCHEMA,
+    SCHEMA_KEY,
     PlanError,
     compare_ports,
-    read_health,
-    read_progress,
-    read_revisions,
-    seconds,
 )
 from bg_switch_tools.controller.plan.plan_text import value_of
 from bg_switch_tools.switch.control import Control
@@ -96,7 +103,7 @@ def _read_analyses(judge: Judge, value: object, place: str) -> tuple[dict[str, N
         for key in ANALYSES
         if key in members
     }
-    return names, seconds(judge, members, "seconds", place, Analyses.seconds)
+    return names, SECONDS.member(judge, members, "seconds", place, Analyses.seconds)
 
 
 def _read(judge: Judge, json_value: object) -> FleetPlan:
@@ -105,41 +112,27 @@ def _read(judge: Judge, json_value: object) -> FleetPlan:
         for key in [key for key in OF_MACHINES if key in json_value]:
             judge.note(key, "stands in the fleet file of each machine")
     members = judge.members(json_value, "", (*KEYS, *OF_MACHINES), ("revisions",))
-    judge.member(members, SCHEMA, "", judge.text, "")
+    values_of(judge, members, [SCHEMA_KEY])
     none: tuple[dict[str, Names], float] = ({}, Analyses.seconds)
     names, limit = judge.member(
         members, "analyses", "", lambda value, at: _read_analyses(judge, value, at), none
     )
-    progress = judge.member(
-        members, "progress", "", lambda value, at: read_progress(judge, value, at), Progress()
-    )
+    progress = PROGRESS.member(judge, members, "progress", "", Progress())
     keys = ("by_hand", "seconds", "max_missing", "promoting_seconds")
     fleet = judge.member(
         members, "fleet", "", lambda value, at: judge.members(value, at, keys), JsonObject([])
     )
     return FleetPlan(
-        judge.member(
-            members, "revisions", "", lambda value, at: read_revisions(judge, value, at), ()
-        ),
-        judge.member(
-            members, "health", "", lambda value, at: read_health(judge, value, at), Health()
-        ),
+        REVISIONS.member(judge, members, "revisions", "", ()),
+        HEALTH.member(judge, members, "health", "", Health()),
         names,
         limit,
         progress,
-        judge.member(members, "redispatch", "", judge.flag, True),
-        judge.member(fleet, "by_hand", "fleet", judge.flag, False),
-        judge.member(
-            fleet, "seconds", "fleet", lambda value, at: judge.number(value, at, 0, LONGEST), 0.0
-        ),
-        judge.member(
-            fleet,
-            "max_missing",
-            "fleet",
-            lambda value, at: judge.whole_number(value, at, 0, MOST_MISSING),
-            0,
-        ),
-        seconds(judge, fleet, "promoting_seconds", "fleet", limit + progress.seconds),
+        FLAG.member(judge, members, "redispatch", "", True),
+        FLAG.member(judge, fleet, "by_hand", "fleet", False),
+        numbers(0, LONGEST).member(judge, fleet, "seconds", "fleet", 0.0),
+        whole_numbers(0, MOST_MISSING).member(judge, fleet, "max_missing", "fleet", 0),
+        SECONDS.member(judge, fleet, "promoting_seconds", "fleet", limit + progress.seconds),
     )
 
 

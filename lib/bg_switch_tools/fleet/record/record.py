@@ -12,7 +12,7 @@ import json
 from collections.abc import Sequence
 
 from bg_switch_tools.controller.plan.plan import PlannedRevision
-from bg_switch_tools.controller.plan.plan_reader import PlanError, read_revision
+from bg_switch_tools.controller.plan.plan_reader import REVISION, PlanError
 from bg_switch_tools.fleet.plan.fleet_plan import (
     FleetPlan,
     plan_object,
@@ -203,8 +203,8 @@ def read_record(text: str) -> Record:
     _raise_problems(judge)
     record = Record(
         _count(judge, members["id"], "id"),
-        read_revision(judge, members["revision"], "revision"),
-        read_revision(judge, members["stable"], "stable"),
+        REVISION.read(judge, members["revision"], "revision"),
+        REVISION.read(judge, members["stable"], "stable"),
         _one_of(judge, members["stage"], "stage", STAGES),
         judge.text(members["reason"], "reason"),
         _texts(judge, members["missing"], "missing"),
