@@ -2,7 +2,7 @@
 from collections.abc import Callable, Mapping, Sequence
 
 from bg_switch_tools.switch.before import WORD
-from bg_switch_tools.switch.line_help import LINE_WORDS
+from bg_switch_tools.switch.lines import LINE_WORDS
 from bg_switch_tools.switch.replies import TOO_LATE
 
 GREATEST, LONGEST = 2**64 - 1, 20  # of a number, and of its digits

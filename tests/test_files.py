@@ -7,7 +7,8 @@ import tempfile
 import unittest
 import zipapp
 
-from bg_switch_tools.controller.plan.plan_reader import read_plan
+from bg_switch_tools.controller.plan.plan_kinds import names_of
+from bg_switch_tools.controller.plan.plan_reader import KEYS, read_plan
 from tests.fake_switch import FakeSwitch
 from tests.tool_runs import TOP, WAIT, Endpoint, comes, controlling, plan_of
 
@@ -137,13 +138,10 @@ class Example(unittest.TestCase):
             timeout=WAIT,
             check=False,
         ).stdout
-        block = told.split("\nA plan:\n")[1].split("\nWhat ")[0]
-        column = block.index("the control port")
-        *described, last = block.split("\n")
-        self.assertEqual(
-            read_plan("\n".join([*(line[:column] for line in described), last]).encode()).control,
-            8082,
-        )
+        plan, keys, *_ = told.split("\nA plan:\n")[1].split("\n\n")
+        self.assertEqual(read_plan(plan.encode()).control, 8082)
+        listed = [line.split()[0] for line in keys.split("\n") if not line.startswith("   ")]
+        self.assertEqual([name for name in listed if "." not in name], list(names_of(KEYS)))
 
 
 if __name__ == "__main__":

@@ -5,11 +5,12 @@ import random
 import re
 import unittest
 
-from bg_switch_tools.switch.line_help import LINE_WORDS, LINES
 from bg_switch_tools.switch.lines import (
     BY_WORD,
     EVENT_WORDS,
     KINDS,
+    LINES,
+    LINE_WORDS,
     LONGEST_LINE,
     Abort,
     AnalysisKind,
@@ -265,7 +266,6 @@ class Meanings(unittest.TestCase):
         told = page().split("\n## The lines\n")[1].split("What the refusals mean:")[0]
         lines = set(re.findall(r"^\| `(\w+)", told, re.M)) - {"enter", "leave"}
         self.assertEqual(set(LINE_WORDS), lines)
-        self.assertEqual(set(BY_WORD), lines)
         for line in LINES:
             self.assertEqual(line.example.split()[0], line.syntax.split()[0])
             self.assertEqual(str(line_of(line.example)), line.example)

@@ -24,7 +24,7 @@ from support.processes import Run, output_of, run_to_end, status_of
 from support.switch import Switch
 
 # isort: split; `support` tells where the tools' package is
-from bg_switch_tools.switch.line_help import LINES
+from bg_switch_tools.switch.lines import LINES
 from bg_switch_tools.switch.meanings import FAULTS, REFUSALS
 
 OPERATOR = str(TOP / "bin" / "operator")

@@ -1,5 +1,6 @@
 -- What was written to a line step by step.
-use Rattle.std.proofs.Common.{[], ◌∷◌, ◌++◌, ◌∙◌, List, Result, Ok, Err, ap, append_assoc}
+use Rattle.std.proofs.Common.{ℕ, ◌+◌, ◌<◌, [], ◌∷◌, ◌++◌, ◌∙◌, List, Result, Ok, Err, ap, append_assoc, flat_map, get_or, length, subst, sym, take}
+use Rattle.std.proofs.lemmas.List.{flat_map_more, take_more}
 use Rattle.std.specs.declared.alloc.AllocError.{AllocError}
 use Rattle.json.specs.Token.{Token}
 use Rattle.json.specs.Written.{Writes, Written}
@@ -23,3 +24,11 @@ pub adds_then : {E : Type 0} (r : Result (Unit {0}) E) (old mid new : Written) (
     → Added old mid a → Adds r mid new b → Adds r old new (a ++ b)
 adds_then (Ok u) old mid new a b first second = added_then old mid new a b first second
 adds_then (Err e) old mid new a b first second = tt
+
+-- one more of the elements of a list was written
+pub added_next : {X : Type 0} (f : X → List Token) (xs : List X) (i : ℕ) (d : X) (old mid new : Written) → i < length xs
+    → Added old mid (flat_map f (take i xs)) → Added mid new (f (get_or xs i d)) → Added old new (flat_map f (take (i + 1) xs))
+added_next f xs i d old mid new within before added =
+    subst (λ (ts : List Token). Added old new ts)
+    (flat_map_more f [] (take i xs) (get_or xs i d) ∙ ap (flat_map f) (sym (take_more xs i d within)))
+    (added_then old mid new _ _ before added)

@@ -1,10 +1,13 @@
 -- The line of a connection: an object of JSON with a line feed behind it.
-use Rattle.std.specs.Prelude.{◌≡◌, ℕ, Bool, List, [], ◌∷◌, ◌++◌, OnOk, Option, Some, None, Result, codes, decimal}
+use Rattle.std.specs.Prelude.{◌≡◌, ℕ, List, [], ◌∷◌, ◌++◌, OnOk, Option, Some, None, Result, codes, decimal}
 use Rattle.std.specs.Cow.{cow_str_bytes}
+use Rattle.std.specs.List.{flat_map}
 use Rattle.std.specs.Option.{option_map}
 use Rattle.json.specs.Print.{print}
 use Rattle.json.specs.Token.{Token, begin_object, boolean, end_object, key, null, number, string}
 use Rattle.json.specs.Written.{Written}
+use Rattle.bg_access_log.specs.declared.line.OptionalValue.{OptionalValue}
+use Rattle.bg_access_log.specs.declared.line.OptionalValue.TheVariants as value
 use Rattle.bg_access_log.specs.declared.log_entry.LogEntry.{LogEntry}
 use Rattle.bg_access_log.specs.declared.lost_lines.LostLines.{LostLines}
 
@@ -26,15 +29,12 @@ text_member name text = key name ∷ text_value text ∷ []
 abbrev pub number_member : List ℕ → Option ℕ → List Token
 number_member name n = key name ∷ number_value n ∷ []
 
--- a member that is left out if there is no number
-abbrev pub optional_member : List ℕ → Option ℕ → List Token
-optional_member name None = []
-optional_member name (Some n) = number_member name (Some n)
-
--- a member that is left out if there is neither true nor false
-abbrev pub optional_flag : List ℕ → Option Bool → List Token
-optional_flag name None = []
-optional_flag name (Some flag) = key name ∷ boolean flag ∷ []
+-- a member that is left out if it has no value
+abbrev pub optional_member : List ℕ → OptionalValue → List Token
+optional_member name (value.Number None) = []
+optional_member name (value.Number (Some n)) = number_member name (Some n)
+optional_member name (value.Flag None) = []
+optional_member name (value.Flag (Some flag)) = key name ∷ boolean flag ∷ []
 
 -- when the connection ended, and its request
 abbrev pub request_members : LogEntry → List Token
@@ -61,16 +61,25 @@ count_members e =
     ++ number_member (codes "response_bytes") (Some e.response_bytes)
     ++ number_member (codes "duration_ms") (Some e.duration_ms)
     ++ number_member (codes "upstream_ms") e.upstream_ms
-    ++ optional_member (codes "slot_port") e.slot_port
-    ++ optional_member (codes "tries") e.tries
-    ++ optional_member (codes "idle_connections") e.idle_connections
-    ++ optional_member (codes "connection_request") e.connection_request
-    ++ optional_flag (codes "upstream_reused") e.upstream_reused
+
+-- what a line need not have
+abbrev pub optional_values : LogEntry → List (List ℕ × OptionalValue)
+optional_values e =
+    (codes "slot_port", value.Number e.slot_port)
+    ∷ (codes "tries", value.Number e.tries)
+    ∷ (codes "idle_connections", value.Number e.idle_connections)
+    ∷ (codes "connection_request", value.Number e.connection_request)
+    ∷ (codes "upstream_reused", value.Flag e.upstream_reused)
+    ∷ []
+
+abbrev pub optional_members : LogEntry → List Token
+optional_members e = flat_map (λ m. optional_member m.0 m.1) (optional_values e)
 
 -- the object
 abbrev pub object : LogEntry → List Token
 object e =
-    begin_object ∷ [] ++ request_members e ++ end_members e ++ count_members e ++ end_object ∷ []
+    begin_object ∷ [] ++ request_members e ++ end_members e ++ count_members e ++ optional_members e
+    ++ end_object ∷ []
 
 -- the object's text, as compact JSON, and a line feed
 abbrev pub line_text : LogEntry → List ℕ

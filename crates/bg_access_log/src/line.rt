@@ -1,7 +1,7 @@
 //! Members of a line of the log.
-ghost use Rattle.std.specs.Prelude.{◌≡◌};
+ghost use Rattle.std.specs.Prelude.{◌≡◌, flat_map};
 ghost use Rattle.std.specs.Option.{option_map};
-ghost use Rattle.bg_access_log.specs.Lines.{Adds, number_member, optional_flag, optional_member, text_member};
+ghost use Rattle.bg_access_log.specs.Lines.{Adds, number_member, optional_member, text_member};
 
 use json::Writer;
 use std::alloc::AllocError;
@@ -33,33 +33,36 @@ pub(crate) fn add_number(
     }
 }
 
-/// Writes a member whose value is true or false. Writes nothing if there is none.
-pub(crate) fn add_optional_flag(
+/// The value of a member that is left out if it has none.
+#[derive(Clone, Copy, Drop)]
+pub(crate) enum OptionalValue {
+    Number(Option<u64>),
+    Flag(Option<bool>),
+}
+
+/// Writes members, of which each is left out if it has no value.
+pub(crate) fn add_optionals(
     line: &mut Writer,
-    name: &str,
-    flag: Option<bool>,
+    members: &[(&str, OptionalValue)],
 ) -> Result<(), AllocError>
-    ensures { Adds result line.old line.new (optional_flag name.now flag) }
+    ensures { Adds result line.old line.new (flat_map (λ m. optional_member m.0.now m.1) members.now) }
 {
-    match flag {
-        Some(flag) => {
+    for member in members {
+        add_optional(line, member.0, member.1)?;
+    }
+    Ok(())
+}
+
+/// Writes a member. Writes nothing if it has no value.
+fn add_optional(line: &mut Writer, name: &str, value: OptionalValue) -> Result<(), AllocError>
+    ensures { Adds result line.old line.new (optional_member name.now value) }
+{
+    match value {
+        OptionalValue::Number(Some(number)) => add_number(line, name, Some(number)),
+        OptionalValue::Flag(Some(flag)) => {
             line.key(name)?;
             line.boolean(flag)
         }
-        None => Ok(()),
-    }
-}
-
-/// Writes a member whose value is a number. Writes nothing if there is none.
-pub(crate) fn add_optional(
-    line: &mut Writer,
-    name: &str,
-    number: Option<u64>,
-) -> Result<(), AllocError>
-    ensures { Adds result line.old line.new (optional_member name.now number) }
-{
-    match number {
-        Some(_) => add_number(line, name, number),
-        None => Ok(()),
+        OptionalValue::Number(None) | OptionalValue::Flag(None) => Ok(()),
     }
 }

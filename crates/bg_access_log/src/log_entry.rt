@@ -2,9 +2,9 @@
 ghost use Rattle.std.specs.Prelude.{◌≡◌, ◌++◌, IfOk};
 ghost use Rattle.std.specs.Cow.{cow_str_bytes};
 ghost use Rattle.std.specs.Option.{option_map};
-ghost use Rattle.bg_access_log.specs.Lines.{Adds, count_members, end_members, line_text, object, request_members};
+ghost use Rattle.bg_access_log.specs.Lines.{Adds, count_members, end_members, line_text, object, optional_members, request_members};
 
-use crate::line::{add_number, add_optional, add_optional_flag, add_text};
+use crate::line::{OptionalValue, add_number, add_optionals, add_text};
 use crate::time_text::{TimeText, text_of};
 use json::Writer;
 use std::alloc::{AllocError, Global};
@@ -78,6 +78,7 @@ impl LogEntry<'_> {
         self.add_request(line)?;
         self.add_end(line)?;
         self.add_counts(line)?;
+        self.add_optional(line)?;
         line.end_object()
     }
 
@@ -110,12 +111,29 @@ impl LogEntry<'_> {
         add_number(line, "request_bytes", Some(self.request_bytes))?;
         add_number(line, "response_bytes", Some(self.response_bytes))?;
         add_number(line, "duration_ms", Some(self.duration_ms))?;
-        add_number(line, "upstream_ms", self.upstream_ms)?;
-        add_optional(line, "slot_port", as_number(self.slot_port))?;
-        add_optional(line, "tries", as_wide(self.tries))?;
-        add_optional(line, "idle_connections", self.idle_connections)?;
-        add_optional(line, "connection_request", self.connection_request)?;
-        add_optional_flag(line, "upstream_reused", self.upstream_reused)
+        add_number(line, "upstream_ms", self.upstream_ms)
+    }
+
+    /// Writes what the line need not have.
+    fn add_optional(&self, line: &mut Writer) -> Result<(), AllocError>
+        ensures { Adds result line.old line.new (optional_members self.now) }
+    {
+        let slot_port = as_number(self.slot_port);
+        let tries = as_wide(self.tries);
+        let members = [
+            ("slot_port", OptionalValue::Number(slot_port)),
+            ("tries", OptionalValue::Number(tries)),
+            (
+                "idle_connections",
+                OptionalValue::Number(self.idle_connections),
+            ),
+            (
+                "connection_request",
+                OptionalValue::Number(self.connection_request),
+            ),
+            ("upstream_reused", OptionalValue::Flag(self.upstream_reused)),
+        ];
+        add_optionals(line, &members)
     }
 }
 

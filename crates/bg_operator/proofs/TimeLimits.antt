@@ -8,12 +8,13 @@ use Rattle.bg_history.specs.declared.entry.AnalysisResult.{AnalysisResult}
 use Rattle.bg_history.specs.declared.control.Control.TheVariants.{Abort, Retry, Verdict}
 use Rattle.bg_revisions.specs.declared.revision.Service.{Service}
 use Rattle.bg_operator.specs.declared.command.Command.{Command}
-use Rattle.bg_operator.specs.declared.command.Command.TheVariants.{Control, Enter, Report, Compact, Quit}
+use Rattle.bg_operator.specs.declared.command.Command.TheVariants.{Ask, Control, Enter, Compact, Quit}
+use Rattle.bg_operator.specs.declared.query.Query.{Query}
 use Rattle.bg_operator.specs.declared.line_fault.LineFault.{LineFault}
 use Rattle.bg_operator.specs.declared.line_fault.LineFault.TheVariants.{BadNumber, UnknownWord, WrongCount}
-use Rattle.bg_operator.specs.Words.{analyses, is_number, meaning_in, number_reading, results, services}
+use Rattle.bg_operator.specs.Words.{analyses, is_number, meaning_in, number_reading, queries, results, services, Vocabulary}
 use Rattle.bg_operator.specs.Shapes.{shape_fault}
-use Rattle.bg_operator.specs.Commands.{IsReadAs, NeedsMemory, Row, available_command, available_row, before_reading, deploy_row, enter_row, event_reading, leave_command, leave_row, promote_command, promote_row, row_reading, rows, single_word, table_reading, tick_command, tick_row, verdict_row, with_time_limit}
+use Rattle.bg_operator.specs.Commands.{IsReadAs, NeedsMemory, Row, available_command, available_row, before_reading, deploy_row, enter_row, event_reading, leave_command, leave_row, promote_command, promote_row, query_rows, row_reading, rows, single_word, table_reading, tick_command, tick_row, verdict_row, with_time_limit}
 
 -- if a line needs memory, it also does after a time limit
 abbrev pub NeedsItBefore : ℕ → Result Command LineFault → Type 0
@@ -92,6 +93,11 @@ by_rows m first words (row ∷ table) all = by_test (bytes_eq first row.first) r
     by_test true is later = all.0 is words
     by_test false is later = later
 
+queries_ask : (m : ℕ) (first : List ℕ) (table : Vocabulary Query) → AreSo m first (query_rows table)
+queries_ask m first [] = tt
+queries_ask m first ((text, query) ∷ table) =
+    (λ is. by_commands m (single_word text (Ask query)) (λ words needs. needs), queries_ask m first table)
+
 unlike : (t : Bool) → t ≡ false → t ≡ true → ⊥
 unlike t differs same = let c : true ≡ false = sym same ∙ differs in absurd (cc)
 
@@ -122,10 +128,10 @@ needs_it_before m first words no_open no_down =
                         (
                           λ is. absurd (unlike _ no_down is),
                           (
-                            λ is. by_commands m (single_word (codes "report") Report) (λ words needs. needs),
+                            λ is. by_commands m (single_word (codes "compact") Compact) (λ words needs. needs),
                             (
-                              λ is. by_commands m (single_word (codes "compact") Compact) (λ words needs. needs),
-                              (λ is. by_commands m (single_word (codes "quit") Quit) (λ words needs. needs), tt),
+                              λ is. by_commands m (single_word (codes "quit") Quit) (λ words needs. needs),
+                              queries_ask m first queries,
                             ),
                           ),
                         ),

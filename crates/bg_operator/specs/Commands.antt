@@ -5,10 +5,11 @@ use Rattle.std.specs.List.{list_all}
 use Rattle.std.specs.Str.Parse.{digits_value}
 use Rattle.bg_history.specs.declared.control.Control.TheVariants.{Tick, Deploy, Available, Verdict, Promote, PromoteFull, Abort, Retry}
 use Rattle.bg_operator.specs.declared.command.Command.{Command}
-use Rattle.bg_operator.specs.declared.command.Command.TheVariants.{Open, Control, Before, Enter, Leave, Down, Report, Compact, Quit}
+use Rattle.bg_operator.specs.declared.command.Command.TheVariants.{Open, Control, Before, Enter, Leave, Down, Ask, Compact, Quit}
 use Rattle.bg_operator.specs.declared.line_fault.LineFault.{LineFault}
 use Rattle.bg_operator.specs.declared.line_fault.LineFault.TheVariants.{TooLong, NotAscii, Empty, UnknownWord, WrongCount, BadWord, OutOfMemory}
-use Rattle.bg_operator.specs.Words.{analyses, meaning_in, results, services, words_in, words_of}
+use Rattle.bg_operator.specs.Words.{analyses, meaning_in, queries, results, services, Vocabulary, words_in, words_of}
+use Rattle.bg_operator.specs.declared.query.Query.{Query}
 use Rattle.bg_operator.specs.Shapes.{Shape, AnyWord, Number, OneOf, Exactly, AtMost, AndMore, AnyNumber, shape_fault, word_fault}
 
 -- A row of the table of lines: the first word, the words that may follow, and their command. Words
@@ -139,6 +140,10 @@ single_word first command = record {
   command = λ words. Some command;
 }
 
+-- the lines that ask a book for something
+abbrev pub query_rows : Vocabulary Query → List Row
+query_rows table = map (λ named. single_word named.0 (Ask named.1)) table
+
 -- the table of lines
 abbrev pub rows : List Row
 rows =
@@ -146,10 +151,9 @@ rows =
     ∷ single_word (codes "abort") (Control Abort)
     ∷ single_word (codes "retry") (Control Retry)
     ∷ enter_row ∷ leave_row ∷ down_row
-    ∷ single_word (codes "report") Report
     ∷ single_word (codes "compact") Compact
     ∷ single_word (codes "quit") Quit
-    ∷ []
+    ∷ query_rows queries
 
 -- The result of reading the words after the first by a row: their fault, or else the command. Words
 -- without a fault always have a command.
@@ -157,11 +161,15 @@ abbrev pub row_reading : Row → List (List ℕ) → Result Command LineFault
 row_reading row words =
     option_map_or Err (shape_fault row.shape words) (ok_or (row.command words) WrongCount)
 
+-- the result of reading words by the rows of a table
+abbrev pub reading_in : List Row → List ℕ → List (List ℕ) → Result Command LineFault
+reading_in table first words =
+    option_map_or (λ row. row_reading row words) (find (λ row. bytes_eq first row.first) table)
+    (Err UnknownWord)
+
 -- the result of reading words by the table of lines
 abbrev pub table_reading : List ℕ → List (List ℕ) → Result Command LineFault
-table_reading first words =
-    option_map_or (λ row. row_reading row words) (find (λ row. bytes_eq first row.first) rows)
-    (Err UnknownWord)
+table_reading first words = reading_in rows first words
 
 -- whether a line with this first word has a time limit
 abbrev pub is_before : List ℕ → Bool

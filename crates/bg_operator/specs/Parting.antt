@@ -32,14 +32,16 @@ part_of xs = part_from true xs
 abbrev pub rest_of : List ℕ → List ℕ
 rest_of xs = rest_from true xs
 
+-- this text was read, and ys, which are the rest, are still unread; or the text is longer than a strategy may be
+abbrev pub WasRead : StrategyPart → List ℕ → List ℕ → List ℕ → Type 0
+WasRead (Whole part) text rest ys =
+    (part.items ≡ text) × (ys ≡ rest) × (length part.items ≤ largest_strategy)
+WasRead TooLarge text rest ys = largest_strategy < length text
+
 -- the bytes xs were read up to the line `---`, and ys are still unread
 abbrev pub IsPart : StrategyPart → List ℕ → List ℕ → Type 0
-IsPart (Whole part) xs ys =
-    (part.items ≡ part_of xs) × (ys ≡ rest_of xs) × (length part.items ≤ largest_strategy)
-IsPart TooLarge xs ys = largest_strategy < length (part_of xs)
+IsPart part xs ys = WasRead part (part_of xs) (rest_of xs) ys
 
 -- all of the bytes xs were read
 abbrev pub IsWhole : StrategyPart → List ℕ → List ℕ → Type 0
-IsWhole (Whole whole) xs ys =
-    (whole.items ≡ xs) × (ys ≡ []) × (length whole.items ≤ largest_strategy)
-IsWhole TooLarge xs ys = largest_strategy < length xs
+IsWhole part xs ys = WasRead part xs [] ys

@@ -11,6 +11,8 @@ use Rattle.bg_history.specs.declared.entry.AnalysisResult.{AnalysisResult}
 use Rattle.bg_history.specs.declared.entry.AnalysisResult.TheVariants as result
 use Rattle.bg_operator.specs.declared.line_fault.LineFault.{LineFault}
 use Rattle.bg_operator.specs.declared.line_fault.LineFault.TheVariants.{BadNumber}
+use Rattle.bg_operator.specs.declared.query.Query.{Query}
+use Rattle.bg_operator.specs.declared.query.Query.TheVariants as query
 use Rattle.bg_operator.specs.declared.words.Words.{Words}
 
 -- the words of a line: the parts between its spaces that are not empty
@@ -61,3 +63,7 @@ results =
     ∷ (codes "failed", result.Failed)
     ∷ (codes "error", result.Error)
     ∷ []
+
+-- what lines of one word ask of a book
+abbrev pub queries : Vocabulary Query
+queries = (codes "report", query.Report) ∷ []

@@ -1,5 +1,6 @@
 //! The command of a line of a script.
 
+use crate::query::Query;
 use bg_history::Control;
 use bg_revisions::{Name, Ports, Service};
 
@@ -18,8 +19,8 @@ pub enum Command {
     Leave { seat: u32 },
     /// Take these ports as all that are down now, in place of those before.
     Down { ports: Ports },
-    /// Write the report.
-    Report,
+    /// Write what this asks of the book.
+    Ask(Query),
     /// Drop the entries of closed requests from the history.
     Compact,
     /// End the script.

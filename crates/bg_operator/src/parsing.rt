@@ -2,8 +2,8 @@
 ghost use Rattle.std.specs.Prelude.{◌≡◌, [], ◌∷◌, true, map, None, MatchResult};
 ghost use Rattle.std.specs.List.{list_all};
 ghost use Rattle.std.specs.Str.Parse.{digits_value};
-ghost use Rattle.bg_operator.specs.Words.{is_number, words_ahead};
-ghost use Rattle.bg_operator.specs.Commands.{available_row, deploy_row, down_row, enter_row, is_printable, IsReadAs, leave_row, line_reading, open_row, promote_row, row_reading, single_word, table_reading, template_shape, text_fault, tick_row, verdict_row, words_reading};
+ghost use Rattle.bg_operator.specs.Words.{is_number, queries, words_ahead};
+ghost use Rattle.bg_operator.specs.Commands.{available_row, deploy_row, down_row, enter_row, is_printable, IsReadAs, leave_row, line_reading, open_row, promote_row, query_rows, reading_in, row_reading, single_word, table_reading, template_shape, text_fault, tick_row, verdict_row, words_reading};
 ghost use Rattle.bg_operator.specs.Shapes.{shape_fault};
 ghost use Rattle.bg_operator.specs.declared.line_fault.LineFault.TheVariants as line_fault;
 
@@ -11,6 +11,7 @@ use crate::before::before;
 use crate::command::Command;
 use crate::line_fault::LineFault;
 use crate::lines::LONGEST_LINE;
+use crate::query::query_named;
 use crate::vocabulary::{analysis_named, result_named, service_named};
 use crate::words::{Words, end, is_at_end, long_number, number, one, short_number, two};
 use bg_history::Control;
@@ -26,7 +27,8 @@ use std::alloc::Global;
 /// - `promote`, `promote full`, `abort` and `retry`
 /// - `enter SEAT active` or `enter SEAT preview`, and `leave SEAT`
 /// - `down PORT..`, with any number of ports
-/// - `report`, `compact` and `quit`
+/// - the word of a [`Query`](crate::Query), such as `report`
+/// - `compact` and `quit`
 /// - `before MILLISECONDS LINE`, where LINE is a line that gives an event: `available`, `deploy`, `verdict`,
 ///   `promote`, `promote full`, `tick`, `abort` or `retry`
 ///
@@ -75,10 +77,9 @@ pub(crate) fn command_in_table(
         "enter" => enter(words),
         "leave" => leave(words),
         "down" => down(alloc, words),
-        "report" => alone(Command::Report, words),
         "compact" => alone(Command::Compact, words),
         "quit" => alone(Command::Quit, words),
-        _ => Err(LineFault::UnknownWord),
+        _ => query(first, words),
     }
 }
 
@@ -223,6 +224,17 @@ fn down(alloc: Global, words: Words) -> Result<Command, LineFault>
     }
     let ports = read_ports(alloc, words)?;
     Ok(Command::Down { ports })
+}
+
+/// The command of a line that asks a book for something.
+#[tactic(auto, using(crate::proofs::LineReadings::reading_of_query))]
+fn query(first: &str, words: Words) -> Result<Command, LineFault>
+    ensures { result ≡ reading_in (query_rows queries) first.now (words_ahead words.entry) }
+{
+    match query_named(first) {
+        Some(query) => alone(Command::Ask(query), words),
+        None => Err(LineFault::UnknownWord),
+    }
 }
 
 /// The command, if no word follows.

@@ -6,9 +6,9 @@ ghost use Rattle.bg_operator.specs.Parting.{IsPart, IsWhole, largest_strategy};
 ghost use Rattle.bg_operator.specs.Taking.{Gathers, line_text};
 
 use crate::read_fault::ReadFault;
-use crate::taking::{LineEnd, MOST_TURNS, take_line};
+use crate::taking::{LineEnd, MOST_TURNS, after_error, take_line};
 use std::alloc::Global;
-use std::io::{BufRead, ErrorKind};
+use std::io::BufRead;
 
 /// The maximum length in bytes of the text of a strategy.
 const LARGEST_STRATEGY: usize = 1 << 20;
@@ -90,13 +90,7 @@ fn gather_piece<B: BufRead>(reader: &mut B, whole: &mut Vec<u8>) -> Result<bool,
 {
     let piece = match reader.fill_buf() {
         Ok(piece) => piece,
-        Err(error) => {
-            return if error.kind() == ErrorKind::Interrupted {
-                Ok(false)
-            } else {
-                Err(ReadFault::ReadFailed)
-            };
-        }
+        Err(error) => return after_error(&error, false),
     };
     let at_end = piece.is_empty();
     let kept = piece.len().min(LARGEST_STRATEGY + 1 - whole.len());

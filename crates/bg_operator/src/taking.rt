@@ -5,6 +5,7 @@ ghost use Rattle.bg_operator.specs.Reading.{Known};
 ghost use Rattle.bg_operator.specs.Taking.{PassesLine, PassesPiece, TakesLine, TakesPiece};
 
 use crate::read_fault::ReadFault;
+use std::io;
 use std::io::{BufRead, ErrorKind};
 
 /// The number of turns after which a loop over a reader, for example over the lines of a script or of a
@@ -57,13 +58,7 @@ fn take_piece<B: BufRead>(
 {
     let piece = match reader.fill_buf() {
         Ok(piece) => piece,
-        Err(error) => {
-            return if error.kind() == ErrorKind::Interrupted {
-                Ok(None)
-            } else {
-                Err(ReadFault::ReadFailed)
-            };
-        }
+        Err(error) => return after_error(&error, None),
     };
     if piece.is_empty() {
         return Ok(Some(LineEnd::End));
@@ -79,6 +74,17 @@ fn take_piece<B: BufRead>(
     line.extend_from_slice(&piece[..kept])?;
     reader.consume(kept);
     Ok(None)
+}
+
+/// This after an interrupted read, which is tried again. A read that failed otherwise is a fault.
+pub(crate) fn after_error<T: Drop>(error: &io::Error, nothing: T) -> Result<T, ReadFault>
+    ensures { IfOk result (λ value. value ≡ nothing) }
+{
+    if error.kind() == ErrorKind::Interrupted {
+        Ok(nothing)
+    } else {
+        Err(ReadFault::ReadFailed)
+    }
 }
 
 /// Skips the rest of a line, piece by piece, with its line break.
@@ -102,13 +108,7 @@ fn skip_piece<B: BufRead>(reader: &mut B) -> Result<bool, ReadFault>
 {
     let piece = match reader.fill_buf() {
         Ok(piece) => piece,
-        Err(error) => {
-            return if error.kind() == ErrorKind::Interrupted {
-                Ok(false)
-            } else {
-                Err(ReadFault::ReadFailed)
-            };
-        }
+        Err(error) => return after_error(&error, false),
     };
     if piece.is_empty() {
         return Ok(true);

@@ -1,5 +1,5 @@
 -- The entry of a connection in the access log.
-use Rattle.std.specs.Prelude.{ℕ, Bool, true, ◌==◌, if◌then◌else◌, List, Option, Some, None, codes}
+use Rattle.std.specs.Prelude.{ℕ, ◌+◌, min, Bool, true, ◌==◌, if◌then◌else◌, List, Option, Some, None, codes}
 use Rattle.bg_rollout.specs.declared.ticket.Ticket.{Ticket}
 use Rattle.bg_dial.specs.declared.dialled.Route.{Route}
 use Rattle.bg_forward.specs.Reasons.{reason_name}
@@ -45,6 +45,10 @@ abbrev pub logged_reason : Bool → Reason → List ℕ
 logged_reason true reason.Malformed = codes "body"
 logged_reason true reason.HeadTooLarge = codes "body"
 logged_reason is_head_sound why = reason_name why
+
+-- the number of a request in the log: that of its book behind this offset, if it has 64 bits
+abbrev pub logged_number : ℕ → ℕ → ℕ
+logged_number offset number = min (offset + number) 18446744073709551615
 
 -- the port of the ticket, if another port was dialled last
 abbrev pub slot_port : Option Ticket → Option Route → Option ℕ

@@ -1,10 +1,11 @@
 //! The entry of a connection in the access log.
-ghost use Rattle.std.specs.Prelude.{◌≡◌, None, codes, if◌then◌else◌};
+ghost use Rattle.std.specs.Prelude.{◌≡◌, Some, None, codes, if◌then◌else◌};
 ghost use Rattle.std.specs.Option.{option_and_then, option_map};
-ghost use Rattle.bg_request_log.specs.Entries.{end_name, end_status, logged_end, logged_reason, logged_status, slot_port};
+ghost use Rattle.bg_request_log.specs.Entries.{end_name, end_status, logged_end, logged_number, logged_reason, logged_status, slot_port};
 ghost use Rattle.bg_ports.specs.ServiceNames.{name_of_service};
 
 use bg_access_log::{LogEntry, TimeText};
+use bg_event_loop::EndedRequest;
 use bg_forward::{End, Reason, Served};
 use bg_ports::service_name;
 use bg_revisions::Service;
@@ -13,7 +14,7 @@ use std::borrow::CowStr;
 /// The status of a request whose client has gone before its answer, as nginx has it. No client is sent it.
 const CLIENT_CLOSED_REQUEST: u16 = 499;
 
-/// What the log tells of a connection apart from its outcome.
+/// What the log tells of a request apart from what its event loop has noted.
 #[derive(Drop)]
 pub struct ConnectionFacts<'a> {
     /// When the connection ended.
@@ -23,58 +24,52 @@ pub struct ConnectionFacts<'a> {
     /// The method and the target of the request, or of one that was refused after its head was parsed.
     pub method: Option<CowStr<'a>>,
     pub target: Option<CowStr<'a>>,
-    /// Whether the request was refused although its head passes all rules.
-    pub is_head_sound: bool,
     /// Whether a request may be dialled at another port than its ticket's.
     pub redispatches: bool,
-    /// The number of bytes that came of the request.
-    pub request_bytes: u64,
-    /// The number of bytes of the response that was given to the client.
-    pub response_bytes: u64,
-    /// The number of milliseconds from the accept to the end of the connection.
-    pub duration_ms: u64,
-    /// The number of milliseconds from when the request entered to the first bytes of the response; `None` if no response
-    /// came.
-    pub response_ms: Option<u64>,
+    /// Whether connections are kept.
+    pub keeps_connections: bool,
+    /// What is added to the number of the request in its book.
+    pub number_offset: u64,
     /// The number of connections that ended without having sent a byte, if this entry is to tell of some.
     pub idle_connections: Option<u64>,
-    /// The number of the request among those of its connection, from 1 on, if connections are kept.
-    pub connection_request: Option<u64>,
-    /// Whether the connection to the endpoint had carried a request before, if connections are kept and there was one.
-    pub upstream_reused: Option<bool>,
 }
 
-/// The entry of a connection in the access log, by its outcome and by what else is known of it.
-pub fn entry_of<'a>(served: &Served, facts: ConnectionFacts<'a>) -> LogEntry<'a>
+/// The entry of a request in the access log, by what its event loop has noted and by what else is known of it.
+pub fn entry_of<'a>(ended: &EndedRequest, facts: ConnectionFacts<'a>) -> LogEntry<'a>
     ensures time { result.time ≡ facts.entry.time }
     ensures service { result.service.now ≡ name_of_service facts.entry.service }
-    ensures revision { result.revision ≡ option_map (λ ticket. ticket.revision) served.now.entered }
-    ensures request { result.request ≡ option_map (λ ticket. ticket.number) served.now.entered }
-    ensures port { result.port ≡ option_map (λ route. route.port) served.now.route }
-    ensures slot_port { result.slot_port ≡ slot_port served.now.entered served.now.route }
+    ensures revision { result.revision ≡ option_map (λ ticket. ticket.revision) ended.now.served.entered }
+    ensures request { result.request
+        ≡ option_map (λ ticket. logged_number facts.entry.number_offset ticket.number) ended.now.served.entered }
+    ensures port { result.port ≡ option_map (λ route. route.port) ended.now.served.route }
+    ensures slot_port { result.slot_port ≡ slot_port ended.now.served.entered ended.now.served.route }
     ensures tries { result.tries
-        ≡ (if facts.entry.redispatches then option_map (λ route. route.tries) served.now.route else None) }
+        ≡ (if facts.entry.redispatches then option_map (λ route. route.tries) ended.now.served.route else None) }
     ensures method { result.method ≡ facts.entry.method }
     ensures target { result.target ≡ facts.entry.target }
-    ensures status { result.status ≡ logged_status served.now.end served.now.reason }
-    ensures end { result.end.now ≡ logged_end served.now.end served.now.reason }
+    ensures status { result.status ≡ logged_status ended.now.served.end ended.now.served.reason }
+    ensures end { result.end.now ≡ logged_end ended.now.served.end ended.now.served.reason }
     ensures reason { option_map (λ name. name.now) result.reason
-        ≡ option_map (logged_reason facts.entry.is_head_sound) served.now.reason }
-    ensures request_bytes { result.request_bytes ≡ facts.entry.request_bytes }
-    ensures response_bytes { result.response_bytes ≡ facts.entry.response_bytes }
-    ensures duration { result.duration_ms ≡ facts.entry.duration_ms }
+        ≡ option_map (logged_reason ended.now.is_head_sound) ended.now.served.reason }
+    ensures request_bytes { result.request_bytes ≡ ended.now.request_bytes }
+    ensures response_bytes { result.response_bytes ≡ ended.now.response_bytes }
+    ensures duration { result.duration_ms ≡ ended.now.duration_millis }
     ensures upstream { result.upstream_ms
-        ≡ option_and_then (λ ticket. facts.entry.response_ms) served.now.entered }
+        ≡ option_and_then (λ ticket. ended.now.response_millis) ended.now.served.entered }
     ensures idle { result.idle_connections ≡ facts.entry.idle_connections }
-    ensures place { result.connection_request ≡ facts.entry.connection_request }
-    ensures reused { result.upstream_reused ≡ facts.entry.upstream_reused }
+    ensures place { result.connection_request
+        ≡ (if facts.entry.keeps_connections then Some ended.now.place else None) }
+    ensures reused { result.upstream_reused
+        ≡ (if facts.entry.keeps_connections then ended.now.is_reused else None) }
 {
+    let served = &ended.served;
     let entered = served.entered;
+    let (place, is_reused) = of_kept(ended, facts.keeps_connections);
     LogEntry {
         time: facts.time,
         service: service_name(facts.service),
         revision: entered.map(|ticket| ticket.revision),
-        request: entered.map(|ticket| ticket.number),
+        request: logged_number(served, facts.number_offset),
         port: served.route.map(|route| route.port),
         slot_port: slot_port(served),
         tries: tries(served, facts.redispatches),
@@ -82,18 +77,39 @@ pub fn entry_of<'a>(served: &Served, facts: ConnectionFacts<'a>) -> LogEntry<'a>
         target: facts.target,
         status: logged_status(served),
         end: logged_end(served),
-        reason: reason_name(served.reason, facts.is_head_sound),
-        request_bytes: facts.request_bytes,
-        response_bytes: facts.response_bytes,
-        duration_ms: facts.duration_ms,
+        reason: reason_name(served.reason, ended.is_head_sound),
+        request_bytes: ended.request_bytes,
+        response_bytes: ended.response_bytes,
+        duration_ms: ended.duration_millis,
         upstream_ms: match entered {
-            Some(_) => facts.response_ms,
+            Some(_) => ended.response_millis,
             None => None,
         },
         idle_connections: facts.idle_connections,
-        connection_request: facts.connection_request,
-        upstream_reused: facts.upstream_reused,
+        connection_request: place,
+        upstream_reused: is_reused,
     }
+}
+
+/// The number of the request on its connection, and whether the connection to its endpoint had carried one before, if
+/// connections are kept.
+fn of_kept(ended: &EndedRequest, keeps_connections: bool) -> (Option<u64>, Option<bool>)
+    ensures place { result.0 ≡ (if keeps_connections then Some ended.now.place else None) }
+    ensures reused { result.1 ≡ (if keeps_connections then ended.now.is_reused else None) }
+{
+    if keeps_connections {
+        (Some(ended.place), ended.is_reused)
+    } else {
+        (None, None)
+    }
+}
+
+/// The number of the request: that of its book, behind those of earlier runs.
+fn logged_number(served: &Served, offset: u64) -> Option<u64>
+    ensures { result ≡ option_map (λ ticket. logged_number offset ticket.number) served.now.entered }
+{
+    let ticket = served.entered?;
+    Some(offset.saturating_add(ticket.number))
 }
 
 /// The port of the ticket, if another port was dialled last.

@@ -26,6 +26,8 @@ pub struct ServiceLog<'a, R: Clock + Wait> {
     /// Whether connections are kept. The log then tells the number of a request on its connection, and whether the connection to
     /// its endpoint had carried one before.
     pub keeps_connections: bool,
+    /// What is added to the numbers of requests in the book, so that they differ from those of earlier runs.
+    pub number_offset: u64,
     /// The counter of the requests that are refused because the history is full.
     pub refused_for_room: &'a AtomicU64,
 }
@@ -40,7 +42,7 @@ impl<R: Clock + Wait> RequestLog for ServiceLog<'_, R> {
             self.refused_for_room.fetch_add(1, Ordering::SeqCst);
         }
         if let Some(log) = self.log {
-            log.add(self.rt, &entry_of(&ended.served, self.facts(log, ended)));
+            log.add(self.rt, &entry_of(ended, self.facts(log, ended)));
         }
     }
 
@@ -52,7 +54,7 @@ impl<R: Clock + Wait> RequestLog for ServiceLog<'_, R> {
 }
 
 impl<R: Clock + Wait> ServiceLog<'_, R> {
-    /// What the log tells of a request apart from its outcome.
+    /// What the log tells of a request apart from what its event loop has noted.
     fn facts<'c>(&self, log: &AccessLog, ended: &EndedRequest<'c>) -> ConnectionFacts<'c> {
         let alloc = self.alloc;
         ConnectionFacts {
@@ -60,23 +62,10 @@ impl<R: Clock + Wait> ServiceLog<'_, R> {
             service: self.service,
             method: ended.line.and_then(|line| text_of(alloc, line.method)),
             target: ended.line.and_then(|line| text_of(alloc, line.target)),
-            is_head_sound: ended.is_head_sound,
             redispatches: self.redispatches,
-            request_bytes: ended.request_bytes,
-            response_bytes: ended.response_bytes,
-            duration_ms: ended.duration_millis,
-            response_ms: ended.response_millis,
+            keeps_connections: self.keeps_connections,
+            number_offset: self.number_offset,
             idle_connections: log.take_idle_connections(),
-            connection_request: if self.keeps_connections {
-                Some(ended.place)
-            } else {
-                None
-            },
-            upstream_reused: if self.keeps_connections {
-                ended.is_reused
-            } else {
-                None
-            },
         }
     }
 }

@@ -7,3 +7,4 @@ pub mod ReplayedBytes
 pub mod FreshBuffer
 pub mod Journaled
 pub mod Survival
+pub mod Bounds

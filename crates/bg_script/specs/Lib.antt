@@ -9,3 +9,5 @@ pub mod Stages
 pub mod Scripts
 pub mod Connections
 pub mod Survival
+pub mod QueryTexts
+pub mod RequestNumbers

@@ -5,6 +5,7 @@ use Rattle.std.specs.Io.KnownBytes.{Appends}
 use Rattle.bg_operator.specs.declared.command.Command.{Command}
 use Rattle.bg_operator.specs.declared.command.Command.TheVariants as command
 use Rattle.bg_operator.specs.declared.line_fault.LineFault.{LineFault}
+use Rattle.bg_operator.specs.declared.query.Query.{Query}
 use Rattle.bg_operator.specs.Commands.{IsReadAs, line_reading}
 use Rattle.bg_operator.specs.HttpLines.{is_http_line, speaks_http}
 use Rattle.bg_operator.specs.Lines.{lines_of}
@@ -26,13 +27,6 @@ EndsLines stage read lines_end.Quit = read ≡ Ok command.Quit
 EndsLines stage read lines_end.SpeaksHttp = ⊥
 EndsLines stage read lines_end.End = ⊥
 
--- what a line with this result leads to, and the stage then
-abbrev pub StepIs : Stage → Result Command LineFault → Stage → LineResult → Type 0
-StepIs stage read next (line_result.Said said) = ReadStep stage read (Said said) next
-StepIs stage read next line_result.Report = (read ≡ Ok command.Report) × (next ≡ stage)
-StepIs stage read next (line_result.Opens revision) = EndsLines stage read (lines_end.Open revision) × (next ≡ stage)
-StepIs stage read next line_result.Quits = EndsLines stage read lines_end.Quit × (next ≡ stage)
-
 -- from first to last the answer to a line with this result was written
 pub record WroteAnswer (stage : Stage) (read : Result Command LineFault)
     (first last : Option (List ℕ)) (next : Stage) (is_fault : Bool) : Type 0 where
@@ -41,20 +35,33 @@ pub record WroteAnswer (stage : Stage) (read : Result Command LineFault)
   pub appended : Appends first last (written_text written)
   pub fault_is : is_fault ≡ is_fault_written written
 
--- from first to last a line with this result was answered so, and this is the stage; or it ends the answering, and nothing
--- was written
+-- What a line with this result leads to, and the stage then. From first to last, the answer to its query was written if it
+-- asks a book for something; nothing else was written.
+abbrev pub StepIs : Stage → Result Command LineFault → Option (List ℕ) → Option (List ℕ) → Stage
+    → LineResult → Type 0
+StepIs stage read first last next (line_result.Said said) =
+    ReadStep stage read (Said said) next × (last ≡ first)
+StepIs stage read first last next line_result.Report =
+    ((query : Query) × (read ≡ Ok (command.Ask query))) × WroteAnswer stage read first last next false
+StepIs stage read first last next (line_result.Opens revision) =
+    EndsLines stage read (lines_end.Open revision) × (next ≡ stage) × (last ≡ first)
+StepIs stage read first last next line_result.Quits =
+    EndsLines stage read lines_end.Quit × (next ≡ stage) × (last ≡ first)
+
+-- the same, but if the line has an answer, its text was written
 abbrev pub LineIsAnswered : Stage → Result Command LineFault → Option (List ℕ) → Option (List ℕ)
     → Stage → LineResult → Type 0
 LineIsAnswered stage read first last next (line_result.Said said) =
     ReadStep stage read (Said said) next × Appends first last (answer_text said)
 LineIsAnswered stage read first last next line_result.Report =
-    (read ≡ Ok command.Report) × WroteAnswer stage read first last next false
+    StepIs stage read first last next line_result.Report
 LineIsAnswered stage read first last next (line_result.Opens revision) =
-    EndsLines stage read (lines_end.Open revision) × (next ≡ stage) × (last ≡ first)
+    StepIs stage read first last next (line_result.Opens revision)
 LineIsAnswered stage read first last next line_result.Quits =
-    EndsLines stage read lines_end.Quit × (next ≡ stage) × (last ≡ first)
+    StepIs stage read first last next line_result.Quits
 
--- the same, by whether a fault was written
+-- from first to last a line with this result was answered, by whether a fault was written; or it ends the answering, and
+-- nothing was written
 abbrev pub LineIsDone : Stage → Result Command LineFault → Option (List ℕ) → Option (List ℕ)
     → Stage → AfterLine → Type 0
 LineIsDone stage read first last next (after_line.GoesOn is_fault) =

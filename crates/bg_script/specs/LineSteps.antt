@@ -5,6 +5,7 @@ use Rattle.bg_revisions.specs.PortLists.{are_ports}
 use Rattle.bg_ledger.specs.declared.holding.Holding.{Holding}
 use Rattle.bg_history.specs.declared.control.Control.{Control}
 use Rattle.bg_rollout.specs.declared.fault.OpenFault.TheVariants as open_fault
+use Rattle.bg_rollout.specs.declared.opening.SeatLimit.TheVariants.{Few}
 use Rattle.bg_rollout.specs.Refusals.{open_refusal, usual_limits, IsRefusedBy}
 use Rattle.bg_rollout.specs.Changes.{opened, NewSeats}
 use Rattle.bg_rollout.specs.Compaction.{with_compacted}
@@ -18,12 +19,13 @@ use Rattle.bg_book.specs.Runs.{CallStep}
 use Rattle.bg_operator.specs.declared.command.Command.{Command}
 use Rattle.bg_operator.specs.declared.command.Command.TheVariants as command
 use Rattle.bg_operator.specs.declared.line_fault.LineFault.{LineFault}
-use Rattle.bg_report.specs.Reports.{report_text}
+use Rattle.bg_operator.specs.declared.query.Query.{Query}
 use Rattle.bg_script.specs.declared.answer.Answer.{Answer}
 use Rattle.bg_script.specs.declared.answer.Answer.TheVariants as answer
 use Rattle.bg_script.specs.AnswerTexts.{answer_text, is_fault}
 use Rattle.bg_script.specs.Clocks.{ReadsInTime}
 use Rattle.bg_script.specs.Journaling.{JournalState, OrderReply}
+use Rattle.bg_script.specs.QueryTexts.{query_text}
 
 -- Where a line is answered: in a script while no book is open, and one may be opened with this strategy and this many
 -- seats; in a script, by this book with these seats; at a control connection while no book is open; at a control
@@ -64,19 +66,19 @@ pub record MayFollow (old new : Stage) : Type 0 where
   pub closed : is_open old ≡ false → new ≡ old
   pub stays : is_connection old ≡ true → is_journaled old ≡ false → new ≡ old
 
--- what is written for a line: an answer, or the report of a book
+-- what is written for a line: an answer, or the text that answers a query of a book
 pub data Written : Type 0 where
   Said : (answer : Answer) → Written
-  Reported : (book : Routing) → Written
+  Asked : (query : Query) (book : Routing) → Written
 
 abbrev pub written_text : Written → List ℕ
 written_text (Said said) = answer_text said
-written_text (Reported book) = report_text book
+written_text (Asked query book) = query_text query book
 
 -- whether a fault is written
 abbrev pub is_fault_written : Written → Bool
 is_fault_written (Said said) = is_fault said
-is_fault_written (Reported book) = false
+is_fault_written (Asked query book) = false
 
 -- this is the answer, and the stage does not change
 abbrev pub Stays : Stage → Answer → Written → Stage → Type 0
@@ -85,10 +87,10 @@ Stays stage said written next = (written ≡ Said said) × (next ≡ stage)
 -- the answer to the opening of a book of a script
 abbrev pub ScriptOpens : Strategy → ℕ → List ℕ → List ℕ → Written → Stage → Type 0
 ScriptOpens s count name ports (Said answer.Opened) (Running book seats) =
-    (open_refusal s name ports count usual_limits ≡ None)
+    (open_refusal Few s name ports count usual_limits ≡ None)
     × (book ≡ opened s name ports count usual_limits seats) × NewSeats count seats
 ScriptOpens s count name ports (Said (answer.OpenRefused fault)) (Closed strategy seats) =
-    IsRefusedBy (open_refusal s name ports count usual_limits) open_fault.OutOfMemory fault
+    IsRefusedBy (open_refusal Few s name ports count usual_limits) open_fault.OutOfMemory fault
     × (strategy ≡ s) × (seats ≡ count)
 ScriptOpens s count name ports _ _ = ⊥
 
@@ -197,16 +199,17 @@ IsDownAnswer ports said =
 -- the answer to `down` at a control connection; a replay has no endpoints that could be down
 abbrev pub DeskMarksDown : List ℕ → Written → Type 0
 DeskMarksDown ports (Said said) = IsDownAnswer ports said
-DeskMarksDown ports (Reported book) = ⊥
+DeskMarksDown ports (Asked query book) = ⊥
 
--- the report of a script's book
-abbrev pub ScriptReports : Routing → List Holding → Written → Stage → Type 0
-ScriptReports book seats written next = (written ≡ Reported book) × (next ≡ Running book seats)
+-- the answer to a query of a script's book
+abbrev pub ScriptTells : Query → Routing → List Holding → Written → Stage → Type 0
+ScriptTells query book seats written next =
+    (written ≡ Asked query book) × (next ≡ Running book seats)
 
--- the report of a book with the properties of the headline, or the allocation for it failed
-abbrev pub DeskReports : Written → Type 0
-DeskReports (Reported book) = Headline book
-DeskReports (Said said) = said ≡ answer.OutOfMemory
+-- the answer to a query of a book with the properties of the headline, or the allocation for it failed
+abbrev pub DeskTells : Query → Written → Type 0
+DeskTells query (Asked asked book) = (asked ≡ query) × Headline book
+DeskTells query (Said said) = said ≡ answer.OutOfMemory
 
 -- this many entries are dropped from the book's history when it is compacted
 abbrev pub IsDropped : Routing → ℕ → Type 0
@@ -238,8 +241,8 @@ ReadStep stage (Ok (command.Leave seat)) written next =
     RequestStep stage (call.Leave seat) written next
 ReadStep stage (Ok (command.Down ports)) written next =
     ByBook (λ book seats. Stays (Running book seats) answer.NotHere) (DeskMarksDown ports) stage written next
-ReadStep stage (Ok command.Report) written next =
-    ByBook ScriptReports DeskReports stage written next
+ReadStep stage (Ok (command.Ask query)) written next =
+    ByBook (ScriptTells query) (DeskTells query) stage written next
 ReadStep stage (Ok command.Compact) written next =
     ByBook ScriptCompacts DeskCompacts stage written next
 ReadStep stage (Ok command.Quit) written next = ⊥

@@ -8,7 +8,7 @@ use bg_operator::LineFault;
 use std::io;
 use std::io::Write;
 
-/// The answer to a line of a script or of a control connection, other than the report.
+/// The answer to a line of a script or of a control connection, other than the answer to a query.
 #[derive(Clone, Copy, PartialEq, Eq, Debug, Drop)]
 pub enum Answer {
     /// The book was opened.
@@ -35,7 +35,7 @@ pub enum Answer {
     Unsaved(u64),
     /// The journal lacks an earlier order, so nothing was carried out.
     JournalFailed,
-    /// The allocation for the report, or for the ports that are down, failed.
+    /// The allocation for the answer to a query, or for the ports that are down, failed.
     OutOfMemory,
     /// The line gives no command.
     Unread(LineFault),

@@ -9,7 +9,6 @@ ghost use Rattle.bg_script.specs.LineSteps.{MayFollow, is_connection};
 use crate::answer::{Answer, write_answer};
 use crate::run_end::RunEnd;
 use crate::stages::LineStage;
-use bg_book::Call;
 use bg_operator::{Command, LineFault, MOST_TURNS, OperatorLines};
 use bg_revisions::{Name, Ports};
 use std::io::{BufRead, Write};
@@ -44,9 +43,9 @@ pub enum LinesEnd {
 /// What a line leads to.
 #[derive(Debug, Drop)]
 pub enum LineResult {
-    /// This answer.
+    /// This answer, other than the answer to a query.
     Said(Answer),
-    /// The report, or why there is none.
+    /// The answer to a query, such as the report, or that there was no memory for it. It was written.
     Report,
     /// The line is an `open`, and no book is open. It is left to the caller.
     Opens(FirstRevision),
@@ -72,35 +71,19 @@ pub(crate) struct LinesAnswered {
     pub faulted: bool,
 }
 
-/// Carries out a line at a stage. The report is left to [`LineStage::report`], which writes it.
-pub(crate) fn step<S: LineStage>(stage: &mut S, read: Result<Command, LineFault>) -> LineResult
-    ensures is { StepIs (S.stage stage.old) read (S.stage stage.new) result }
+/// Carries out a line at a stage. The answer to a query is written, and any other answer is not written yet.
+fn step<S: LineStage, W: Write>(
+    stage: &mut S,
+    read: Result<Command, LineFault>,
+    writer: &mut W,
+) -> Result<LineResult, RunEnd>
+    ensures is { IfOk result (StepIs (S.stage stage.old) read (W.contents writer.old)
+        (W.contents writer.new) (S.stage stage.new)) }
     ensures next { MayFollow (S.stage stage.old) (S.stage stage.new) }
 {
     match read {
-        Ok(Command::Open { name, ports }) => {
-            if stage.is_open() {
-                LineResult::Said(Answer::AlreadyOpen)
-            } else {
-                LineResult::Opens(FirstRevision { name, ports })
-            }
-        }
-        Ok(Command::Control(event)) => LineResult::Said(stage.event(event)),
-        Ok(
-            Command::Before {
-                milliseconds,
-                event,
-            },
-        ) => LineResult::Said(stage.before(milliseconds, event)),
-        Ok(Command::Enter { seat, service }) => {
-            LineResult::Said(stage.request(&Call::Enter { seat, service }))
-        }
-        Ok(Command::Leave { seat }) => LineResult::Said(stage.request(&Call::Leave { seat })),
-        Ok(Command::Down { ports }) => LineResult::Said(stage.down(ports)),
-        Ok(Command::Report) => LineResult::Report,
-        Ok(Command::Compact) => LineResult::Said(stage.compact()),
-        Ok(Command::Quit) => LineResult::Quits,
-        Err(fault) => LineResult::Said(Answer::Unread(fault)),
+        Ok(command) => stage.carry_out(command, writer),
+        Err(fault) => Ok(LineResult::Said(Answer::Unread(fault))),
     }
 }
 
@@ -115,14 +98,13 @@ pub fn answer_line<S: LineStage, W: Write>(
         (W.contents writer.old) (W.contents writer.new) (S.stage stage.new)) }
     ensures next { MayFollow (S.stage stage.old) (S.stage stage.new) }
 {
-    match step(stage, read) {
+    match step(stage, read, writer)? {
         LineResult::Said(answer) => {
             write_answer(&answer, writer)?;
             flush(stage, writer)?;
             Ok(LineResult::Said(answer))
         }
         LineResult::Report => {
-            stage.report(writer)?;
             flush(stage, writer)?;
             Ok(LineResult::Report)
         }

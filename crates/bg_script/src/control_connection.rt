@@ -2,9 +2,9 @@
 //!
 //! The lines are read and answered like those of a script, but requests enter and leave by the
 //! workers, not by lines. Each answer is flushed before the next line is read.
-ghost use Rattle.std.specs.Prelude.{◌≡◌, IfOk};
+ghost use Rattle.std.specs.Prelude.{IfOk};
 ghost use Rattle.bg_operator.specs.Reading.{Known};
-ghost use Rattle.bg_script.specs.Connections.{AnswersAtDesk, AnswersAtJournaledDesk, AnswersBeforeOpen, MayEndAtDesk, end_at_desk};
+ghost use Rattle.bg_script.specs.Connections.{AnswersAtDesk, AnswersAtJournaledDesk, AnswersBeforeOpen, MayEndAtDesk};
 ghost use Rattle.bg_script.specs.Journaling.{journal_state};
 ghost use Rattle.bg_script.specs.LineSteps.{ConnectionJournaled};
 
@@ -19,17 +19,6 @@ use bg_ledger::Names;
 use bg_operator::OperatorLines;
 use std::io::{BufRead, Write};
 use std::sync::Wait;
-
-/// Why the answering of a control connection by an open book ended.
-#[derive(Clone, Copy, Debug, Drop, PartialEq, Eq)]
-pub enum ControlEnd {
-    /// The line is `quit`.
-    Quit,
-    /// The line is a fault and a line of HTTP. Its fault was written.
-    SpeaksHttp,
-    /// The connection has no further line.
-    End,
-}
 
 /// Answers each line while no book is open, up to an `open`, which is left to the caller, a `quit`,
 /// which is not answered, a line of HTTP, or the end of the connection.
@@ -54,7 +43,7 @@ pub fn answer_before_open<B: BufRead, W: Write>(
 }
 
 /// Answers each line by the book of a desk, up to a `quit`, which is not answered, a line of HTTP, or
-/// the end of the connection.
+/// the end of the connection; an `open` ends nothing, since a book is open.
 ///
 /// If a line gives no command and is a request line or a field line of HTTP, the answer is its fault, and no
 /// line after it is read. The answer to an event is that of [`bg_book::Desk::control_with_compaction`]. The answer to a
@@ -73,12 +62,13 @@ pub fn answer_at_desk<N: Names, R: Wait, C: BootClock, M: MarksDown, B: BufRead,
     lines: &mut OperatorLines,
     reader: &mut B,
     writer: &mut W,
-) -> Result<ControlEnd, RunEnd>
-    ensures { IfOk result (λ end. Known (B.remaining reader.old) (B.remaining reader.new)
+) -> Result<LinesEnd, RunEnd>
+    ensures may_end { IfOk result MayEndAtDesk }
+    ensures answers { IfOk result (λ end. Known (B.remaining reader.old) (B.remaining reader.new)
         (AnswersAtDesk (C.reads at_desk.entry.clock.now) end (W.contents writer.old) (W.contents writer.new))) }
 {
     let answered = answer_lines(&mut at_desk, lines, reader, writer)?;
-    Ok(control_end(answered.end))
+    Ok(answered.end)
 }
 
 /// Answers each line as [`answer_at_desk`] does, but appends the entries of each order to the journal before it is answered.
@@ -99,26 +89,14 @@ pub fn answer_at_journaled_desk<
     lines: &mut OperatorLines,
     reader: &mut B,
     writer: &mut W,
-) -> Result<ControlEnd, RunEnd>
-    ensures { IfOk result (λ end. Known (B.remaining reader.old) (B.remaining reader.new)
+) -> Result<LinesEnd, RunEnd>
+    ensures may_end { IfOk result MayEndAtDesk }
+    ensures answers { IfOk result (λ end. Known (B.remaining reader.old) (B.remaining reader.new)
         (AnswersAtJournaledDesk
         (ConnectionJournaled (C.reads at_desk.old.desk.clock.now) (journal_state J.kept J.doubt at_desk.old.journal))
         end (W.contents writer.old) (W.contents writer.new)
         (ConnectionJournaled (C.reads at_desk.new.desk.clock.now) (journal_state J.kept J.doubt at_desk.new.journal)))) }
 {
     let answered = answer_lines(at_desk, lines, reader, writer)?;
-    Ok(control_end(answered.end))
-}
-
-/// The end of the lines at a desk, where no book can be opened.
-fn control_end(end: LinesEnd) -> ControlEnd
-    requires { MayEndAtDesk end }
-    ensures { end_at_desk result ≡ end }
-{
-    match end {
-        LinesEnd::Open(_) => unreachable!(),
-        LinesEnd::Quit => ControlEnd::Quit,
-        LinesEnd::SpeaksHttp => ControlEnd::SpeaksHttp,
-        LinesEnd::End => ControlEnd::End,
-    }
+    Ok(answered.end)
 }

@@ -5,15 +5,16 @@ ghost use Rattle.bg_script.specs.Journaling.{OrderReply, journal_state};
 ghost use Rattle.bg_script.specs.LineSteps.{ConnectionJournaled};
 
 use crate::answer::Answer;
+use crate::answering::LineResult;
 use crate::boot_clock::{BootClock, IsBelow};
 use crate::desk_journal::DeskJournal;
-use crate::marks_down::MarksDown;
+use crate::marks_down::{MarksDown, mark_down};
 use crate::order_journal::OrderJournal;
 use crate::run_end::RunEnd;
-use crate::stages::{AtDesk, LineStage, count_if_full};
-use bg_book::{Book, Call, Control, JournalEnd, Question, Reply};
+use crate::stages::{AtDesk, LineStage, count_if_full, tell};
+use bg_book::{Book, Control, JournalEnd, Question, Reply};
 use bg_ledger::Names;
-use bg_revisions::Ports;
+use bg_operator::Command;
 use std::io::Write;
 use std::sync::Wait;
 
@@ -29,40 +30,48 @@ impl<N: Names, R: Wait, C: BootClock, M: MarksDown, J: OrderJournal> LineStage
     for AtJournaledDesk<'_, N, R, C, M, J> {
     ghost stage = { λ at. ConnectionJournaled (C.reads at.desk.clock.now) (journal_state J.kept J.doubt at.journal) };
 
-    fn is_open(&self) -> bool {
-        true
-    }
-
     fn is_connection(&self) -> bool {
         true
     }
 
-    fn event(&mut self, event: Control) -> Answer {
-        order(&self.desk, &mut self.journal, Always, &event)
-    }
-
-    fn before(&mut self, milliseconds: u64, event: Control) -> Answer {
-        let condition = IsBelow {
-            clock: self.desk.clock,
-            milliseconds,
+    fn carry_out<W: Write>(
+        &mut self,
+        command: Command,
+        writer: &mut W,
+    ) -> Result<LineResult, RunEnd> {
+        let answer = match &command {
+            Command::Open { .. } => Answer::AlreadyOpen,
+            Command::Control(event) => {
+                let answer = order(&self.desk, &mut self.journal, Always, event);
+                return Ok(LineResult::Said(answer));
+            }
+            Command::Before {
+                milliseconds,
+                event,
+            } => {
+                let condition = IsBelow {
+                    clock: self.desk.clock,
+                    milliseconds: *milliseconds,
+                };
+                let answer = order(&self.desk, &mut self.journal, condition, event);
+                return Ok(LineResult::Said(answer));
+            }
+            Command::Enter { .. } | Command::Leave { .. } => Answer::NotHere,
+            Command::Down { ports } => mark_down(ports.get(), self.desk.receiver),
+            Command::Compact => Answer::Compacted(self.desk.desk.compact(self.desk.rt)),
+            Command::Ask(query) => {
+                tell(
+                    self.desk.rt,
+                    self.desk.alloc,
+                    self.desk.desk,
+                    *query,
+                    writer,
+                )?;
+                return Ok(LineResult::Report);
+            }
+            Command::Quit => return Ok(LineResult::Quits),
         };
-        order(&self.desk, &mut self.journal, condition, &event)
-    }
-
-    fn request(&mut self, _request: &Call) -> Answer {
-        Answer::NotHere
-    }
-
-    fn down(&self, ports: Ports) -> Answer {
-        self.desk.down(ports)
-    }
-
-    fn compact(&mut self) -> Answer {
-        self.desk.compact()
-    }
-
-    fn report<W: Write>(&self, writer: &mut W) -> Result<(), RunEnd> {
-        self.desk.report(writer)
+        Ok(LineResult::Said(answer))
     }
 }
 

@@ -6,7 +6,8 @@
 //! [`answer_before_open`] and [`answer_at_desk`] answer the lines of a control connection
 //! while no book is open, and by a book that workers share. A [`MarksDown`] takes the ports of a line
 //! `down`, and a [`BootClock`] says whether a line `before` comes in time. [`answer_at_journaled_desk`] answers an order
-//! after its entries were appended to an [`OrderJournal`].
+//! after its entries were appended to an [`OrderJournal`]. A [`NumberedJournal`] also keeps the numbers of requests apart that
+//! several runs give.
 #![tactic(auto)]
 
 mod answer;
@@ -19,7 +20,9 @@ mod finding;
 mod journaled_stage;
 pub mod laws;
 mod marks_down;
+mod numbered_journal;
 mod order_journal;
+mod queries;
 mod replaying;
 mod run_end;
 mod stages;
@@ -28,13 +31,12 @@ pub use answer::{Answer, write_answer};
 pub use answering::{FirstRevision, LineResult, LinesEnd, answer_line};
 pub use boot_clock::BootClock;
 pub use checking::{check, finding_of_input};
-pub use control_connection::{
-    ControlEnd, answer_at_desk, answer_at_journaled_desk, answer_before_open,
-};
+pub use control_connection::{answer_at_desk, answer_at_journaled_desk, answer_before_open};
 pub use desk_journal::DeskJournal;
 pub use finding::{Finding, write_finding};
 pub use journaled_stage::AtJournaledDesk;
 pub use marks_down::MarksDown;
+pub use numbered_journal::NumberedJournal;
 pub use order_journal::OrderJournal;
 pub use replaying::replay;
 pub use run_end::RunEnd;

@@ -1,17 +1,19 @@
 //! The stages at which lines are answered: while no book is open, by a book with its seats, and by a desk.
-ghost use Rattle.std.specs.Prelude.{◌≡◌, Ok, OnOk, false};
-ghost use Rattle.bg_operator.specs.declared.command.Command.TheVariants as command;
-ghost use Rattle.bg_script.specs.LineAnswers.{WroteAnswer};
-ghost use Rattle.bg_script.specs.LineSteps.{ConnectionOpen, EventReply, MayFollow, ReadStep, RequestStep, Running, Said, Stage, is_connection, is_open};
+ghost use Rattle.std.specs.Prelude.{◌≡◌, IfOk, Ok, OnOk, false};
+ghost use Rattle.std.specs.Io.KnownBytes.{Appends};
+ghost use Rattle.bg_script.specs.LineAnswers.{StepIs};
+ghost use Rattle.bg_script.specs.LineSteps.{ConnectionOpen, DeskTells, EventReply, MayFollow, Running, Stage, Written, is_connection, is_fault_written, written_text};
 ghost use Rattle.bg_script.specs.Stages.{closed_stage};
 
 use crate::answer::{Answer, write_answer};
+use crate::answering::{FirstRevision, LineResult};
 use crate::boot_clock::{BootClock, answer_before};
 use crate::marks_down::{MarksDown, mark_down};
+use crate::queries::write_text;
 use crate::run_end::RunEnd;
 use bg_book::{Book, Call, Control, ControlFault, Desk, OpenBook, Question, Reply};
 use bg_ledger::Names;
-use bg_revisions::Ports;
+use bg_operator::{Command, Query};
 use bg_strategy::Strategy;
 use std::alloc::Global;
 use std::io::Write;
@@ -23,46 +25,20 @@ pub trait LineStage {
     /// The stage as definitions see it.
     ghost stage: { Self → Stage };
 
-    /// Whether a book is open.
-    fn is_open(&self) -> bool
-        ensures { result ≡ is_open (stage self.now) };
-
     /// Whether the lines are those of a control connection.
     fn is_connection(&self) -> bool
         ensures { result ≡ is_connection (stage self.now) };
 
-    /// Gives an event to the book.
-    fn event(&mut self, event: Control) -> Answer
-        ensures answer { ReadStep (stage self.old) (Ok (command.Control event)) (Said result)
-            (stage self.new) }
+    /// Carries out a command, or says why it is not carried out at this stage. The answer to a query is written, and any
+    /// other answer is not written yet. An `open` without an open book and a `quit` are left to the caller. The error is that the write failed.
+    fn carry_out<W: Write>(
+        &mut self,
+        command: Command,
+        writer: &mut W,
+    ) -> Result<LineResult, RunEnd>
+        ensures is { IfOk result (StepIs (stage self.old) (Ok command) (W.contents writer.old)
+            (W.contents writer.new) (stage self.new)) }
         ensures next { MayFollow (stage self.old) (stage self.new) };
-
-    /// Gives an event to the book, if the boot clock is below this time limit.
-    fn before(&mut self, milliseconds: u64, event: Control) -> Answer
-        ensures answer { ReadStep (stage self.old) (Ok (command.Before milliseconds event)) (Said result)
-            (stage self.new) }
-        ensures next { MayFollow (stage self.old) (stage self.new) };
-
-    /// Lets a request enter or leave.
-    fn request(&mut self, request: &Call) -> Answer
-        ensures answer { RequestStep (stage self.old) request.now (Said result) (stage self.new) }
-        ensures next { MayFollow (stage self.old) (stage self.new) };
-
-    /// Marks these ports as down.
-    fn down(&self, ports: Ports) -> Answer
-        ensures { ReadStep (stage self.now) (Ok (command.Down ports)) (Said result)
-            (stage self.now) };
-
-    /// Compacts the history.
-    fn compact(&mut self) -> Answer
-        ensures answer { ReadStep (stage self.old) (Ok command.Compact) (Said result)
-            (stage self.new) }
-        ensures next { MayFollow (stage self.old) (stage self.new) };
-
-    /// Writes the report, or why there is none.
-    fn report<W: Write>(&self, writer: &mut W) -> Result<(), RunEnd>
-        ensures { OnOk result (WroteAnswer (stage self.now) (Ok command.Report)
-            (W.contents writer.old) (W.contents writer.new) (stage self.now) false) };
 }
 
 /// The settings with which each `open` of a script opens its book.
@@ -88,10 +64,6 @@ pub enum WithoutBook<'a> {
 impl LineStage for WithoutBook<'_> {
     ghost stage = { closed_stage };
 
-    fn is_open(&self) -> bool {
-        false
-    }
-
     fn is_connection(&self) -> bool {
         match self {
             WithoutBook::Script(_) => false,
@@ -99,31 +71,24 @@ impl LineStage for WithoutBook<'_> {
         }
     }
 
-    fn event(&mut self, _event: Control) -> Answer {
-        Answer::NotOpen
-    }
-
-    fn before(&mut self, _milliseconds: u64, _event: Control) -> Answer {
-        Answer::NotOpen
-    }
-
-    fn request(&mut self, _request: &Call) -> Answer {
-        match self {
-            WithoutBook::Script(_) => Answer::NotOpen,
-            WithoutBook::Connection => Answer::NotHere,
+    fn carry_out<W: Write>(
+        &mut self,
+        command: Command,
+        _writer: &mut W,
+    ) -> Result<LineResult, RunEnd> {
+        match command {
+            Command::Open { name, ports } => Ok(LineResult::Opens(FirstRevision { name, ports })),
+            Command::Enter { .. } | Command::Leave { .. } => match self {
+                WithoutBook::Script(_) => Ok(LineResult::Said(Answer::NotOpen)),
+                WithoutBook::Connection => Ok(LineResult::Said(Answer::NotHere)),
+            },
+            Command::Control(_)
+            | Command::Before { .. }
+            | Command::Down { .. }
+            | Command::Ask(_)
+            | Command::Compact => Ok(LineResult::Said(Answer::NotOpen)),
+            Command::Quit => Ok(LineResult::Quits),
         }
-    }
-
-    fn down(&self, _ports: Ports) -> Answer {
-        Answer::NotOpen
-    }
-
-    fn compact(&mut self) -> Answer {
-        Answer::NotOpen
-    }
-
-    fn report<W: Write>(&self, writer: &mut W) -> Result<(), RunEnd> {
-        Ok(write_answer(&Answer::NotOpen, writer)?)
     }
 }
 
@@ -131,36 +96,31 @@ impl LineStage for WithoutBook<'_> {
 impl<N: Names> LineStage for OpenBook<N> {
     ghost stage = { λ opened. Running opened.book opened.seats };
 
-    fn is_open(&self) -> bool {
-        true
-    }
-
     fn is_connection(&self) -> bool {
         false
     }
 
-    fn event(&mut self, event: Control) -> Answer {
-        Answer::Made(self.call(&Call::Control(event)))
-    }
-
-    fn before(&mut self, _milliseconds: u64, _event: Control) -> Answer {
-        Answer::NotHere
-    }
-
-    fn request(&mut self, request: &Call) -> Answer {
-        Answer::Made(self.call(request))
-    }
-
-    fn down(&self, _ports: Ports) -> Answer {
-        Answer::NotHere
-    }
-
-    fn compact(&mut self) -> Answer {
-        Answer::Compacted(OpenBook::compact(self))
-    }
-
-    fn report<W: Write>(&self, writer: &mut W) -> Result<(), RunEnd> {
-        Ok(bg_report::report(self.book(), writer)?)
+    fn carry_out<W: Write>(
+        &mut self,
+        command: Command,
+        writer: &mut W,
+    ) -> Result<LineResult, RunEnd> {
+        let answer = match command {
+            Command::Open { .. } => Answer::AlreadyOpen,
+            Command::Control(event) => Answer::Made(self.call(&Call::Control(event))),
+            Command::Enter { seat, service } => {
+                Answer::Made(self.call(&Call::Enter { seat, service }))
+            }
+            Command::Leave { seat } => Answer::Made(self.call(&Call::Leave { seat })),
+            Command::Before { .. } | Command::Down { .. } => Answer::NotHere,
+            Command::Compact => Answer::Compacted(self.compact()),
+            Command::Ask(query) => {
+                write_text(query, self.book(), writer)?;
+                return Ok(LineResult::Report);
+            }
+            Command::Quit => return Ok(LineResult::Quits),
+        };
+        Ok(LineResult::Said(answer))
     }
 }
 
@@ -169,7 +129,7 @@ impl<N: Names> LineStage for OpenBook<N> {
 pub struct AtDesk<'a, N: Names, R: Wait, C: BootClock, M: MarksDown> {
     /// The handle that waits for the desk's lock.
     pub rt: &'a R,
-    /// The allocator of the report.
+    /// The allocator of the answers to queries.
     pub alloc: Global,
     pub desk: &'a Desk<N>,
     /// The clock for the time limits of lines.
@@ -183,43 +143,33 @@ pub struct AtDesk<'a, N: Names, R: Wait, C: BootClock, M: MarksDown> {
 impl<N: Names, R: Wait, C: BootClock, M: MarksDown> LineStage for AtDesk<'_, N, R, C, M> {
     ghost stage = { λ at_desk. ConnectionOpen (C.reads at_desk.clock.now) };
 
-    fn is_open(&self) -> bool {
-        true
-    }
-
     fn is_connection(&self) -> bool {
         true
     }
 
-    fn event(&mut self, event: Control) -> Answer {
-        let answer = Answer::Made(event_reply(self.rt, self.desk, &event));
+    fn carry_out<W: Write>(
+        &mut self,
+        command: Command,
+        writer: &mut W,
+    ) -> Result<LineResult, RunEnd> {
+        let answer = match &command {
+            Command::Open { .. } => Answer::AlreadyOpen,
+            Command::Control(event) => Answer::Made(event_reply(self.rt, self.desk, event)),
+            Command::Before {
+                milliseconds,
+                event,
+            } => answer_before(self.rt, self.desk, self.clock, *milliseconds, event),
+            Command::Enter { .. } | Command::Leave { .. } => Answer::NotHere,
+            Command::Down { ports } => mark_down(ports.get(), self.receiver),
+            Command::Compact => Answer::Compacted(self.desk.compact(self.rt)),
+            Command::Ask(query) => {
+                tell(self.rt, self.alloc, self.desk, *query, writer)?;
+                return Ok(LineResult::Report);
+            }
+            Command::Quit => return Ok(LineResult::Quits),
+        };
         count_if_full(&answer, self.refused_for_room);
-        answer
-    }
-
-    fn before(&mut self, milliseconds: u64, event: Control) -> Answer {
-        let answer = answer_before(self.rt, self.desk, self.clock, milliseconds, &event);
-        count_if_full(&answer, self.refused_for_room);
-        answer
-    }
-
-    fn request(&mut self, _request: &Call) -> Answer {
-        Answer::NotHere
-    }
-
-    fn down(&self, ports: Ports) -> Answer {
-        mark_down(ports.get(), self.receiver)
-    }
-
-    fn compact(&mut self) -> Answer {
-        Answer::Compacted(self.desk.compact(self.rt))
-    }
-
-    fn report<W: Write>(&self, writer: &mut W) -> Result<(), RunEnd> {
-        match self.desk.look(self.rt, ReportText { alloc: self.alloc }) {
-            Some(text) => Ok(writer.write_all(&text)?),
-            None => Ok(write_answer(&Answer::OutOfMemory, writer)?),
-        }
+        Ok(LineResult::Said(answer))
     }
 }
 
@@ -240,21 +190,41 @@ fn event_reply<N: Names, R: Wait>(rt: &R, desk: &Desk<N>, event: &Control) -> Re
     }
 }
 
-/// Asks for the text of the report; `None` if its allocation fails. It is written after the desk's lock is released.
-#[derive(Drop)]
-struct ReportText {
+/// Writes the answer to a query of the book of a desk, or that the allocation for it failed. The error is that the write
+/// failed.
+pub(crate) fn tell<N: Names, R: Wait, W: Write>(
+    rt: &R,
     alloc: Global,
+    desk: &Desk<N>,
+    query: Query,
+    writer: &mut W,
+) -> Result<(), RunEnd>
+    ensures { OnOk result ((written : Written) × DeskTells query written
+        × Appends (W.contents writer.old) (W.contents writer.new) (written_text written)
+        × (is_fault_written written ≡ false)) }
+{
+    match desk.look(rt, QueryText { alloc, query }) {
+        Some(text) => Ok(writer.write_all(&text)?),
+        None => Ok(write_answer(&Answer::OutOfMemory, writer)?),
+    }
 }
 
-impl Question<Option<Vec<u8>>> for ReportText {
-    ghost use Rattle.std.specs.Prelude.{IfSome};
-    ghost use Rattle.bg_report.specs.Reports.{report_text};
+/// Asks for the text that answers a query; `None` if its allocation fails. It is written after the desk's lock is released.
+#[derive(Drop)]
+struct QueryText {
+    alloc: Global,
+    query: Query,
+}
 
-    ghost gives = { λ _ book text. IfSome text (λ bytes. bytes.items ≡ report_text book) };
+impl Question<Option<Vec<u8>>> for QueryText {
+    ghost use Rattle.std.specs.Prelude.{IfSome};
+    ghost use Rattle.bg_script.specs.QueryTexts.{query_text};
+
+    ghost gives = { λ asked book text. IfSome text (λ bytes. bytes.items ≡ query_text asked.query book) };
 
     fn ask<N: Names>(self, book: &Book<N>) -> Option<Vec<u8>> {
         let mut text = Vec::new(self.alloc);
-        match bg_report::report(book, &mut text) {
+        match write_text(self.query, book, &mut text) {
             Ok(()) => Some(text),
             Err(_) => None,
         }

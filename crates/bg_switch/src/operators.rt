@@ -14,7 +14,7 @@ use bg_ledger::Names;
 use bg_operator::{Command, Line, LineFault};
 use bg_ports::Notices;
 use bg_script::{
-    Answer, AtDesk, AtJournaledDesk, DeskJournal, LineResult, LineStage, OrderJournal, RunEnd,
+    Answer, AtDesk, AtJournaledDesk, LineResult, LineStage, NumberedJournal, OrderJournal, RunEnd,
     WithoutBook, answer_line, write_answer,
 };
 use std::alloc::{AllocError, Global};
@@ -263,7 +263,7 @@ pub fn answer_operators<'a, N: Names, R: Clock + Wait, J: OrderJournal>(
     context: &ServeContext<'a, R>,
     desk: &Desk<N>,
     operator: &mut Operator<R>,
-    journal: Option<DeskJournal<J>>,
+    journal: &mut Option<NumberedJournal<J>>,
 ) {
     let down = DownPorts {
         rt: context.rt,
@@ -279,13 +279,26 @@ pub fn answer_operators<'a, N: Names, R: Clock + Wait, J: OrderJournal>(
         refused_for_room: context.notices.refused_lines(),
         receiver: &down,
     };
-    match journal {
-        Some(journal) => {
+    match journal.take() {
+        Some(
+            NumberedJournal {
+                desk: desk_journal,
+                offset,
+            },
+        ) => {
             let mut at_desk = AtJournaledDesk {
                 desk: at_desk,
-                journal,
+                journal: desk_journal,
             };
             answer_up_to_quit(context, desk, operator, &mut at_desk);
+            let AtJournaledDesk {
+                desk: _,
+                journal: desk_journal,
+            } = at_desk;
+            *journal = Some(NumberedJournal {
+                desk: desk_journal,
+                offset,
+            });
         }
         None => answer_up_to_quit(context, desk, operator, &mut at_desk),
     }

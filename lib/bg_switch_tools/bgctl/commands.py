@@ -7,7 +7,7 @@ from bg_switch_tools.bgctl.line_commands import ABORT, LINE, PROMOTE, PROMPT, RE
 from bg_switch_tools.bgctl.plan_commands import CHECK, CONTROLLER, HISTORY, PAUSE, RESUME
 from bg_switch_tools.bgctl.state_commands import STATUS, WAIT, WATCH
 from bg_switch_tools.bgctl.tool_commands import ANALYSIS, DASHBOARD
-from bg_switch_tools.switch.line_help import LINE_WORDS
+from bg_switch_tools.switch.lines import LINE_WORDS
 from bg_switch_tools.switch.suggestion import did_you_mean
 
 

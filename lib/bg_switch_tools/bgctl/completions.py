@@ -8,7 +8,7 @@ from bg_switch_tools.bgctl.target import TargetError, target_of
 from bg_switch_tools.switch.client import Switch
 from bg_switch_tools.switch.conditions import CONDITION_SYNTAX
 from bg_switch_tools.switch.connection import UnreachableError
-from bg_switch_tools.switch.line_help import LINE_WORDS
+from bg_switch_tools.switch.lines import LINE_WORDS
 from bg_switch_tools.switch.phases import PHASES
 from bg_switch_tools.switch.reports import ReportError
 

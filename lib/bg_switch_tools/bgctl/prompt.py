@@ -5,8 +5,8 @@ from bg_switch_tools.bgctl.target import TargetError
 from bg_switch_tools.switch.client import Answer, Switch
 from bg_switch_tools.switch.connection import UnreachableError
 from bg_switch_tools.switch.control import Control, place_of
-from bg_switch_tools.switch.line_help import LINES, LineHelp
-from bg_switch_tools.switch.lines import Quit, words_of
+from bg_switch_tools.switch.line_help import LineHelp
+from bg_switch_tools.switch.lines import LINES, Quit, words_of
 from bg_switch_tools.switch.replies import with_meaning
 from bg_switch_tools.switch.reports import ReportError
 

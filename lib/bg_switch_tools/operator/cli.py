@@ -22,8 +22,8 @@ from bg_switch_tools.switch.arguments import control_of, seconds_of
 from bg_switch_tools.switch.conditions import CONDITION_SYNTAX
 from bg_switch_tools.switch.frame import Frame
 from bg_switch_tools.switch.installed_names import named
-from bg_switch_tools.switch.line_help import LINES, LineHelp
-from bg_switch_tools.switch.lines import EVENT_WORDS, Deploy, Tick
+from bg_switch_tools.switch.line_help import LineHelp
+from bg_switch_tools.switch.lines import EVENT_WORDS, LINES, Deploy, Tick
 
 FRAME = Frame("operator", ENDS)
 COMMANDS = {command.name: command for command in (STATUS, WAIT, WATCH, SHUTDOWN)}

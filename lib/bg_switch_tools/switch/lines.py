@@ -1,6 +1,7 @@
-"""The lines that an operator can send, as values. They are read and printed here alone.
+"""The lines that an operator can send, as values, and what the tools say of each. They are read and
+printed here alone.
 
-docs/LINES.md has each of them. `enter` and `leave` are lines of a script, which no tool sends.
+docs/LINES.md has each of them at length. `enter` and `leave` are lines of a script, which no tool sends.
 """
 import abc
 import dataclasses
@@ -8,6 +9,7 @@ import enum
 from collections.abc import Mapping, Sequence
 from typing import ClassVar, Self, TypeVar
 
+from bg_switch_tools.switch.line_help import LineHelp
 from bg_switch_tools.switch.meanings import FAULTS
 
 LONGEST_LINE = 4096  # bytes
@@ -43,6 +45,7 @@ class Line(abc.ABC):
     """A line. Its text is what the switch reads."""
 
     word: ClassVar[str]  # the first one
+    helps: ClassVar[tuple[LineHelp, ...]]  # one for each of its forms
 
     @abc.abstractmethod
     def arguments(self) -> Sequence[object]:
@@ -117,6 +120,13 @@ class Open(_WithRevision):
     """Opens the book with revision 1."""
 
     word = "open"
+    helps = (
+        LineHelp(
+            "open NAME PORT..",
+            "opens the book with revision 1, which has one port for each replica",
+            "open web-v1 9101 9102",
+        ),
+    )
 
 
 @dataclasses.dataclass(frozen=True)
@@ -126,6 +136,13 @@ class Available(Event):
     revision: int
     count: int
     word = "available"
+    helps = (
+        LineHelp(
+            "available R N",
+            "says that N endpoints of revision R can take requests: the first N, or the first N that are not down",
+            "available 2 2",
+        ),
+    )
 
     def arguments(self) -> Sequence[object]:
         return (self.revision, self.count)
@@ -140,6 +157,13 @@ class Deploy(_WithRevision, Event):
     """Deploys a new revision, or the one of this name again."""
 
     word = "deploy"
+    helps = (
+        LineHelp(
+            "deploy NAME PORT..",
+            "deploys a new revision, or the one of this name again (undo)",
+            "deploy web-v2 9201 9202",
+        ),
+    )
 
 
 @dataclasses.dataclass(frozen=True)
@@ -148,6 +172,7 @@ class Tick(Event):
 
     moment: int
     word = "tick"
+    helps = (LineHelp("tick M", "says that the time is M seconds from the start", "tick 30"),)
 
     def arguments(self) -> Sequence[object]:
         return (self.moment,)
@@ -165,6 +190,18 @@ class Verdict(Event):
     analysis: AnalysisKind
     result: VerdictResult
     word = "verdict"
+    helps = (
+        LineHelp(
+            "verdict pre RESULT",
+            "ends the analysis before the switch: successful, failed or error",
+            "verdict pre successful",
+        ),
+        LineHelp(
+            "verdict post RESULT",
+            "ends the analysis after the switch: successful, failed or error",
+            "verdict post failed",
+        ),
+    )
 
     def arguments(self) -> Sequence[object]:
         return (self.analysis, self.result)
@@ -181,6 +218,10 @@ class Promote(Event):
 
     is_full: bool = False
     word = "promote"
+    helps = (
+        LineHelp("promote", "ends the pause of the attempt", "promote"),
+        LineHelp("promote full", "skips the analyses and pauses of the attempt", "promote full"),
+    )
     FULL: ClassVar[str] = "full"
 
     def arguments(self) -> Sequence[object]:
@@ -198,12 +239,18 @@ class Abort(_WordAlone, Event):
     """Ends the attempt."""
 
     word = "abort"
+    helps = (
+        LineHelp(
+            "abort", "ends the attempt: both services select the stable revision again", "abort"
+        ),
+    )
 
 
 class Retry(_WordAlone, Event):
     """Begins the attempt of the newest revision again."""
 
     word = "retry"
+    helps = (LineHelp("retry", "begins the attempt of the newest revision again", "retry"),)
 
 
 @dataclasses.dataclass(frozen=True)
@@ -213,6 +260,13 @@ class Before(Line):
     milliseconds: int
     event: Event
     word = "before"
+    helps = (
+        LineHelp(
+            "before MILLISECONDS LINE",
+            "carries out LINE, which gives an event, if the boot clock is below MILLISECONDS",
+            "before 81234567 promote",
+        ),
+    )
 
     def arguments(self) -> Sequence[object]:
         return (self.milliseconds, self.event)
@@ -233,6 +287,13 @@ class Down(Line):
 
     ports: tuple[int, ...]
     word = "down"
+    helps = (
+        LineHelp(
+            "down PORT..",
+            "names all ports that are down now, in place of those before; without a port, none is down",
+            "down 9101",
+        ),
+    )
 
     def arguments(self) -> Sequence[object]:
         return self.ports
@@ -246,25 +307,32 @@ class AskReport(_WordAlone):
     """Asks for the state."""
 
     word = "report"
+    helps = (LineHelp("report", "shows the state", "report"),)
 
 
 class Compact(_WordAlone):
     """Drops the entries of closed requests from the history."""
 
     word = "compact"
+    helps = (
+        LineHelp("compact", "drops the entries of closed requests from the history", "compact"),
+    )
 
 
 class Quit(_WordAlone):
     """Shuts the switch down."""
 
     word = "quit"
+    helps = (LineHelp("quit", "shuts the switch down: no operator is answered any more", "quit"),)
 
 
 KINDS: tuple[type[Line], ...] = (
-    *(Open, Available, Deploy, Tick, Verdict, Promote, Abort, Retry),
+    *(Open, Deploy, Available, Tick, Verdict, Promote, Abort, Retry),
     *(Before, Down, AskReport, Compact, Quit),
 )
 BY_WORD: Mapping[str, type[Line]] = {kind.word: kind for kind in KINDS}
+LINE_WORDS = tuple(BY_WORD)
+LINES = tuple(each for kind in KINDS for each in kind.helps)
 EVENT_WORDS = tuple(kind.word for kind in KINDS if issubclass(kind, Event))
 
 

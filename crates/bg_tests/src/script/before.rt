@@ -3,7 +3,7 @@
 use crate::script::control::{Answered, Way, answer_lines, answer_within};
 use bg_book::Limits;
 use bg_operator::parse_line;
-use bg_script::ControlEnd;
+use bg_script::LinesEnd;
 use std::alloc::Global;
 use std::io::Write;
 use std::sync::Wait;
@@ -85,7 +85,7 @@ const FULL_ANSWERS: &str = "ok 0\nok 0\nok 0\nok 0\nok 0\nrefused HistoryFull\n"
 #[test]
 fn carries_out_what_comes_in_time(rt: HostRuntime) -> Result<(), Fail> {
     let answered = answer_lines(&rt, rt.alloc(), &mut LINES.as_bytes())?;
-    assert_eq!(rt; answered.end, Ok(ControlEnd::End));
+    assert!(rt; matches!(answered.end, Ok(LinesEnd::End)));
     assert_eq!(rt; answered.answers.as_slice(), ANSWERS.as_bytes());
     assert_eq!(rt; answered.readings, 8);
     Ok(())

@@ -5,12 +5,12 @@ ghost use Rattle.bg_ledger.specs.Blanks.{AreAllFor};
 use crate::book::samples::strategy;
 use crate::history::gathered::expect_audited;
 use crate::script::streams::Unflushed;
-use bg_book::{Book, Desk, Limits, RolloutOpening};
+use bg_book::{Book, Desk, Limits, RolloutOpening, SeatLimit};
 use bg_ledger::{Blanks, Names};
 use bg_operator::{Line, OperatorLines};
 use bg_script::{
-    AtDesk, BootClock, ControlEnd, LineResult, LinesEnd, MarksDown, RunEnd, answer_at_desk,
-    answer_before_open, answer_line,
+    AtDesk, BootClock, LineResult, LinesEnd, MarksDown, RunEnd, answer_at_desk, answer_before_open,
+    answer_line,
 };
 use std::alloc::{AllocError, Global};
 use std::cell::RefCell;
@@ -80,7 +80,7 @@ fn leaves_an_open_to_the_caller(rt: HostRuntime) -> Result<(), Fail> {
 /// line `down`, how often the clock was read, and the number of entries of the history.
 #[derive(Drop)]
 pub(super) struct Answered {
-    pub(super) end: Result<ControlEnd, RunEnd>,
+    pub(super) end: Result<LinesEnd, RunEnd>,
     pub(super) answers: Vec<u8>,
     pub(super) refused_for_room: u64,
     pub(super) down: Vec<u8>,
@@ -150,7 +150,7 @@ fn answer<N: Names, R: Wait>(
         seats: 1,
         limits,
     };
-    let (book, seats) = Book::<N>::open(alloc, &opening, blanks)?;
+    let (book, seats) = Book::<N>::open(alloc, SeatLimit::Few, &opening, blanks)?;
     let desk = Desk::new(book);
     let refused = AtomicU64::new(0);
     let written = Written {
@@ -213,21 +213,21 @@ fn one_by_one<N: Names, R: Wait>(
     mut at_desk: AtDesk<N, R, CountingClock, Written>,
     lines: &mut &[u8],
     answers: &mut Vec<u8>,
-) -> Result<ControlEnd, RunEnd> {
+) -> Result<LinesEnd, RunEnd> {
     for text in lines.split_inclusive(|byte| *byte == b'\n') {
         let line = Line::new(alloc, text)?;
         if let LineResult::Quits = answer_line(&mut at_desk, line.read, answers)? {
-            return Ok(ControlEnd::Quit);
+            return Ok(LinesEnd::Quit);
         }
     }
-    Ok(ControlEnd::End)
+    Ok(LinesEnd::End)
 }
 
 #[test]
 fn answers_at_a_desk_up_to_quit(rt: HostRuntime) -> Result<(), Fail> {
     let mut lines = AT_DESK.as_bytes();
     let answered = answer_lines(&rt, rt.alloc(), &mut lines)?;
-    assert_eq!(rt; answered.end, Ok(ControlEnd::Quit));
+    assert!(rt; matches!(answered.end, Ok(LinesEnd::Quit)));
     assert_eq!(rt; answered.answers.as_slice(), AT_DESK_ANSWERS.as_bytes());
     assert_eq!(rt; answered.refused_for_room, 0);
     assert_eq!(rt; lines, b"report\n".as_slice());
@@ -238,7 +238,7 @@ fn answers_at_a_desk_up_to_quit(rt: HostRuntime) -> Result<(), Fail> {
 fn a_control_connection_may_end_in_a_line(rt: HostRuntime) -> Result<(), Fail> {
     let mut lines = "available 1 2\navailable 1".as_bytes();
     let answered = answer_lines(&rt, rt.alloc(), &mut lines)?;
-    assert_eq!(rt; answered.end, Ok(ControlEnd::End));
+    assert!(rt; matches!(answered.end, Ok(LinesEnd::End)));
     assert_eq!(rt;
         answered.answers.as_slice(),
         b"ok 0\nfault WrongCount\n".as_slice()
@@ -254,7 +254,7 @@ fn compacts_a_full_history_and_asks_again(rt: HostRuntime) -> Result<(), Fail> {
     };
     let mut lines = AT_FULL_DESK.as_bytes();
     let answered = answer_within(&rt, rt.alloc(), limits, &mut lines, Way::Together)?;
-    assert_eq!(rt; answered.end, Ok(ControlEnd::End));
+    assert!(rt; matches!(answered.end, Ok(LinesEnd::End)));
     assert_eq!(rt;
         answered.answers.as_slice(),
         AT_FULL_DESK_ANSWERS.as_bytes()
@@ -268,7 +268,7 @@ fn compacts_a_full_history_and_asks_again(rt: HostRuntime) -> Result<(), Fail> {
 fn hands_over_the_ports_that_are_down(rt: HostRuntime) -> Result<(), Fail> {
     let none = answer_lines(&rt, rt.alloc(), &mut "".as_bytes())?;
     let answered = answer_lines(&rt, rt.alloc(), &mut DOWN.as_bytes())?;
-    assert_eq!(rt; answered.end, Ok(ControlEnd::End));
+    assert!(rt; matches!(answered.end, Ok(LinesEnd::End)));
     assert_eq!(rt; answered.answers.as_slice(), DOWN_ANSWERS.as_bytes());
     assert_eq!(rt; answered.down.as_slice(), DOWN_PORTS.as_bytes());
     assert_eq!(rt; answered.entries, none.entries);
@@ -294,7 +294,7 @@ fn hands_over_as_many_ports_as_a_line_can_name(rt: HostRuntime) -> Result<(), Fa
 fn a_request_of_a_browser_orders_nothing(rt: HostRuntime) -> Result<(), Fail> {
     let mut lines = "jump\nPOST / HTTP/1.1\r\nHost: x\r\n\r\navailable 1 2\n".as_bytes();
     let answered = answer_lines(&rt, rt.alloc(), &mut lines)?;
-    assert_eq!(rt; answered.end, Ok(ControlEnd::SpeaksHttp));
+    assert!(rt; matches!(answered.end, Ok(LinesEnd::SpeaksHttp)));
     assert_eq!(rt;
         answered.answers.as_slice(),
         b"fault UnknownWord\nfault UnknownWord\n".as_slice()

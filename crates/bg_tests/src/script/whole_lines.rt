@@ -2,7 +2,7 @@
 
 use crate::script::control::{AT_DESK, AT_DESK_ANSWERS, BEFORE, BEFORE_ANSWERS, answer_each};
 use bg_operator::{Line, LineFault, OperatorLines};
-use bg_script::{Answer, ControlEnd, LineResult, WithoutBook, answer_line};
+use bg_script::{Answer, LineResult, LinesEnd, WithoutBook, answer_line};
 use std::test::Fail;
 
 /// Lines with their line ends, one of each kind.
@@ -83,7 +83,7 @@ fn a_whole_line_may_be_too_long(rt: HostRuntime) -> Result<(), Fail> {
 #[test]
 fn answers_line_by_line_at_a_desk(rt: HostRuntime) -> Result<(), Fail> {
     let answered = answer_each(&rt, rt.alloc(), AT_DESK)?;
-    assert_eq!(rt; answered.end, Ok(ControlEnd::Quit));
+    assert!(rt; matches!(answered.end, Ok(LinesEnd::Quit)));
     assert_eq!(rt; answered.answers.as_slice(), AT_DESK_ANSWERS.as_bytes());
     Ok(())
 }
@@ -101,7 +101,6 @@ fn answers_line_by_line_before_open(rt: HostRuntime) -> Result<(), Fail> {
                 break;
             }
             Ok(LineResult::Said(answer)) => assert!(rt; !answer.was_carried_out()),
-            Ok(LineResult::Report) => assert_eq!(rt; text, "report"),
             _ => panic!(rt; "{text:?} has no answer"),
         }
     }

@@ -9,4 +9,5 @@ returns c =
     let two = added_then _ _ _ _ _ one c.in_ok-add_request.ensures in
     let three = added_then _ _ _ _ _ two c.in_ok-add_end.ensures in
     let four = added_then _ _ _ _ _ three c.in_ok-add_counts.ensures in
-    adds_then _ _ _ _ _ _ four (adds c.end_object.result _ _ end_object c.end_object.ensures)
+    let five = added_then _ _ _ _ _ four c.in_ok-add_optional.ensures in
+    adds_then _ _ _ _ _ _ five (adds c.end_object.result _ _ end_object c.end_object.ensures)
