@@ -1,7 +1,8 @@
 #!/bin/sh
 # Judges the files that no proof reads: the types of the Python files (mypy), their faults (flake8, by .flake8) and their layout
 # (black), the shell scripts (shellcheck), and the syntax of the scripts of the dashboard's page (node). Without one of these
-# programs it fails. And it judges what stands twice in the Rattle sources, their specs and their proofs (copied_code.py).
+# programs it fails. And it judges the layout of the Rattle sources (layout.py), and what stands twice in them, their specs and their
+# proofs (copied_code.py).
 set -eu
 cd "$(dirname -- "$0")/.."
 failed=0
@@ -32,7 +33,7 @@ shell_scripts | xargs shellcheck || failed=1
 for file in $(git ls-files '*.js'); do
     has_syntax "$file" || failed=1
 done
-for check in $(git ls-files scripts/copied_code.py); do
+for check in $(git ls-files scripts/layout.py scripts/copied_code.py); do
     "$check" || failed=1
 done
 exit "$failed"
