@@ -48,6 +48,7 @@ SCRIPTS = (
     "live_journal",
     "live_resumed",
     "live_addresses",
+    "live_containers",
 )
 # The first port of the scripts, and the first that the system gives to connections of itself.
 FIRST_PORT, SYSTEM_PORT = 19_500, 32_768

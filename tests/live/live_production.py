@@ -23,6 +23,7 @@ from support.endpoints import Endpoint, by_target
 from support.messages import LARGEST_BODY, ROLLOUT
 from support.ports import free_port, is_open
 from support.switch import LISTENING, Switch, words_of_serve
+from support.units import placed, values
 
 EXAMPLE = TOP / "examples" / "production"
 NAME, PREVIEW_NAME, UNKNOWN_NAME = "web.example", "preview.web.example", "other.example"
@@ -109,15 +110,6 @@ class Reply(NamedTuple):
     body: bytes
 
 
-def placed(name: str, places: dict[str, str]) -> str:
-    """A file of the example with other words in the place of some, which it has."""
-    text = (EXAMPLE / name).read_text(encoding="ascii")
-    for word, place in places.items():
-        check(f"{name} has {word}", word in text, True)
-        text = text.replace(word, place)
-    return text
-
-
 class Nginx:
     """A running nginx, with one file of the example."""
 
@@ -168,7 +160,7 @@ class NginxSetup:
         check("listening", self.switch.first, LISTENING)
         write_pages(folder / "pages")
         make_certificate(folder)
-        (folder / "switch.conf").write_text(placed("switch.conf", {}), encoding="ascii")
+        (folder / "switch.conf").write_text(placed(EXAMPLE / "switch.conf", {}), encoding="ascii")
         self.servers = [
             Nginx(folder, "endpoint", self.endpoint_text()),
             Nginx(
@@ -193,7 +185,7 @@ class NginxSetup:
             for target in ("/echo", "/all-fields")
         )
         return placed(
-            "endpoint.conf",
+            EXAMPLE / "endpoint.conf",
             {
                 "127.0.0.1:9101": f"127.0.0.1:{self.endpoint}",
                 "root /var/www/web;": f"root {self.folder}/pages;\n{sent}",
@@ -203,7 +195,7 @@ class NginxSetup:
     def front_text(self, front: int, active: int, preview: int) -> str:
         folder = self.folder
         return placed(
-            "web.conf",
+            EXAMPLE / "web.conf",
             {
                 "listen 443": f"listen 127.0.0.1:{front}",
                 f"127.0.0.1:{ACTIVE}": f"127.0.0.1:{active}",
@@ -292,11 +284,6 @@ def compare(setup: NginxSetup) -> None:
         checks.fail("a name that isn't listed", "it got a connection")
 
 
-def values(unit: str, key: str) -> list[str]:
-    """The values that a key of a unit has, one for each line."""
-    return [line.partition("=")[2] for line in unit.splitlines() if line.startswith(f"{key}=")]
-
-
 def make_tools(folder: pathlib.Path) -> pathlib.Path:
     """The one file of the tools, by `make tools`, where everybody can reach it."""
     archive = folder / "bg_switch_tools.pyz"
@@ -332,7 +319,7 @@ def start_as_another_user(command: str) -> "subprocess.Popen[str]":
 def stop_by_unit(setup: NginxSetup) -> None:
     """The unit's commands: that of the start has the words of `serve`, and those of the stop end
     the switch."""
-    unit = placed("bg-switch.service", {})
+    unit = placed(EXAMPLE / "bg-switch.service", {})
     (start,) = values(unit, "ExecStart")
     check(
         "the start of the unit",
@@ -400,7 +387,7 @@ def verify_units(folder: pathlib.Path) -> None:
     for name in UNITS:
         unit = folder / name
         unit.write_text(
-            re.sub(r"/usr/bin/bg[_-]\w+", "/bin/true", placed(name, {})), encoding="ascii"
+            re.sub(r"/usr/bin/bg[_-]\w+", "/bin/true", placed(EXAMPLE / name, {})), encoding="ascii"
         )
         run = subprocess.run(
             ["systemd-analyze", "verify", "--man=no", unit],
