@@ -1,6 +1,7 @@
 //! How the end of a body is marked.
 ghost use Rattle.std.specs.Prelude.{◌≡◌};
 ghost use Rattle.bg_http_read.specs.Bodies.{is_whole as whole_at};
+ghost use Rattle.bg_relay.specs.Framings.{incoming_of, outgoing_of};
 ghost use Rattle.bg_relay.specs.Places.{first_stage};
 
 use bg_http_read::BodyStage;
@@ -14,6 +15,40 @@ pub enum Framing {
     Chunks,
     /// The body is everything before the end of the connection.
     ToTheEnd,
+}
+
+/// The framings of a body on both sides of a relay. A length can be told only if the input tells the same one.
+#[derive(Clone, Copy, Drop)]
+pub enum Sides {
+    /// Both sides tell this length.
+    Length(usize),
+    /// The input has this framing, and the output is chunked.
+    IntoChunks(Framing),
+    /// The input has this framing, and the output goes to the end of the connection.
+    ToTheEnd(Framing),
+}
+
+impl Sides {
+    /// The framing of the input.
+    pub fn incoming(self) -> Framing
+        ensures { result ≡ incoming_of self }
+    {
+        match self {
+            Sides::Length(size) => Framing::Length(size),
+            Sides::IntoChunks(incoming) | Sides::ToTheEnd(incoming) => incoming,
+        }
+    }
+
+    /// The framing of the output.
+    pub fn outgoing(self) -> Framing
+        ensures { result ≡ outgoing_of self }
+    {
+        match self {
+            Sides::Length(size) => Framing::Length(size),
+            Sides::IntoChunks(_) => Framing::Chunks,
+            Sides::ToTheEnd(_) => Framing::ToTheEnd,
+        }
+    }
 }
 
 /// The stage before the first byte of a body.

@@ -9,6 +9,6 @@ mod relay;
 mod relay_fault;
 mod steps;
 
-pub use framing::Framing;
+pub use framing::{Framing, Sides};
 pub use relay::Relay;
 pub use relay_fault::RelayFault;

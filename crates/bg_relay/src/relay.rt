@@ -3,13 +3,13 @@ ghost use Rattle.std.specs.Prelude.{◌≡◌, ◌≤◌, ◌+◌, ◌++◌, ℕ
 ghost use Rattle.std.specs.Prelude.{Err, IfErr, IfOk, IfSome, IsErr, IsFalse, IsOk, IsTrue, None, Ok, OnOk};
 ghost use Rattle.bg_http_read.specs.Bodies.{can_end, is_whole as whole_at};
 ghost use Rattle.bg_http_read.specs.declared.body.BodyStage.TheVariants as stage;
-ghost use Rattle.bg_relay.specs.Framings.{IsPair};
+ghost use Rattle.bg_relay.specs.Framings.{incoming_of, outgoing_of};
 ghost use Rattle.bg_relay.specs.Places.{first_stage as first_of};
 ghost use Rattle.bg_relay.specs.Relays.{BreaksOff, IsFaultAt, IsRefusedBehind, KeepsSides, PassesOn};
 ghost use Rattle.bg_relay.specs.Relays.{StandsFor, WaitsFor, ended_by, wants_input, with_written};
 ghost use Rattle.bg_relay.specs.declared.relay_fault.RelayFault.TheVariants as fault;
 
-use crate::framing::{Framing, first_stage, is_whole};
+use crate::framing::{Framing, Sides, first_stage, is_whole};
 use crate::pieces::push_piece;
 use crate::relay_fault::RelayFault;
 use crate::steps::next_step;
@@ -74,20 +74,16 @@ impl Model for Relay {
 
 impl Relay {
     /// A relay before the first byte of a body. Its output is filled up while it has fewer than `window` bytes; with a window of 0
-    /// no byte of a body is taken. A length can be told only if the input tells the same one. The only error is an allocation
-    /// failure.
-    pub fn new(
-        alloc: Global,
-        incoming: Framing,
-        outgoing: Framing,
-        window: usize,
-    ) -> Result<Relay, AllocError>
-        requires { IsPair incoming outgoing }
-        ensures sides { IfOk result (λ relay. (relay.incoming ≡ incoming) × (relay.outgoing ≡ outgoing)
-            × (relay.window ≡ window)) }
-        ensures stage { IfOk result (λ relay. (relay.stage ≡ first_of incoming) × (relay.fault ≡ None)) }
+    /// no byte of a body is taken. The only error is an allocation failure.
+    pub fn new(alloc: Global, sides: Sides, window: usize) -> Result<Relay, AllocError>
+        ensures sides { IfOk result (λ relay. (relay.incoming ≡ incoming_of sides)
+            × (relay.outgoing ≡ outgoing_of sides) × (relay.window ≡ window)) }
+        ensures stage { IfOk result (λ relay. (relay.stage ≡ first_of (incoming_of sides))
+            × (relay.fault ≡ None)) }
         ensures stands { IfOk result (λ relay. StandsFor relay [] []) }
     {
+        let incoming = sides.incoming();
+        let outgoing = sides.outgoing();
         let stage = first_stage(incoming);
         let mut rest = Vec::new(alloc);
         push_piece(&mut rest, outgoing, &[], is_whole(stage))?;

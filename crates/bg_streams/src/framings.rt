@@ -1,47 +1,36 @@
 //! The framing of a response as it comes, and as it is passed on.
 ghost use Rattle.std.specs.Prelude.{◌≡◌};
 ghost use Rattle.bg_http.specs.Persistences.{keeps};
-ghost use Rattle.bg_relay.specs.Framings.{IsPair};
-ghost use Rattle.bg_relay.specs.declared.framing.Framing.{Framing as FramingValue};
+ghost use Rattle.bg_relay.specs.Framings.{incoming_of, outgoing_of};
 ghost use Rattle.bg_streams.specs.Framings as spec;
 
 use bg_http::{BodyEnd, Persistence, ResponseFraming};
-use bg_relay::Framing;
+use bg_relay::{Framing, Sides};
 
-/// The framing of a body as it comes. A response without a body has one of no bytes.
-pub(crate) fn incoming(framing: ResponseFraming) -> Framing
-    ensures { result ≡ spec.incoming framing }
+/// The framings of a body as it comes and as it is passed on: with its length if that is known, and otherwise in chunks, or to the
+/// end of the connection of a client that does not read chunks (RFC 9112 section 6.3). A response without a body has one of no
+/// bytes.
+pub(crate) fn sides(reads_chunks: bool, framing: ResponseFraming) -> Sides
+    ensures incoming { incoming_of result ≡ spec.incoming framing }
+    ensures outgoing { outgoing_of result ≡ spec.outgoing reads_chunks framing }
 {
     match framing {
-        ResponseFraming::Interim | ResponseFraming::NoBody => Framing::Length(0),
-        ResponseFraming::Chunks => Framing::Chunks,
-        ResponseFraming::Length(size) => Framing::Length(size),
-        ResponseFraming::ToTheEnd => Framing::ToTheEnd,
+        ResponseFraming::Interim | ResponseFraming::NoBody => Sides::Length(0),
+        ResponseFraming::Length(size) => Sides::Length(size),
+        ResponseFraming::Chunks => untold(reads_chunks, Framing::Chunks),
+        ResponseFraming::ToTheEnd => untold(reads_chunks, Framing::ToTheEnd),
     }
 }
 
-/// The framing of a body as it is passed on: with its length if that is known, and otherwise in chunks, or to the end of the
-/// connection of a client that does not read chunks (RFC 9112 section 6.3).
-pub(crate) fn outgoing(reads_chunks: bool, framing: ResponseFraming) -> Framing
-    ensures framing { result ≡ spec.outgoing reads_chunks framing }
-    ensures pair { IsPair (spec.incoming framing) result }
-{
-    match framing {
-        ResponseFraming::Interim | ResponseFraming::NoBody => Framing::Length(0),
-        ResponseFraming::Length(size) => Framing::Length(size),
-        ResponseFraming::Chunks | ResponseFraming::ToTheEnd => untold(reads_chunks),
-    }
-}
-
-/// The framing of a body whose length is not known.
-fn untold(reads_chunks: bool) -> Framing
-    ensures framing { result ≡ spec.untold reads_chunks }
-    ensures pair { (incoming : FramingValue) → IsPair incoming result }
+/// The framings of a body whose length is not known.
+fn untold(reads_chunks: bool, incoming: Framing) -> Sides
+    ensures incoming { incoming_of result ≡ incoming }
+    ensures outgoing { outgoing_of result ≡ spec.untold reads_chunks }
 {
     if reads_chunks {
-        Framing::Chunks
+        Sides::IntoChunks(incoming)
     } else {
-        Framing::ToTheEnd
+        Sides::ToTheEnd(incoming)
     }
 }
 

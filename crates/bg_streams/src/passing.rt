@@ -6,7 +6,7 @@ ghost use Rattle.bg_relay.specs.Relays.{WaitsFor};
 ghost use Rattle.bg_streams.specs.Passings.{Delivers, DeliversOn, KeepsHead, Starts};
 ghost use Rattle.bg_streams.specs.Passings as spec;
 
-use crate::framings::{incoming, outgoing};
+use crate::framings::sides;
 use crate::head_text::{head_text, streamed};
 use crate::stream_fault::{StreamFault, body_fault};
 use crate::stream_terms::StreamTerms;
@@ -51,10 +51,10 @@ impl Passing {
     ) -> io::Result<Passing>
         ensures { IfOk result (λ passing. Starts terms head framing passing) }
     {
-        let goes_out = outgoing(terms.reads_chunks, framing);
+        let sides = sides(terms.reads_chunks, framing);
         let response = streamed(alloc, framing, head)?;
-        let text = head_text(alloc, &response, goes_out, terms.persistence)?;
-        let relay = Relay::new(alloc, incoming(framing), goes_out, terms.window)?;
+        let text = head_text(alloc, &response, sides.outgoing(), terms.persistence)?;
+        let relay = Relay::new(alloc, sides, terms.window)?;
         Ok(Passing {
             response,
             framing,

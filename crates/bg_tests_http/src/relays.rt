@@ -2,35 +2,12 @@
 use crate::pieces::{PIECES, Pieces, WINDOWS};
 use bg_http::{Request, ResponseFault};
 use bg_http_read::{ResponseParser, request_in};
-use bg_relay::{Framing, Relay, RelayFault};
+use bg_relay::{Framing, Relay, RelayFault, Sides};
 use std::alloc::{AllocError, Global};
 use std::test::Fail;
 
 /// More turns than any row takes.
 const MOST_TURNS: usize = 4096;
-
-/// The framings of both sides.
-#[derive(Clone, Copy, Drop)]
-enum Sides {
-    /// A length on both sides.
-    Length(usize),
-    /// Chunks in the output.
-    IntoChunks(Framing),
-    /// An output that goes to the end of the connection.
-    ToTheEnd(Framing),
-}
-
-impl Sides {
-    fn relay(self, alloc: Global, window: usize) -> Result<Relay, AllocError> {
-        match self {
-            Sides::Length(size) => {
-                Relay::new(alloc, Framing::Length(size), Framing::Length(size), window)
-            }
-            Sides::IntoChunks(incoming) => Relay::new(alloc, incoming, Framing::Chunks, window),
-            Sides::ToTheEnd(incoming) => Relay::new(alloc, incoming, Framing::ToTheEnd, window),
-        }
-    }
-}
 
 /// Feeds what came, and writes at most as many bytes. Gives the number of bytes that were taken.
 fn turn(
@@ -84,7 +61,7 @@ struct Passed {
 
 fn pass_all(alloc: Global, sides: Sides, window: usize, input: &[u8], pieces: Pieces) -> Passed {
     let mut written = Vec::new(alloc);
-    let result = match sides.relay(alloc, window) {
+    let result = match Relay::new(alloc, sides, window) {
         Ok(mut relay) => pass(&mut relay, input, pieces, &mut written),
         Err(_) => Err(RelayFault::OutOfMemory),
     };
@@ -278,7 +255,7 @@ fn bodies_are_passed_on_in_whatever_pieces_they_come(rt: HostRuntime) -> Result<
 /// Feeds bytes of a body of ten bytes to a relay with a window of four, and writes some of what it gives. Gives the numbers of
 /// bytes that were taken, whether more of the input was to be fed after each call, and what was written.
 fn fill(alloc: Global, written: &mut Vec<u8>) -> Result<([usize; 4], [bool; 4]), RelayFault> {
-    let made = Relay::new(alloc, Framing::Length(10), Framing::Length(10), 4);
+    let made = Relay::new(alloc, Sides::Length(10), 4);
     let Ok(mut relay) = made else {
         return Err(RelayFault::OutOfMemory);
     };
@@ -365,7 +342,7 @@ fn the_line_of_a_chunk_has_a_limit(rt: HostRuntime) {
 
 /// A fault, and what a relay gives after it: of more bytes, and of the end of the input.
 fn after_a_fault(alloc: Global) -> Result<[Option<RelayFault>; 3], AllocError> {
-    let mut relay = Relay::new(alloc, Framing::Chunks, Framing::Chunks, 16)?;
+    let mut relay = Relay::new(alloc, Sides::IntoChunks(Framing::Chunks), 16)?;
     let first = relay.feed(b"2\r\nhex").err();
     let more = relay.feed(b"0\r\n\r\n").err();
     Ok([first, more, relay.end_input().err()])
@@ -387,7 +364,7 @@ const FIVE_CHUNKS: &[u8] = b"1\r\nh\r\n1\r\ne\r\n1\r\nl\r\n1\r\nl\r\n1\r\no\r\n0
 /// Whether a relay has the whole of this body to write. If an allocation of it fails: whether it has only complete chunks, and
 /// gives the same fault again.
 fn has_complete_chunks(alloc: Global) -> Result<bool, AllocError> {
-    let mut relay = Relay::new(alloc, Framing::Length(5), Framing::Chunks, 100)?;
+    let mut relay = Relay::new(alloc, Sides::IntoChunks(Framing::Length(5)), 100)?;
     let refused = Err(RelayFault::OutOfMemory);
     for piece in b"hello".chunks(1) {
         if relay.feed(piece) == refused {

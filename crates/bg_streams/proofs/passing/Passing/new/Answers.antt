@@ -20,11 +20,11 @@ returns c =
     record {
       said = c.in_ok-response.ensures;
       framing_is = refl;
-      incoming_is = sides.0 ∙ c.incoming.ensures;
-      outgoing_is = sides.1 ∙ c.outgoing-goes_out.ensures.framing;
+      incoming_is = sides.0 ∙ c.sides-sides.ensures.incoming;
+      outgoing_is = sides.1 ∙ c.sides-sides.ensures.outgoing;
       window_is = sides.2;
       is_open = c.in_ok-relay.ensures.stage.1;
       delivers = starts passing kept refl
-          (subst (λ named. c.in_ok-text.text.items ≡ head_text kept named c.in_ok-response.response) (sym sides.1)
+          (subst (λ named. c.in_ok-text.text.items ≡ head_text kept named c.in_ok-response.response) (c.outgoing.ensures ∙ sym sides.1)
           c.in_ok-text.ensures) c.in_ok-relay.ensures.stands;
     }
