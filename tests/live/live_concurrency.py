@@ -14,6 +14,7 @@ import subprocess
 import threading
 import time
 from collections.abc import Callable, Iterator, Sequence
+from typing import NamedTuple
 
 from support import checks, clients, processes
 from support.checks import check, check_soon, check_within, comes
@@ -30,11 +31,12 @@ SOON = 10
 # have come.
 TIMEOUT = 600
 # A line of strace that begins a call of a thread.
-CALL = re.compile(r"\[pid +(?P<thread>\d+)\] \w+\(")
+CALL = re.compile(r"\[pid +(?P<thread>\d+)\] (?P<name>\w+)\(")
 # For how long it is seen what the switch doesn't do, in seconds.
 SEEN = 0.3
 # For how many seconds a switch makes few calls that has nothing to do.
 QUIET = 3
+SINGLE_CLIENTS = 20
 SEED = 52
 EACH_ORDER = 10  # requests at least, for each order beside them
 # The descriptors that a switch needs with a thousand requests at a time, by its soft and its hard
@@ -163,12 +165,36 @@ def a_slow_route_beside_a_fast_one() -> None:
         check("the slow route", {clients.received(client) for client in pending}, {answer(b"ok")})
 
 
+class Call(NamedTuple):
+    """A system call that a thread has begun."""
+
+    moment: float
+    thread: str
+    name: str
+
+
+class Trace:
+    """The system calls of a process."""
+
+    def __init__(self) -> None:
+        self.calls: list[Call] = []
+
+    def threads(self) -> int:
+        return len({call.thread for call in list(self.calls)})
+
+    def in_last(self, seconds: float) -> int:
+        """How many calls were begun in the last seconds."""
+        return sum(call.moment > time.monotonic() - seconds for call in list(self.calls))
+
+    def named(self, name: str) -> int:
+        """How many calls have this name."""
+        return sum(call.name == name for call in list(self.calls))
+
+
 @contextlib.contextmanager
-def traced(process: int) -> Iterator[Callable[[float], int]]:
-    """Traces a process. Gives how many system calls its threads have begun in the last seconds, of
-    which the argument says how many. `strace` interrupts each thread as it begins, which makes it
-    call again."""
-    calls: list[tuple[float, str]] = []
+def traced(process: int) -> Iterator[Trace]:
+    """Traces a process. `strace` interrupts each thread as it begins, which makes it call again."""
+    trace = Trace()
     with subprocess.Popen(
         ["strace", "-f", "-p", str(process)], stderr=subprocess.PIPE, text=True
     ) as strace:
@@ -176,20 +202,17 @@ def traced(process: int) -> Iterator[Callable[[float], int]]:
         def read() -> None:
             for line in strace.stderr or ():
                 if found := CALL.match(line):
-                    calls.append((time.monotonic(), found["thread"]))
-
-        def count(seconds: float) -> int:
-            return sum(moment > time.monotonic() - seconds for moment, _ in list(calls))
+                    trace.calls.append(Call(time.monotonic(), found["thread"], found["name"]))
 
         reader = threading.Thread(target=read)
         reader.start()
         # strace ends the line of a call that waits only when another thread calls
         check(
             "each thread is traced",
-            comes(lambda: len({thread for _, thread in list(calls)}) >= threads(process) - 1),
+            comes(lambda: trace.threads() >= threads(process) - 1),
             True,
         )
-        yield count
+        yield trace
         strace.send_signal(signal.SIGINT)
         reader.join()
 
@@ -203,13 +226,26 @@ def calls_of_idle_loops() -> None:
     gate = Gate()
     with serving(gate, MANY, "--concurrency", "1000", *LOOPS_GIVEN) as switch:
         check("a request", clients.asked(switch.active, request()), answer(b"ok"))
-        with traced(switch.process.pid) as count:
-            check("each thread waits again", comes(lambda: count(QUIET) <= 10 * QUIET), True)
+        with traced(switch.process.pid) as trace:
+            quiet = comes(lambda: trace.in_last(QUIET) <= 10 * QUIET)
+            check("each thread waits again", quiet, True)
             time.sleep(6)
-            idle = count(6)
+            idle = trace.in_last(6)
             check("calls of event loops are counted", idle > 0, True)
             check_within("system calls of a second", idle / 6, 10)
         check("a request after it", clients.asked(switch.active, request()), answer(b"ok"))
+
+
+def accepts_of_single_clients() -> None:
+    """A client that comes alone is accepted by one call, and no second one finds that none waits."""
+    if shutil.which("strace") is None:
+        print("live_concurrency: no strace, so the accepts of single clients were not counted")
+        return
+    with serving(Gate(), MANY, "--concurrency", "8", "--threads", "1", preview=False) as switch:
+        with traced(switch.process.pid) as trace:
+            for _ in range(SINGLE_CLIENTS):
+                check("a request", clients.asked(switch.active, request()), answer(b"ok"))
+            check("the calls that accept them", trace.named("accept4"), SINGLE_CLIENTS)
 
 
 def threads_and_memory() -> None:
@@ -424,6 +460,7 @@ if __name__ == "__main__":
             most_at_a_time,
             a_slow_route_beside_a_fast_one,
             calls_of_idle_loops,
+            accepts_of_single_clients,
             threads_and_memory,
             number_of_loops,
             descriptors_of_many_requests,

@@ -15,9 +15,6 @@ use std::net::TcpStream;
 /// An event wakes at least one of the waiting sets, and not always all (`EPOLLEXCLUSIVE` of epoll_ctl(2)).
 const EXCLUSIVE: u32 = 1 << 28;
 
-/// The number of clients that are accepted in a row.
-const ACCEPTS_A_TURN: u32 = 2;
-
 /// The maximum number of clients of the backlog that a loop accepts at a shutdown.
 const MOST_OF_BACKLOG: u32 = 2_048;
 
@@ -58,9 +55,10 @@ impl<'a, P: EndpointPorts, L: RequestLog> EventLoop<'a, P, L> {
         }
     }
 
-    /// Accepts the clients that wait, as far as there is room.
+    /// Accepts clients that wait, as far as there is room. The listener has an event in the next round too if more wait.
     pub(crate) fn accept_some(&mut self) {
-        for _ in 0..ACCEPTS_A_TURN {
+        let is_backlog_left = self.port.is_backlog_left();
+        for _ in 0..self.accept_rounds.most_in_a_row(is_backlog_left) {
             if !self.accept_one() {
                 return;
             }
@@ -84,6 +82,7 @@ impl<'a, P: EndpointPorts, L: RequestLog> EventLoop<'a, P, L> {
         }
         match self.port.accept() {
             Accepted::Stream(stream) => {
+                self.accept_rounds.note();
                 self.begin_client(stream);
                 true
             }

@@ -1,5 +1,6 @@
 //! The connections of a loop, and how its clients are served.
 
+use crate::accept_rounds::AcceptRounds;
 use crate::client::Client;
 use crate::endpoint_ports::EndpointPorts;
 use crate::endpoints::Endpoints;
@@ -62,6 +63,8 @@ pub(crate) struct EventLoop<'a, P, L> {
     pub(crate) piece: Vec<u8>,
     /// Whether the listener is watched.
     pub(crate) watches_listener: bool,
+    /// In which rounds clients were accepted.
+    pub(crate) accept_rounds: AcceptRounds,
     /// Since when its requests wait, and what the other loops know of that.
     pub(crate) waiting: Waiting,
     /// The moment of the last events, in milliseconds from the start of the loop.
@@ -103,6 +106,7 @@ impl<'a, P: EndpointPorts, L: RequestLog> EventLoop<'a, P, L> {
             due: VecDeque::new(alloc),
             piece: vec![in alloc; 0; PIECE]?,
             watches_listener: false,
+            accept_rounds: AcceptRounds::NONE,
             waiting: Waiting::new(alloc, number),
             now: 0,
             accepts_at: None,

@@ -6,6 +6,7 @@
 //! connections take (bg_loop_port).
 #![tactic(auto)]
 
+mod accept_rounds;
 mod accepting;
 mod answer_progress;
 mod book_ports;

@@ -119,9 +119,10 @@ impl<'a, P: EndpointPorts, L: RequestLog> EventLoop<'a, P, L> {
         })
     }
 
-    /// Begins to wait for events, and gives the longest wait in milliseconds. If a request waits here, the other loops know from
-    /// then on that this loop is asleep, and wake it as soon as the request may enter.
+    /// Begins a round: begins to wait for events, and gives the longest wait in milliseconds. If a request waits here, the other
+    /// loops know from then on that this loop is asleep, and wake it as soon as the request may enter.
     pub(crate) fn begin_wait(&mut self) -> i32 {
+        self.accept_rounds.begin();
         self.tell_waiting();
         let longest = self.longest_wait();
         if longest == 0 || self.waiting.has_changed {
