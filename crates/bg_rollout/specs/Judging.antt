@@ -7,7 +7,7 @@ use Rattle.bg_history.specs.Templates.{namesake as namesake_of}
 use Rattle.bg_history.specs.Allowed.{is_allowed}
 use Rattle.bg_promotion.specs.Represents.{CoreRepresents}
 use Rattle.bg_rollout.specs.declared.accepted_event.AcceptedEvent.{AcceptedEvent}
-use Rattle.bg_rollout.specs.declared.accepted_event.AcceptedEvent.TheVariants.{Tick, Deploy, Available, Command, Retry}
+use Rattle.bg_rollout.specs.declared.accepted_event.AcceptedEvent.TheVariants.{Tick, Deploy, Available, Command}
 use Rattle.bg_rollout.specs.Recording.{is_command}
 use Rattle.bg_rollout.specs.Routing.{Routing}
 
@@ -18,14 +18,12 @@ entry_of b (Deploy namesake name ports) =
     event.Deploy (unwrap_or namesake (last_number b.past + 1)) name.now ports.now
 entry_of b (Available r n) = event.Available r n
 entry_of b (Command e core) = e
-entry_of b (Retry core) = event.Retry
 
 -- what the check found is true: the revision that has the name, or the core after the command
 abbrev pub IsFound : Routing → AcceptedEvent → Type 0
 IsFound b (Deploy namesake name ports) = namesake ≡ namesake_of b.opening name.now b.past
 IsFound b (Command e core) =
     (is_command e ≡ true) × CoreRepresents b.strategy core (e ∷ b.past)
-IsFound b (Retry core) = CoreRepresents b.strategy core (event.Retry ∷ b.past)
 IsFound b _ = Unit {0}
 
 -- the event may be recorded: its entry is allowed, and what the check found is true

@@ -20,8 +20,6 @@ pub enum AcceptedEvent<'a> {
         revision: u64,
         size: u32,
     },
-    /// A promotion command that changes no revision's size: its entry, and the core after it.
+    /// A promotion command: its entry, and the core after it.
     Command(Entry, Core),
-    /// A new attempt of the newest revision begins: the core after it.
-    Retry(Core),
 }

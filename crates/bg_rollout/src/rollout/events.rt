@@ -1,9 +1,12 @@
 //! Checking an event, and recording one that has no fault.
-ghost use Rattle.std.specs.Prelude.{◌≡◌, ◌≤◌, ◌+◌, ◌*◌, length, MatchResult, IfOk, OnOk, nat_le, Some, None, ◌∷◌, true, map, max, unwrap_or, IsSome, IfSome, OnErr};
+ghost use Rattle.std.specs.Prelude.{◌≡◌, ◌≤◌, ◌+◌, ◌*◌, List, length, MatchResult, IfOk, OnOk, nat_le, Some, None, ◌∷◌, true, map, max, unwrap_or, IsSome, IfSome, OnErr};
 ghost use Rattle.bg_history.specs.Sizes.{existing, last_number, is_scaled};
 ghost use Rattle.bg_history.specs.Templates.{namesake as namesake_of};
 ghost use Rattle.bg_history.specs.AttemptBounds.{newest_of};
+ghost use Rattle.bg_history.specs.Kept.{Opening};
+ghost use Rattle.bg_history.specs.declared.entry.Entry.{Entry};
 ghost use Rattle.bg_history_laws.specs.Answers.{template_answer};
+ghost use Rattle.bg_history_laws.specs.Listed.{revisions_of};
 ghost use Rattle.bg_rollout.specs.Refusals.{all_open, control_refusal, deploy_fault, event_fault, event_of, refuse};
 ghost use Rattle.bg_rollout.specs.Judging.{entry_of, IsAccepted};
 ghost use Rattle.bg_revisions.specs.Rosters.{numbered, resized};
@@ -23,6 +26,7 @@ use bg_ledger::Names;
 use bg_promotion::{Core, laws as promotion_laws};
 use bg_revisions::{MOST_REVISIONS, Name, Ports, RevisionFault, Roster};
 use bg_scaledown::laws as scaledown_laws;
+use bg_strategy::Strategy;
 use std::alloc::{AllocError, Global};
 
 impl<N: Names> Rollout<N> {
@@ -93,7 +97,7 @@ impl<N: Names> Rollout<N> {
             }
             Control::Retry => {
                 core.retry()?;
-                Ok(AcceptedEvent::Retry(core))
+                Ok(AcceptedEvent::Command(Entry::Retry, core))
             }
         }
     }
@@ -186,7 +190,6 @@ impl<N: Names> Rollout<N> {
             }
             AcceptedEvent::Available { revision, size } => self.take_report(revision, size),
             AcceptedEvent::Command(entry, core) => self.take_command(entry, core),
-            AcceptedEvent::Retry(core) => self.take_retry(core),
         }
         Ok(())
     }
@@ -219,7 +222,8 @@ impl<N: Names> Rollout<N> {
             .push_reserved(Entry::Available { revision, size });
     }
 
-    /// Records a promotion command that changes no revision's size; `core` is the core after it.
+    /// Records a promotion command; `core` is the core after it. After a retry the newest revision wants at least the
+    /// size of a preview.
     fn take_command(&mut self, entry: Entry, core: Core)
         requires command { is_command entry ≡ true }
         requires allowed { let b = self.old.routing in
@@ -228,39 +232,16 @@ impl<N: Names> Rollout<N> {
         requires spare { 1 ≤ self.old.spare }
         ensures { Recorded entry self.old self.new }
     {
-        laws::keeps();
-        scaledown_laws::next_has_room();
-        laws::reachable();
-        let newest_is_scaled = self.newest_is_scaled();
-        self.deadlines.record(&entry, self.core.selectors(), newest_is_scaled, self.moment);
-        self.core = core;
-        self.history.push_reserved(entry);
-    }
-
-    /// Records a retry; `core` is the core after it. The newest revision then wants at least the size of a preview.
-    fn take_retry(&mut self, core: Core)
-        requires allowed { let b = self.old.routing in
-            is_allowed b.strategy b.opening entry.Retry b.past ≡ true }
-        requires core { let b = self.old.routing in
-            CoreRepresents b.strategy core (entry.Retry ∷ b.past) }
-        requires spare { 1 ≤ self.old.spare }
-        ensures { Recorded entry.Retry self.old self.new }
-    {
         laws::finds();
         scaledown_laws::next_has_room();
         laws::reachable();
-        laws::resizes();
         let newest_is_scaled = self.newest_is_scaled();
         let selectors = self.core.selectors();
         self.deadlines
-            .record(&Entry::Retry, selectors, newest_is_scaled, self.moment);
-        grow(
-            &mut self.roster,
-            selectors.newest,
-            self.strategy.preview_replicas,
-        );
+            .record(&entry, selectors, newest_is_scaled, self.moment);
+        resize_newest(&mut self.roster, selectors.newest, &entry, &self.strategy);
         self.core = core;
-        self.history.push_reserved(Entry::Retry);
+        self.history.push_reserved(entry);
     }
 
     /// Records a deploy that has no fault: of the revision that has the name, or of a new one if none has. The only
@@ -376,6 +357,26 @@ impl<N: Names> Rollout<N> {
 
 /// The greatest moment, in seconds from the start.
 const LAST_MOMENT: u64 = 1 << 53;
+
+/// Makes the newest revision want as many endpoints as after a promotion command: a retry makes it want at least the
+/// size of a preview, and no other command changes what it wants.
+fn resize_newest(roster: &mut Roster, newest: u64, command: &Entry, strategy: &Strategy)
+    requires command { is_command command.now ≡ true }
+    requires exists { IsSome (numbered newest roster.old.revisions) }
+    ensures { (o : Opening) (past : List Entry) → newest ≡ newest_of past
+        → roster.old.revisions ≡ revisions_of strategy.now o past → roster.new ≡ record roster.old {
+          revisions = revisions_of strategy.now o (command.now ∷ past);
+        } }
+{
+    laws::finds();
+    laws::keeps();
+    laws::resizes();
+    match command {
+        Entry::Retry => grow(roster, newest, strategy.preview_replicas),
+        // A further command that resizes a revision would not be proved here.
+        _ => {}
+    }
+}
 
 /// Makes a revision want at least this many endpoints.
 fn grow(roster: &mut Roster, number: u64, least: u32)

@@ -221,7 +221,7 @@ impl<N: Names> Rollout<N> {
             }
             Entry::Retry => {
                 core.retry().ok()?;
-                Some(AcceptedEvent::Retry(core))
+                Some(AcceptedEvent::Command(Entry::Retry, core))
             }
             Entry::Enter { .. } | Entry::Leave { .. } | Entry::Outcome(_) => None,
         }

@@ -1,4 +1,7 @@
-use Rattle.std.proofs.Common.{refl, sym, ◌∙◌}
+use Rattle.std.proofs.Common.{◌≡◌, ◌∷◌, refl, sym, ap, ◌∙◌}
+use Rattle.bg_revisions.specs.declared.revision.Selectors.{Selectors}
+use Rattle.bg_revisions.specs.Rosters.{Listing}
+use Rattle.bg_history_laws.specs.Listed.{revisions_of}
 use Rattle.bg_rollout.specs.Invariant.{PartsRepresent, model_of, parts_of}
 use Rattle.bg_rollout.proofs.WholeStates.Carrying.{Carries, represents_recorded, recorded_by, allowed_inside, core_inside}
 use Rattle.bg_rollout.proofs.ControlEvents.Commands.{Leaves, command_leaves}
@@ -10,25 +13,34 @@ pub record-requires-clause-room : goal.record-requires-clause-room
 record-requires-clause-room g c =
     let b = (model_of c.self.inside).routing in
     let represents : PartsRepresent b (parts_of c.self.inside) = c.self.invariant in
-    room_for_next c.next_has_room.ensures b (parts_of c.self.inside) c.args.entry c.selectors.result represents
-    (c.reachable.ensures b.strategy b.opening b.past represents.routing.legal.allowed) (c.selectors.ensures b.strategy b.past represents.core)
+    room_for_next c.next_has_room.ensures b (parts_of c.self.inside) c.args.entry c.selectors-selectors.result represents
+    (c.reachable.ensures b.strategy b.opening b.past represents.routing.legal.allowed) (c.selectors-selectors.ensures b.strategy b.past represents.core)
+
+-- the roster after the command
+resized_roster : (g : Over) (c : goal.After-push_reserved g) → c.resize_newest.new.roster
+    ≡ record c.self.inside.roster { revisions = revisions_of c.self.inside.strategy c.self.inside.history.opening (c.args.entry ∷ c.self.inside.history.past) }
+resized_roster g c =
+    let b = (model_of c.self.inside).routing in
+    let represents : PartsRepresent b (parts_of c.self.inside) = c.self.invariant in
+    c.resize_newest.ensures b.opening b.past (ap (λ (x : Selectors). x.newest) (c.selectors-selectors.ensures b.strategy b.past represents.core)) represents.revisions
 
 -- the running state after the command
-carried : (g : Over) (c : goal.After-push_reserved g) → Carries (model_of c.self.inside).routing (parts_of c.self.inside) c.args.entry (record (parts_of c.self.inside) { core = c.args.core; deadlines = c.record.new.self })
+carried : (g : Over) (c : goal.After-push_reserved g) → Carries (model_of c.self.inside).routing (parts_of c.self.inside) c.args.entry (record (parts_of c.self.inside) { core = c.args.core; roster = c.resize_newest.new.roster; deadlines = c.record.new.self })
 carried g c =
     let b = (model_of c.self.inside).routing in
     let k = parts_of c.self.inside in
     let e = c.args.entry in
     let represents : PartsRepresent b k = c.self.invariant in
     let leaves : Leaves e b.past = command_leaves e b.past c.requires.command in
+    let roster = resized_roster g c in
     record {
       allowed = allowed_inside _ _ e c.self.view_is c.requires.allowed;
       plain = leaves.plain;
       core = core_inside _ _ c.args.core e c.self.view_is c.requires.core;
-      revisions = represents.revisions ∙ sym (c.keeps.ensures b.strategy b.opening b.past e leaves.sizes);
-      replicas = refl;
-      last = represents.last ∙ sym leaves.last;
-      deadlines = c.record.ensures b.strategy b.past represents.deadlines (c.selectors.ensures b.strategy b.past represents.core) (scaled_inside _ _ _ c.self.view_is c.newest_is_scaled-newest_is_scaled.ensures) represents.moment;
+      revisions = ap (λ (l : Listing). l.revisions) roster;
+      replicas = ap (λ (l : Listing). l.replicas) roster;
+      last = ap (λ (l : Listing). l.last) roster ∙ represents.last ∙ sym leaves.last;
+      deadlines = c.record.ensures b.strategy b.past represents.deadlines (c.selectors-selectors.ensures b.strategy b.past represents.core) (scaled_inside _ _ _ c.self.view_is c.newest_is_scaled-newest_is_scaled.ensures) represents.moment;
       moment = represents.moment ∙ sym leaves.moment;
       given = refl;
       open_is = refl;
