@@ -1,5 +1,6 @@
 -- Whether a request is inside after an event on the client's connection.
 use Rattle.std.proofs.Common.{◌≡◌, ◌∙◌, ℕ, Bool, true, false, cond, ◌&&◌, ◌||◌, nat_le, nat_lt, List, [], ◌∷◌, refl, sym, ap, Option, Some, None, Err}
+use Rattle.std.proofs.lemmas.Bool.{or_left, or_right}
 use Rattle.std.specs.Prelude.{⊤}
 use Rattle.bg_http.specs.Statuses.{request_status}
 use Rattle.bg_http.specs.declared.persistence.Persistence.{Persistence}
@@ -33,27 +34,18 @@ reads_outside c bytes fed.OwesContinue new is out = ap (λ (n : Client). is_insi
 reads_outside c bytes fed.Whole new is out = ap (λ (n : Client). is_inside n.stage) is.1
 reads_outside c bytes (fed.Refused named) new is out = ap is_inside is.0
 
-reading_stage : (s : Stage) → reads s ≡ true → is_inside s ≡ false
-reading_stage stage.Idle is = refl
-reading_stage stage.Reading is = refl
-reading_stage stage.Continuing is = refl
-reading_stage (stage.Waiting request) is = refl
-reading_stage stage.Inside is = absurd (cc)
-reading_stage (stage.Refused named) is = refl
-reading_stage (stage.Answering answering) is = refl
-reading_stage (stage.Lingering lingering) is = refl
-reading_stage stage.Left is = refl
-
-continuing_stage : (s : Stage) → owes_continue s ≡ true → is_inside s ≡ false
-continuing_stage stage.Idle is = refl
-continuing_stage stage.Reading is = refl
-continuing_stage stage.Continuing is = refl
-continuing_stage (stage.Waiting request) is = refl
-continuing_stage stage.Inside is = absurd (cc)
-continuing_stage (stage.Refused named) is = refl
-continuing_stage (stage.Answering answering) is = refl
-continuing_stage (stage.Lingering lingering) is = refl
-continuing_stage stage.Left is = refl
+-- no request is inside while one is read, and while `100 Continue` is owed
+early_outside : (s : Stage) → (reads s || owes_continue s) ≡ true → is_inside s ≡ false
+early_outside stage.Idle is = refl
+early_outside stage.Reading is = refl
+early_outside stage.Continuing is = refl
+early_outside (stage.Waiting request) is = refl
+early_outside stage.Inside is = absurd (cc)
+early_outside (stage.PassingOn passing) is = absurd (cc)
+early_outside (stage.Refused named) is = refl
+early_outside (stage.Answering answering) is = refl
+early_outside (stage.Lingering lingering) is = refl
+early_outside stage.Left is = refl
 
 begun_outside : (s : Stage) (bytes : List ℕ) (now : ℕ) (c : Client) → is_inside c.stage ≡ false
     → is_inside (begun_at s bytes now c).stage ≡ false
@@ -63,6 +55,7 @@ begun_outside stage.Reading bytes now c out = out
 begun_outside stage.Continuing bytes now c out = out
 begun_outside (stage.Waiting request) bytes now c out = out
 begun_outside stage.Inside bytes now c out = out
+begun_outside (stage.PassingOn passing) bytes now c out = out
 begun_outside (stage.Refused named) bytes now c out = out
 begun_outside (stage.Answering answering) bytes now c out = out
 begun_outside (stage.Lingering lingering) bytes now c out = out
@@ -73,7 +66,7 @@ pub fed_alike : (c : Client) (bytes : List ℕ) (now : ℕ) (result : Fed) (new 
 fed_alike c bytes now result new is = go (reads c.stage) refl is where
   go : (b : Bool) → reads c.stage ≡ b → FeedsIf b c bytes now result new → is_inside new.stage ≡ is_inside c.stage
   go true reading is =
-      let out = reading_stage c.stage reading in
+      let out = early_outside c.stage (or_left (reads c.stage) (owes_continue c.stage) reading) in
       reads_outside (begun_at c.stage bytes now c) bytes result new is (begun_outside c.stage bytes now c out) ∙ sym out
   go false none is = ap (λ (n : Client). is_inside n.stage) is.1
 
@@ -81,7 +74,9 @@ pub continued_alike : (c : Client) (result : Fed) (new : Client) → Continues c
     → is_inside new.stage ≡ is_inside c.stage
 continued_alike c result new is = go (owes_continue c.stage) refl is where
   go : (b : Bool) → owes_continue c.stage ≡ b → ContinuesIf b c result new → is_inside new.stage ≡ is_inside c.stage
-  go true owes is = reads_outside (at stage.Reading c) [] result new is refl ∙ sym (continuing_stage c.stage owes)
+  go true owes is =
+      let out = early_outside c.stage (or_right (reads c.stage) (owes_continue c.stage) owes) in
+      reads_outside (at stage.Reading c) [] result new is refl ∙ sym out
   go false none is = ap (λ (n : Client). is_inside n.stage) is.1
 
 last_outside : (has_ended was_whole : Bool) (now : ℕ) (c : Client)
@@ -116,6 +111,7 @@ wrote_alike c count now result new is = go c.stage refl is where
   go stage.Continuing at_is is = stays is
   go (stage.Waiting request) at_is is = stays is
   go stage.Inside at_is is = stays is
+  go (stage.PassingOn passing) at_is is = stays is
   go (stage.Refused named) at_is is = stays is
   go (stage.Answering a) at_is is =
       written_outside (with_written a.text count).rest a count now c result new is ∙ sym (ap is_inside at_is)
@@ -133,6 +129,7 @@ ended_alike c = go c.stage refl where
   go stage.Continuing at_is = refl
   go (stage.Waiting request) at_is = refl
   go stage.Inside at_is = refl
+  go (stage.PassingOn passing) at_is = refl
   go (stage.Refused named) at_is = refl
   go (stage.Answering answering) at_is = refl
   go (stage.Lingering lingering) at_is = sym (ap is_inside at_is)
@@ -149,23 +146,20 @@ closing_alike c = go c.stage refl where
   go stage.Continuing at_is = refl
   go (stage.Waiting request) at_is = refl
   go stage.Inside at_is = refl
+  go (stage.PassingOn passing) at_is = refl
   go (stage.Refused named) at_is = refl
   go (stage.Answering answering) at_is = refl
   go (stage.Lingering lingering) at_is = refl
   go stage.Left at_is = refl
 
 pub failed_alike : (c : Client) → is_inside (failed_at c.stage c).stage ≡ is_inside c.stage
-failed_alike c = go c.stage refl where
-  go : (s : Stage) → c.stage ≡ s → is_inside (failed_at s c).stage ≡ is_inside c.stage
-  go stage.Idle at_is = sym (ap is_inside at_is)
-  go stage.Reading at_is = sym (ap is_inside at_is)
-  go stage.Continuing at_is = sym (ap is_inside at_is)
-  go (stage.Waiting request) at_is = sym (ap is_inside at_is)
-  go stage.Inside at_is = refl
-  go (stage.Refused named) at_is = sym (ap is_inside at_is)
-  go (stage.Answering answering) at_is = sym (ap is_inside at_is)
-  go (stage.Lingering lingering) at_is = sym (ap is_inside at_is)
-  go stage.Left at_is = sym (ap is_inside at_is)
+failed_alike c = go (is_inside c.stage) refl where
+  noted : Client
+  noted = record c { facts = record c.facts { has_failed = true } }
+
+  go : (b : Bool) → is_inside c.stage ≡ b → is_inside (cond b noted (left c)).stage ≡ b
+  go true inside = inside
+  go false out = refl
 
 pub discarded_alike : (c : Client) (count : ℕ) → is_inside (discarded_at c.stage count c).stage ≡ is_inside c.stage
 discarded_alike c count = go c.stage refl where
@@ -179,28 +173,17 @@ discarded_alike c count = go c.stage refl where
   go stage.Continuing at_is = refl
   go (stage.Waiting request) at_is = refl
   go stage.Inside at_is = refl
+  go (stage.PassingOn passing) at_is = refl
   go (stage.Refused named) at_is = refl
   go (stage.Answering answering) at_is = refl
   go (stage.Lingering l) at_is = on l (nat_lt (later l.passed count) 16777216) ∙ sym (ap is_inside at_is)
   go stage.Left at_is = refl
 
 pub looked_alike : (c : Client) (now : ℕ) → is_inside (looked c now).stage ≡ is_inside c.stage
-looked_alike c now = go c.stage refl where
-  late : (b : Bool) → is_inside c.stage ≡ false → is_inside (cond b (left c) c).stage ≡ is_inside c.stage
-  late true out = sym out
-  late false out = refl
-
-  go : (s : Stage) → c.stage ≡ s
-      → is_inside (cond (has_timeout s && nat_le c.facts.until now) (left c) c).stage ≡ is_inside c.stage
-  go stage.Idle at_is = late (nat_le c.facts.until now) (ap is_inside at_is)
-  go stage.Reading at_is = late (nat_le c.facts.until now) (ap is_inside at_is)
-  go stage.Continuing at_is = late (nat_le c.facts.until now) (ap is_inside at_is)
-  go (stage.Waiting request) at_is = refl
-  go stage.Inside at_is = refl
-  go (stage.Refused named) at_is = refl
-  go (stage.Answering answering) at_is = late (nat_le c.facts.until now) (ap is_inside at_is)
-  go (stage.Lingering lingering) at_is = late (nat_le c.facts.until now) (ap is_inside at_is)
-  go stage.Left at_is = refl
+looked_alike c now = go (has_timeout c.stage && nat_le c.facts.until now) where
+  go : (b : Bool) → is_inside (cond b (failed_at c.stage c) c).stage ≡ is_inside c.stage
+  go true = failed_alike c
+  go false = refl
 
 awaiting_stage : (s : Stage) → awaits_answer s ≡ false → is_inside s ≡ false
 awaiting_stage stage.Idle is = refl
@@ -208,6 +191,7 @@ awaiting_stage stage.Reading is = refl
 awaiting_stage stage.Continuing is = refl
 awaiting_stage (stage.Waiting request) is = refl
 awaiting_stage stage.Inside is = absurd (cc)
+awaiting_stage (stage.PassingOn passing) is = absurd (cc)
 awaiting_stage (stage.Refused named) is = refl
 awaiting_stage (stage.Answering answering) is = refl
 awaiting_stage (stage.Lingering lingering) is = refl

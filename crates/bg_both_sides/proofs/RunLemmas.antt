@@ -4,7 +4,7 @@ use Rattle.bg_http.specs.Statuses.{request_status}
 use Rattle.bg_http.specs.declared.request.Request.{Request}
 use Rattle.bg_http.specs.declared.request_fault.RequestFault.{RequestFault}
 use Rattle.bg_client_side.specs.Clients.{Client, failed_at, taken}
-use Rattle.bg_client_side.specs.Runs.{Calls, ClientCall, Runs, answers, begins_closing, continues, discards, ends_input, fails, feeds, looks, takes, writes}
+use Rattle.bg_client_side.specs.Runs.{Calls, ClientCall, Runs, answers, begins_closing, begins_passing_on, continues, cuts, discards, ends_input, fails, feeds, looks, passes_on, takes, writes}
 use Rattle.bg_client_side.specs.Stages.{awaits_answer, is_inside, waiting_request}
 use Rattle.bg_client_side.specs.declared.reading.Fed.{Fed}
 use Rattle.bg_client_side.specs.declared.reading.Fed.TheVariants as fed
@@ -56,6 +56,7 @@ inside_awaits c inside = go c.stage refl inside where
   go stage.Continuing at_is inside = absurd (cc)
   go (stage.Waiting request) at_is inside = absurd (cc)
   go stage.Inside at_is inside = (ap awaits_answer at_is, ap awaits_answer at_is)
+  go (stage.PassingOn passing) at_is inside = (ap awaits_answer at_is, ap awaits_answer at_is)
   go (stage.Refused named) at_is inside = absurd (cc)
   go (stage.Answering answering) at_is inside = absurd (cc)
   go (stage.Lingering lingering) at_is inside = absurd (cc)
@@ -225,6 +226,9 @@ reading (writes bytes at told whole) result now old read is calls = (
 )
 reading (takes request) result now old read is calls = absurd is
 reading (answers text weight persistence at awaited) result now old read is calls = absurd is
+reading (begins_passing_on persistence at begun) result now old read is calls = absurd is
+reading (passes_on bytes waits at passed) result now old read is calls = absurd is
+reading (cuts was) result now old read is calls = absurd is
 reading ends_input result now old read is calls = absurd is
 reading begins_closing result now old read is calls = absurd is
 reading fails result now old read is calls = absurd is
@@ -237,6 +241,9 @@ noting (feeds bytes at told whole) old new is calls = absurd (cc)
 noting (continues told whole) old new is calls = absurd (cc)
 noting (takes request) old new is calls = absurd (cc)
 noting (answers text weight persistence at awaited) old new is calls = absurd (cc)
+noting (begins_passing_on persistence at begun) old new is calls = absurd (cc)
+noting (passes_on bytes waits at passed) old new is calls = absurd (cc)
+noting (cuts was) old new is calls = absurd (cc)
 noting (writes bytes at told whole) old new is calls = absurd (cc)
 noting ends_input old new is calls = ap (λ (n : Client). is_inside n.stage) calls ∙ ended_alike old
 noting begins_closing old new is calls = ap (λ (n : Client). is_inside n.stage) calls ∙ closing_alike old

@@ -2,7 +2,7 @@
 use Rattle.std.proofs.Common.{◌≡◌, ◌∙◌, ℕ, Bool, true, false, List, [], ◌∷◌, ◌++◌, refl, sym, ap, append-nil, append_assoc, Option, Some, None}
 use Rattle.bg_client_side.specs.Clients.{Client}
 use Rattle.bg_client_side.specs.Laws.{IsWrittenInSequence}
-use Rattle.bg_client_side.specs.Runs.{ClientCall, answers, begins_closing, continues, discards, ends_input, fails, feeds, given_by, given_in, looks, takes, writes}
+use Rattle.bg_client_side.specs.Runs.{ClientCall, answers, begins_closing, begins_passing_on, continues, cuts, discards, ends_input, fails, feeds, given_by, given_in, looks, passes_on, takes, writes}
 use Rattle.bg_client_side.specs.Stages.{to_write}
 use Rattle.bg_client_side.specs.declared.reading.Fed.{Fed}
 use Rattle.bg_both_sides.proofs.RunLemmas.{StayLaw, runs_its_client}
@@ -33,6 +33,9 @@ reading_gives (feeds bytes at told whole) result now is = refl
 reading_gives (continues told whole) result now is = refl
 reading_gives (takes request) result now is = absurd is
 reading_gives (answers text weight persistence at awaited) result now is = absurd is
+reading_gives (begins_passing_on persistence at begun) result now is = absurd is
+reading_gives (passes_on bytes waits at passed) result now is = absurd is
+reading_gives (cuts was) result now is = absurd is
 reading_gives (writes bytes at told whole) result now is = refl
 reading_gives ends_input result now is = absurd is
 reading_gives begins_closing result now is = absurd is
@@ -45,6 +48,9 @@ note_gives (feeds bytes at told whole) is = refl
 note_gives (continues told whole) is = refl
 note_gives (takes request) is = refl
 note_gives (answers text weight persistence at awaited) is = absurd (cc)
+note_gives (begins_passing_on persistence at begun) is = refl
+note_gives (passes_on bytes waits at passed) is = absurd (cc)
+note_gives (cuts was) is = refl
 note_gives (writes bytes at told whole) is = refl
 note_gives ends_input is = refl
 note_gives begins_closing is = refl

@@ -1,8 +1,8 @@
 -- A connection that has left, and one whose request is inside.
-use Rattle.std.proofs.Common.{◌≡◌, ◌∙◌, ℕ, true, List, [], ◌∷◌, ◌++◌, refl, sym, ap, subst}
+use Rattle.std.proofs.Common.{◌≡◌, ◌∙◌, ℕ, true, cond, List, [], ◌∷◌, ◌++◌, refl, sym, ap, subst}
 use Rattle.bg_client_side.specs.Clients.{Client, at, taken}
 use Rattle.bg_client_side.specs.Laws.{StaysLeft}
-use Rattle.bg_client_side.specs.Runs.{Calls, ClientCall, answers, became_whole, begins_closing, continues, discards, ends_input, fails, feeds, looks, one_if, takes, whole_by, whole_in, writes, written_by, written_in}
+use Rattle.bg_client_side.specs.Runs.{Calls, ClientCall, answers, became_whole, begins_closing, begins_passing_on, continues, cuts, discards, ends_input, fails, feeds, looks, one_if, passes_on, takes, whole_by, whole_in, writes, written_by, written_in}
 use Rattle.bg_client_side.specs.Stages.{has_left}
 use Rattle.bg_client_side.specs.declared.stage.Stage.{Stage}
 use Rattle.bg_client_side.specs.declared.stage.Stage.TheVariants as stage
@@ -11,12 +11,13 @@ pub front_of_none : (bytes rest : List ℕ) → [] ≡ bytes ++ rest → bytes �
 front_of_none [] rest is = refl
 front_of_none (byte ∷ bytes) rest is = absurd (cc)
 
-stage_left : (s : Stage) → has_left s ≡ true → s ≡ stage.Left
+pub stage_left : (s : Stage) → has_left s ≡ true → s ≡ stage.Left
 stage_left stage.Idle is = absurd (cc)
 stage_left stage.Reading is = absurd (cc)
 stage_left stage.Continuing is = absurd (cc)
 stage_left (stage.Waiting request) is = absurd (cc)
 stage_left stage.Inside is = absurd (cc)
+stage_left (stage.PassingOn passing) is = absurd (cc)
 stage_left (stage.Refused named) is = absurd (cc)
 stage_left (stage.Answering answering) is = absurd (cc)
 stage_left (stage.Lingering lingering) is = absurd (cc)
@@ -49,6 +50,14 @@ call_stays c (takes request) new is = record {
 }
 call_stays c (answers text weight persistence now awaited) new is =
     record { out = out_of c new is.1; none = refl; nothing = refl }
+call_stays c (begins_passing_on persistence now begun) new is =
+    record { out = out_of c new is.1; none = refl; nothing = refl }
+call_stays c (passes_on bytes waits now passes) new is = record {
+  out = out_of c new is.1;
+  none = refl;
+  nothing = ap (λ b. cond b bytes []) is.0;
+}
+call_stays c (cuts was) new is = record { out = out_of c new is.1; none = refl; nothing = refl }
 call_stays c (writes bytes now result whole) new is = record {
   out = out_of c new is.1.1;
   none = ap one_if (is.2 ∙ ap (λ r. became_whole r new) is.1.0);

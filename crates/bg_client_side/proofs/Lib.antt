@@ -1,5 +1,7 @@
 pub mod LeftLemmas
 pub mod OutgoingLemmas
+pub mod PassingLemmas
+pub mod PassingSteps
 pub mod ReadSequences
 pub mod ReadSteps
 pub mod ReadingLemmas

@@ -1,6 +1,6 @@
 -- What calls, one after the other, make of a connection.
 use Rattle.std.proofs.Common.{◌≡◌, ◌∙◌, ℕ, ◌+◌, Bool, true, false, inl, inr, refl, sym, ap, arith, append-nil, append_assoc, List, [], ◌∷◌, ◌++◌}
-use Rattle.bg_client_side.proofs.LeftLemmas.{stays_left}
+use Rattle.bg_client_side.proofs.LeftLemmas.{stage_left, stays_left}
 use Rattle.bg_client_side.proofs.StepLemmas.{step}
 use Rattle.bg_client_side.proofs.Steps.{Step}
 use Rattle.bg_client_side.specs.Clients.{Client, accepted}
@@ -25,15 +25,7 @@ goes_forward (call ∷ more) old new is =
     later_still old is.0 new (step old is.0 call is.1).forward (goes_forward more is.0 new is.2)
 
 left_has_none : (s : Stage) → has_left s ≡ true → to_write s ≡ []
-left_has_none stage.Idle is = refl
-left_has_none stage.Reading is = refl
-left_has_none stage.Continuing is = refl
-left_has_none (stage.Waiting request) is = refl
-left_has_none stage.Inside is = refl
-left_has_none (stage.Refused named) is = refl
-left_has_none (stage.Answering answering) is = absurd (cc)
-left_has_none (stage.Lingering lingering) is = refl
-left_has_none stage.Left is = refl
+left_has_none s is = ap to_write (stage_left s is)
 
 -- texts that are written one after the other, of which nothing was cut off before
 joined : (rest given others written more to cut left : List ℕ) → rest ++ given ≡ written ++ (to ++ cut) → cut ≡ []
@@ -105,6 +97,7 @@ idle_stage stage.Reading is = absurd (cc)
 idle_stage stage.Continuing is = absurd (cc)
 idle_stage (stage.Waiting request) is = absurd (cc)
 idle_stage stage.Inside is = absurd (cc)
+idle_stage (stage.PassingOn passing) is = absurd (cc)
 idle_stage (stage.Refused named) is = absurd (cc)
 idle_stage (stage.Answering answering) is = absurd (cc)
 idle_stage (stage.Lingering lingering) is = absurd (cc)

@@ -7,11 +7,11 @@ use Rattle.bg_http_read.specs.Sequences.{AreRequestsOf}
 use Rattle.bg_client_side.specs.Outgoing.{Outgoing, with_written}
 use Rattle.bg_client_side.proofs.ReadSequences.{SequenceLaws, Has, read_has, kept_has, left_has, waiting_read, nothing_read, leaves_has, reading_goes_on, owing_goes_on, begun_since}
 use Rattle.bg_client_side.proofs.SoundLemmas.{both}
-use Rattle.bg_client_side.specs.Clients.{Client, ContinuesIf, FeedsIf, Finishes, WritesOn, WritesRest, answered, answering, at, at_until, begun_at, discarded_at, failed_at, left, next, taken}
+use Rattle.bg_client_side.specs.Clients.{Client, ContinuesIf, FeedsIf, Finishes, WritesOn, WritesRest, answered, answering, at, at_until, begun_at, begun_passing_on, cut_off, discarded_at, failed_at, left, looked, may_pass_on, next, passed_at, passing_on, stays_after, taken}
 use Rattle.bg_client_side.specs.Facts.{keeps_after, later}
 use Rattle.bg_client_side.specs.Laws.{GivesTheSequence}
-use Rattle.bg_client_side.specs.Runs.{Calls, ClientCall, answers, became_whole, begins_closing, continues, discards, ends_input, fails, feeds, looks, one_if, read_as, read_by, read_in, takes, whole_by, whole_in, writes}
-use Rattle.bg_client_side.specs.Stages.{as_answering, awaits_answer, goes_on, has_timeout, is_idle, owes_continue, reads, takes_bytes, waiting_request, was_whole}
+use Rattle.bg_client_side.specs.Runs.{Calls, ClientCall, answers, became_whole, begins_closing, begins_passing_on, continues, cuts, discards, ends_input, fails, feeds, looks, one_if, passes_on, read_as, read_by, read_in, takes, whole_by, whole_in, writes}
+use Rattle.bg_client_side.specs.Stages.{as_answering, awaits_answer, goes_on, has_timeout, is_idle, is_inside, is_passing_on, owes_continue, reads, takes_bytes, waiting_request, was_whole}
 use Rattle.bg_client_side.specs.declared.reading.Fed.{Fed}
 use Rattle.bg_client_side.specs.declared.stage.Answering.{Answering}
 use Rattle.bg_client_side.specs.declared.stage.Lingering.{Lingering}
@@ -56,34 +56,62 @@ takes_has requests came old has = go old.stage refl where
   go (stage.Waiting request) is =
       kept_has requests came old (at stage.Inside old) has refl (λ goes. ap goes_on is)
   go stage.Inside is = same
+  go (stage.PassingOn passing) is = same
   go (stage.Refused named) is = same
   go (stage.Answering answering) is = same
   go (stage.Lingering lingering) is = same
   go stage.Left is = same
 
--- a connection may go on after the answer to a request that was read whole
-whole_goes_on : (s : Stage) → awaits_answer s ≡ true → was_whole s ≡ true → goes_on s ≡ true
-whole_goes_on stage.Idle awaits whole = refl
-whole_goes_on stage.Reading awaits whole = refl
-whole_goes_on stage.Continuing awaits whole = refl
-whole_goes_on (stage.Waiting request) awaits whole = refl
-whole_goes_on stage.Inside awaits whole = refl
-whole_goes_on (stage.Refused named) awaits whole = absurd (cc)
-whole_goes_on (stage.Answering answering) awaits whole = absurd (cc)
-whole_goes_on (stage.Lingering lingering) awaits whole = absurd (cc)
-whole_goes_on stage.Left awaits whole = absurd (cc)
+-- a connection that goes on after an answer may go on before it
+goes_on_before : (c : Client) (persistence : Persistence) → (keeps persistence && stays_after c) ≡ true → goes_on c.stage ≡ true
+goes_on_before c persistence is =
+    let stays = (both (keeps persistence) (stays_after c) is).1 in
+    let whole = (both (goes_on c.stage && was_whole c.stage) (keeps_after c.facts) stays).0 in
+    (both (goes_on c.stage) (was_whole c.stage) whole).0
 
 answers_has : (requests : List Request) (came : List ℕ) (old : Client) (text : Outgoing) (persistence : Persistence) (now : ℕ)
     → Has requests came old → Has (requests ++ []) (came ++ []) (answered text persistence now old)
-answers_has requests came old text persistence now has = go (awaits_answer old.stage) refl old.facts.has_failed where
-  go : (b : Bool) → awaits_answer old.stage ≡ b → (failed : Bool)
+answers_has requests came old text persistence now has = go (awaits_answer old.stage) old.facts.has_failed where
+  go : (b failed : Bool)
       → Has (requests ++ []) (came ++ []) (cond b (cond failed (left old) (answering text persistence now old)) old)
-  go true awaits true = λ goes. absurd (cc)
-  go true awaits false =
-      kept_has requests came old (answering text persistence now old) has refl
-      (λ goes. whole_goes_on old.stage awaits (both (was_whole old.stage) (keeps_after old.facts)
-      (both (keeps persistence) (was_whole old.stage && keeps_after old.facts) goes).1).0)
-  go false awaits failed = kept_has requests came old old has refl (λ goes. goes)
+  go true true = λ goes. absurd (cc)
+  go true false =
+      kept_has requests came old (answering text persistence now old) has refl (goes_on_before old persistence)
+  go false failed = kept_has requests came old old has refl (λ goes. goes)
+
+begins_has : (requests : List Request) (came : List ℕ) (old : Client) (persistence : Persistence) (now : ℕ)
+    → Has requests came old → Has (requests ++ []) (came ++ []) (begun_passing_on persistence now old)
+begins_has requests came old persistence now has = go (may_pass_on old) where
+  go : (b : Bool) → Has (requests ++ []) (came ++ []) (cond b (passing_on persistence now old) old)
+  go true = kept_has requests came old (passing_on persistence now old) has refl (goes_on_before old persistence)
+  go false = kept_has requests came old old has refl (λ goes. goes)
+
+passes_has : (requests : List Request) (came : List ℕ) (old : Client) (count : ℕ) (waits : Bool) (now : ℕ)
+    → Has requests came old → Has (requests ++ []) (came ++ []) (passed_at old.stage count waits now old)
+passes_has requests came old count waits now has = go old.stage refl where
+  same : Has (requests ++ []) (came ++ []) old
+  same = kept_has requests came old old has refl (λ goes. goes)
+
+  go : (s : Stage) → old.stage ≡ s → Has (requests ++ []) (came ++ []) (passed_at s count waits now old)
+  go stage.Idle is = same
+  go stage.Reading is = same
+  go stage.Continuing is = same
+  go (stage.Waiting request) is = same
+  go stage.Inside is = same
+  go (stage.PassingOn passing) is =
+      kept_has requests came old (passed_at (stage.PassingOn passing) count waits now old) has refl
+      (λ goes. ap goes_on is ∙ goes)
+  go (stage.Refused named) is = same
+  go (stage.Answering answering) is = same
+  go (stage.Lingering lingering) is = same
+  go stage.Left is = same
+
+cuts_has : (requests : List Request) (came : List ℕ) (old : Client) → Has requests came old
+    → Has (requests ++ []) (came ++ []) (cut_off old)
+cuts_has requests came old has = go (is_passing_on old.stage) where
+  go : (b : Bool) → Has (requests ++ []) (came ++ []) (cond b (left old) old)
+  go true = left_has (requests ++ []) (came ++ []) old
+  go false = kept_has requests came old old has refl (λ goes. goes)
 
 answering_goes_on : (s : Stage) (a : Answering) → as_answering s ≡ Some a → goes_on s ≡ a.goes_on
 answering_goes_on stage.Idle a is = absurd (cc)
@@ -91,6 +119,7 @@ answering_goes_on stage.Reading a is = absurd (cc)
 answering_goes_on stage.Continuing a is = absurd (cc)
 answering_goes_on (stage.Waiting request) a is = absurd (cc)
 answering_goes_on stage.Inside a is = absurd (cc)
+answering_goes_on (stage.PassingOn passing) a is = absurd (cc)
 answering_goes_on (stage.Refused named) a is = absurd (cc)
 answering_goes_on (stage.Answering answering) a is = cc
 answering_goes_on (stage.Lingering lingering) a is = absurd (cc)
@@ -125,18 +154,20 @@ writes_has laws requests came old new count now result whole has is whole_is = g
 
 fails_has : (requests : List Request) (came : List ℕ) (old : Client) → Has requests came old
     → Has (requests ++ []) (came ++ []) (failed_at old.stage old)
-fails_has requests came old has = go old.stage where
-  go : (s : Stage) → Has (requests ++ []) (came ++ []) (failed_at s old)
-  go stage.Idle = left_has (requests ++ []) (came ++ []) old
-  go stage.Reading = left_has (requests ++ []) (came ++ []) old
-  go stage.Continuing = left_has (requests ++ []) (came ++ []) old
-  go (stage.Waiting request) = left_has (requests ++ []) (came ++ []) old
-  go stage.Inside =
-      kept_has requests came old (record old { facts = record old.facts { has_failed = true } }) has refl (λ goes. goes)
-  go (stage.Refused named) = left_has (requests ++ []) (came ++ []) old
-  go (stage.Answering answering) = left_has (requests ++ []) (came ++ []) old
-  go (stage.Lingering lingering) = left_has (requests ++ []) (came ++ []) old
-  go stage.Left = left_has (requests ++ []) (came ++ []) old
+fails_has requests came old has = go (is_inside old.stage) where
+  noted : Client
+  noted = record old { facts = record old.facts { has_failed = true } }
+
+  go : (b : Bool) → Has (requests ++ []) (came ++ []) (cond b noted (left old))
+  go true = kept_has requests came old noted has refl (λ goes. goes)
+  go false = left_has (requests ++ []) (came ++ []) old
+
+looks_has : (requests : List Request) (came : List ℕ) (old : Client) (now : ℕ) → Has requests came old
+    → Has (requests ++ []) (came ++ []) (looked old now)
+looks_has requests came old now has = go (has_timeout old.stage && nat_le old.facts.until now) where
+  go : (b : Bool) → Has (requests ++ []) (came ++ []) (cond b (failed_at old.stage old) old)
+  go true = fails_has requests came old has
+  go false = kept_has requests came old old has refl (λ goes. goes)
 
 discards_has : (requests : List Request) (came : List ℕ) (old : Client) (count : ℕ) → Has requests came old
     → Has (requests ++ []) (came ++ []) (discarded_at old.stage count old)
@@ -155,6 +186,7 @@ discards_has requests came old count has = go old.stage where
   go stage.Continuing = same
   go (stage.Waiting request) = same
   go stage.Inside = same
+  go (stage.PassingOn passing) = same
   go (stage.Refused named) = same
   go (stage.Answering answering) = same
   go (stage.Lingering lingering) = on lingering (nat_lt (later lingering.passed count) 16777216)
@@ -171,6 +203,12 @@ call_has laws requests came old new (takes request) has is =
 call_has laws requests came old new (answers text weight persistence now awaited) has is =
     subst (Has (requests ++ []) (came ++ [])) (sym is.1)
     (answers_has requests came old (record { sent = []; rest = text; weight = weight }) persistence now has)
+call_has laws requests came old new (begins_passing_on persistence now begun) has is =
+    subst (Has (requests ++ []) (came ++ [])) (sym is.1) (begins_has requests came old persistence now has)
+call_has laws requests came old new (passes_on bytes waits now passes) has is =
+    subst (Has (requests ++ []) (came ++ [])) (sym is.1) (passes_has requests came old (length bytes) waits now has)
+call_has laws requests came old new (cuts was) has is =
+    subst (Has (requests ++ []) (came ++ [])) (sym is.1) (cuts_has requests came old has)
 call_has laws requests came old new (writes bytes now result whole) has is =
     writes_has laws requests came old new (length bytes) now result whole has is.1 is.2
 call_has laws requests came old new ends_input has is =
@@ -184,7 +222,7 @@ call_has laws requests came old new fails has is =
 call_has laws requests came old new (discards count) has is =
     subst (Has (requests ++ []) (came ++ [])) (sym is) (discards_has requests came old count has)
 call_has laws requests came old new (looks now) has is =
-    leaves_has (has_timeout old.stage && nat_le old.facts.until now) requests came old old new has refl refl is
+    subst (Has (requests ++ []) (came ++ [])) (sym is) (looks_has requests came old now has)
 
 pub gives_the_sequence : SequenceLaws → (calls : List ClientCall) (old new : Client) (requests : List Request) (came : List ℕ)
     → GivesTheSequence old calls new requests came

@@ -3,13 +3,14 @@ use Rattle.std.proofs.Common.{◌≡◌, ◌∙◌, ℕ, ◌≤◌, Bool, true, 
 use Rattle.bg_http.specs.declared.persistence.Persistence.{Persistence}
 use Rattle.bg_http.specs.declared.request.Request.{Request}
 use Rattle.bg_client_side.specs.Outgoing.{Outgoing}
+use Rattle.bg_client_side.proofs.PassingSteps.{begins_step, cuts_step, passes_step}
 use Rattle.bg_client_side.proofs.ReadSteps.{feeds_step, continues_step}
 use Rattle.bg_client_side.proofs.Steps.{Step, stage_step, no_later_than_left, left_step, quiet_step, leaves_if}
 use Rattle.bg_client_side.proofs.WriteSteps.{writes_step}
 use Rattle.bg_client_side.specs.Clients.{Client, answered, answering, at, discarded_at, failed_at, left, taken}
 use Rattle.bg_client_side.specs.Facts.{later}
-use Rattle.bg_client_side.specs.Runs.{Calls, ClientCall, answers, begins_closing, continues, count_if, discards, ends_input, fails, feeds, looks, takes, writes}
-use Rattle.bg_client_side.specs.Stages.{awaits_answer, has_timeout, is_idle, rank, takes_bytes, to_write, waiting_request}
+use Rattle.bg_client_side.specs.Runs.{Calls, ClientCall, answers, answers_by, asked_by, begins_closing, begins_passing_on, continues, count_if, cuts, discards, ends_input, fails, feeds, given_by, looks, passes_on, takes, writes, written_by}
+use Rattle.bg_client_side.specs.Stages.{awaits_answer, has_timeout, is_idle, is_inside, rank, takes_bytes, to_write, waiting_request}
 use Rattle.bg_client_side.specs.declared.stage.Lingering.{Lingering}
 use Rattle.bg_client_side.specs.declared.stage.Stage.TheVariants as stage
 use Rattle.bg_client_side.specs.declared.stage.Stage.{Stage}
@@ -28,18 +29,20 @@ takes_step old new request is =
           stage_step old (at stage.Inside old) (takes request) stage.Inside refl refl refl refl (sym nothing)
           (omega (arith, awaits)) (omega (arith, early))
       go stage.Inside at_is = quiet_step old (takes request) refl refl refl refl
+      go (stage.PassingOn passing) at_is = quiet_step old (takes request) refl refl refl refl
       go (stage.Refused named) at_is = quiet_step old (takes request) refl refl refl refl
       go (stage.Answering answering) at_is = quiet_step old (takes request) refl refl refl refl
       go (stage.Lingering lingering) at_is = quiet_step old (takes request) refl refl refl refl
       go stage.Left at_is = quiet_step old (takes request) refl refl refl refl
 
 -- an answer is awaited
-awaiting : (s : Stage) → awaits_answer s ≡ true → (to_write s ≡ []) × (rank s ≤ 4)
+awaiting : (s : Stage) → awaits_answer s ≡ true → (to_write s ≡ []) × (rank s ≤ 5)
 awaiting stage.Idle is = absurd (cc)
 awaiting stage.Reading is = absurd (cc)
 awaiting stage.Continuing is = absurd (cc)
 awaiting (stage.Waiting request) is = (refl, omega arith)
 awaiting stage.Inside is = (refl, omega arith)
+awaiting (stage.PassingOn passing) is = (refl, omega arith)
 awaiting (stage.Refused named) is = (refl, omega arith)
 awaiting (stage.Answering answering) is = absurd (cc)
 awaiting (stage.Lingering lingering) is = absurd (cc)
@@ -81,20 +84,23 @@ answers_step old new text weight persistence now awaited is =
           }
       go false awaits failed = quiet_step old (answers text weight persistence now false) refl refl refl refl
 
-fails_step : (old new : Client) → Calls old fails new → Step old fails new
-fails_step old new is = subst (Step old fails) (sym is) (go old.stage) where
-  go : (s : Stage) → Step old fails (failed_at s old)
-  go stage.Inside =
-      leaves_if false old fails refl refl refl refl (record old { facts = record old.facts { has_failed = true } }) refl refl
-      (record old { facts = record old.facts { has_failed = true } }) refl
-  go stage.Idle = left_step old fails refl refl refl refl
-  go stage.Reading = left_step old fails refl refl refl refl
-  go stage.Continuing = left_step old fails refl refl refl refl
-  go (stage.Waiting request) = left_step old fails refl refl refl refl
-  go (stage.Refused named) = left_step old fails refl refl refl refl
-  go (stage.Answering answering) = left_step old fails refl refl refl refl
-  go (stage.Lingering lingering) = left_step old fails refl refl refl refl
-  go stage.Left = left_step old fails refl refl refl refl
+-- a call by which the connection has failed, and which neither gives an answer nor writes one
+failed_step : (old : Client) (call : ClientCall) → given_by call ≡ [] → written_by call ≡ [] → asked_by call ≡ 0
+    → answers_by call ≡ 0 → Step old call (failed_at old.stage old)
+failed_step old call given written asked none = go (is_inside old.stage) where
+  noted : Client
+  noted = record old { facts = record old.facts { has_failed = true } }
+
+  go : (b : Bool) → Step old call (cond b noted (left old))
+  go true = leaves_if false old call given written asked none noted refl refl noted refl
+  go false = left_step old call given written asked none
+
+looks_step : (old new : Client) (now : ℕ) → Calls old (looks now) new → Step old (looks now) new
+looks_step old new now is =
+    subst (Step old (looks now)) (sym is) (go (has_timeout old.stage && nat_le old.facts.until now)) where
+      go : (b : Bool) → Step old (looks now) (cond b (failed_at old.stage old) old)
+      go true = failed_step old (looks now) refl refl refl refl
+      go false = quiet_step old (looks now) refl refl refl refl
 
 discards_step : (old new : Client) (count : ℕ) → Calls old (discards count) new → Step old (discards count) new
 discards_step old new count is = subst (Step old (discards count)) (sym is) (go old.stage refl) where
@@ -116,6 +122,7 @@ discards_step old new count is = subst (Step old (discards count)) (sym is) (go 
   go stage.Continuing at_is = quiet_step old (discards count) refl refl refl refl
   go (stage.Waiting request) at_is = quiet_step old (discards count) refl refl refl refl
   go stage.Inside at_is = quiet_step old (discards count) refl refl refl refl
+  go (stage.PassingOn passing) at_is = quiet_step old (discards count) refl refl refl refl
   go (stage.Refused named) at_is = quiet_step old (discards count) refl refl refl refl
   go (stage.Answering answering) at_is = quiet_step old (discards count) refl refl refl refl
   go stage.Left at_is = quiet_step old (discards count) refl refl refl refl
@@ -125,6 +132,9 @@ step old new (feeds bytes now result whole) is = feeds_step old new bytes now re
 step old new (continues result whole) is = continues_step old new result whole is
 step old new (takes request) is = takes_step old new request is
 step old new (answers text weight persistence now awaited) is = answers_step old new text weight persistence now awaited is
+step old new (begins_passing_on persistence now begun) is = begins_step old new persistence now begun is
+step old new (passes_on bytes waits now passes) is = passes_step old new bytes waits now passes is
+step old new (cuts was) is = cuts_step old new was is
 step old new (writes bytes now result whole) is = writes_step old new bytes now result whole is
 step old new ends_input is =
     leaves_if (takes_bytes old.stage) old ends_input refl refl refl refl
@@ -132,7 +142,6 @@ step old new ends_input is =
 step old new begins_closing is =
     leaves_if (is_idle old.stage) old begins_closing refl refl refl refl
     (record old { facts = record old.facts { is_closing = true } }) refl refl new is
-step old new fails is = fails_step old new is
+step old new fails is = subst (Step old fails) (sym is) (failed_step old fails refl refl refl refl)
 step old new (discards count) is = discards_step old new count is
-step old new (looks now) is =
-    leaves_if (has_timeout old.stage && nat_le old.facts.until now) old (looks now) refl refl refl refl old refl refl new is
+step old new (looks now) is = looks_step old new now is

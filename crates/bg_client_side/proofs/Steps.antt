@@ -33,12 +33,13 @@ stage_step old new call s is same given written rest once later = record {
   forward = inr (same, subst (λ t. rank old.stage ≤ rank t) (sym is) later);
 }
 
-pub no_later_than_left : (s : Stage) → rank s ≤ 7
+pub no_later_than_left : (s : Stage) → rank s ≤ 8
 no_later_than_left stage.Idle = omega arith
 no_later_than_left stage.Reading = omega arith
 no_later_than_left stage.Continuing = omega arith
 no_later_than_left (stage.Waiting request) = omega arith
 no_later_than_left stage.Inside = omega arith
+no_later_than_left (stage.PassingOn passing) = omega arith
 no_later_than_left (stage.Refused named) = omega arith
 no_later_than_left (stage.Answering answering) = omega arith
 no_later_than_left (stage.Lingering lingering) = omega arith

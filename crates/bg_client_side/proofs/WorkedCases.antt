@@ -1,11 +1,11 @@
 -- Worked cases of a client's connection and of the seats.
 use Rattle.std.proofs.Common.{◌≡◌, ℕ, true, false, List, [], ◌∷◌, codes, refl, Some, None}
 use Rattle.bg_http.specs.Elements.{Field}
-use Rattle.bg_http.specs.declared.persistence.Persistence.TheVariants.{Keep}
+use Rattle.bg_http.specs.declared.persistence.Persistence.TheVariants.{Close, Keep}
 use Rattle.bg_http.specs.declared.refusal.RefusalBody.TheVariants.{Empty}
 use Rattle.bg_http.specs.declared.request.Request.{Request}
 use Rattle.bg_http.specs.declared.request_fault.RequestFault.TheVariants as fault
-use Rattle.bg_client_side.specs.Clients.{Client, accepted, answered, at, begun, closing, ended, failed_at, last_written, left, looked, next, received, stays_after, taken}
+use Rattle.bg_client_side.specs.Clients.{Client, accepted, answered, at, begun, begun_passing_on, closing, cut_off, ended, failed_at, last_written, left, looked, next, passed_at, received, stays_after, taken}
 use Rattle.bg_client_side.specs.Facts.{asks_to_keep}
 use Rattle.bg_client_side.specs.Seating.{first_seats, has, without}
 use Rattle.bg_client_side.specs.Stages.{to_write, waiting_request}
@@ -97,6 +97,55 @@ stays_inside = refl
 
 leaves_with_answer : (answered (record { sent = []; rest = codes "ok"; weight = 2 }) Keep 110 failed).stage ≡ stage.Left
 leaves_with_answer = refl
+
+-- A RESPONSE THAT IS PASSED ON
+
+-- to the first of two requests
+abbrev inside : Client
+inside = taken (waiting_request first.stage) first
+
+abbrev passes : Client
+passes = begun_passing_on Keep 110 inside
+
+keeps_as_its_head_said : stays_after passes ≡ true
+keeps_as_its_head_said = refl
+
+closes_as_its_head_said : stays_after (begun_passing_on Close 110 inside) ≡ false
+closes_as_its_head_said = refl
+
+-- its bytes wait at first, for 30 seconds
+in_time : looked passes 30109 ≡ passes
+in_time = refl
+
+fails_late : (looked passes 30110).facts.has_failed ≡ true
+fails_late = refl
+
+-- a client that is late has its request inside still
+stays_late : (looked passes 30110).stage ≡ passes.stage
+stays_late = refl
+
+-- no timeout runs while nothing waits, and a new one once bytes wait again
+abbrev drained : Client
+drained = passed_at passes.stage 5 false 120 passes
+
+is_never_late : looked drained 9000000 ≡ drained
+is_never_late = refl
+
+until_refilled : (passed_at drained.stage 0 true 9000000 drained).facts.until ≡ 9030000
+until_refilled = refl
+
+-- bytes that wait on do not renew it
+until_kept : (passed_at passes.stage 0 true 120 passes).facts.until ≡ 30110
+until_kept = refl
+
+leaves_cut : (cut_off drained).stage ≡ stage.Left
+leaves_cut = refl
+
+no_cut_before : cut_off inside ≡ inside
+no_cut_before = refl
+
+none_after_a_failure : begun_passing_on Keep 110 failed ≡ failed
+none_after_a_failure = refl
 
 -- what is no request is answered, and the connection does not go on
 no_request : stays_after (at (stage.Refused fault.Bad) (accepted for_two 100)) ≡ false

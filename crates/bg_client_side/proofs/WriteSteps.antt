@@ -21,6 +21,7 @@ no_answer stage.Reading is = refl
 no_answer stage.Continuing is = refl
 no_answer (stage.Waiting request) is = refl
 no_answer stage.Inside is = refl
+no_answer (stage.PassingOn passing) is = refl
 no_answer (stage.Refused named) is = refl
 no_answer (stage.Answering answering) is = absurd (cc)
 no_answer (stage.Lingering lingering) is = refl
@@ -34,7 +35,7 @@ drop_front (byte ∷ bytes) rest = drop_front bytes rest
 record IsAnswering (s : Stage) (a : Answering) : Type 0 where
   rest : to_write s ≡ a.text.rest
   none : awaits_answer s ≡ false
-  early : rank s ≡ 5
+  early : rank s ≡ 6
 
 is_answering : (s : Stage) (a : Answering) → as_answering s ≡ Some a → IsAnswering s a
 is_answering stage.Idle a is = absurd (cc)
@@ -42,6 +43,7 @@ is_answering stage.Reading a is = absurd (cc)
 is_answering stage.Continuing a is = absurd (cc)
 is_answering (stage.Waiting request) a is = absurd (cc)
 is_answering stage.Inside a is = absurd (cc)
+is_answering (stage.PassingOn passing) a is = absurd (cc)
 is_answering (stage.Refused named) a is = absurd (cc)
 is_answering (stage.Answering answering) a is = record {
   rest = cc;

@@ -1,5 +1,5 @@
 -- A connection of a client, and what events make of it.
-use Rattle.std.specs.Prelude.{◌≡◌, ℕ, ◌==◌, Bool, true, false, ◌&&◌, ◌||◌, if◌then◌else◌, List, [], ◌∷◌, ◌++◌, min, nat_le, nat_lt, IsFalse, Option, Some, None}
+use Rattle.std.specs.Prelude.{◌≡◌, ℕ, ◌==◌, Bool, true, false, ◌&&◌, ◌||◌, if◌then◌else◌, List, [], ◌∷◌, ◌++◌, min, not, nat_le, nat_lt, IsFalse, Option, Some, None}
 use Rattle.bg_http.specs.Persistences.{keeps}
 use Rattle.bg_http.specs.declared.persistence.Persistence.{Persistence}
 use Rattle.bg_http.specs.declared.request.Request.{Request}
@@ -8,13 +8,14 @@ use Rattle.bg_http_read.specs.RequestStates.{IsReadThen, IsRefusedAsked, LacksRe
 use Rattle.bg_http_read.specs.declared.refused_head.RefusedHead.{RefusedHead}
 use Rattle.bg_client_side.specs.Outgoing.{Outgoing, with_written}
 use Rattle.bg_client_side.specs.Facts.{asks_to_keep, keeps_after, later, next_facts}
-use Rattle.bg_client_side.specs.Stages.{as_answering, awaits_answer, has_timeout, is_idle, owes_continue, reads, takes_bytes, was_whole}
+use Rattle.bg_client_side.specs.Stages.{as_answering, awaits_answer, goes_on, has_timeout, is_handed_out, is_idle, is_inside, is_passing_on, owes_continue, reads, takes_bytes, was_whole}
 use Rattle.bg_client_side.specs.declared.facts.ClientFacts.{ClientFacts}
 use Rattle.bg_client_side.specs.declared.facts.ClientSettings.{ClientSettings}
 use Rattle.bg_client_side.specs.declared.reading.Fed.{Fed}
 use Rattle.bg_client_side.specs.declared.reading.Fed.TheVariants as fed
 use Rattle.bg_client_side.specs.declared.stage.Answering.{Answering}
 use Rattle.bg_client_side.specs.declared.stage.Lingering.{Lingering}
+use Rattle.bg_client_side.specs.declared.stage.PassingOn.{PassingOn}
 use Rattle.bg_client_side.specs.declared.stage.Stage.{Stage}
 use Rattle.bg_client_side.specs.declared.stage.Stage.TheVariants as stage
 
@@ -125,9 +126,10 @@ abbrev pub taken : Option Request → Client → Client
 taken (Some request) c = at stage.Inside c
 taken None c = c
 
--- the connection goes on after the answer to the request at hand, which was read whole
+-- the connection goes on after the answer to the request at hand, which was read whole; so it was said in the head of a
+-- response that is passed on
 abbrev pub stays_after : Client → Bool
-stays_after c = was_whole c.stage && keeps_after c.facts
+stays_after c = goes_on c.stage && was_whole c.stage && keeps_after c.facts
 
 -- a connection on which this answer is written
 abbrev pub answering : Outgoing → Persistence → ℕ → Client → Client
@@ -143,6 +145,40 @@ answering text persistence now c =
 abbrev pub answered : Outgoing → Persistence → ℕ → Client → Client
 answered text persistence now c =
     if awaits_answer c.stage then (if c.facts.has_failed then left c else answering text persistence now c) else c
+
+-- A RESPONSE THAT IS PASSED ON
+
+-- a response may begin to be passed on: the request is inside, nothing of its response was passed on, and the connection has
+-- not failed
+abbrev pub may_pass_on : Client → Bool
+may_pass_on c = is_handed_out c.stage && not c.facts.has_failed
+
+-- a connection on which a response is passed on, of which bytes wait
+abbrev pub passing_on : Persistence → ℕ → Client → Client
+passing_on persistence now c =
+    at_until (stage.PassingOn (record { goes_on = keeps persistence && stays_after c; waits = true })) (later now 30000) c
+
+-- a response begins to be passed on, if it may
+abbrev pub begun_passing_on : Persistence → ℕ → Client → Client
+begun_passing_on persistence now c = if may_pass_on c then passing_on persistence now c else c
+
+-- when the timeout of such a response ends after so many bytes of it were written: it is renewed if a byte was, and if bytes
+-- begin to wait
+abbrev pub until_passed : PassingOn → ℕ → Bool → ℕ → ℕ → ℕ
+until_passed p count waits until now =
+    if nat_lt 0 count || (waits && not p.waits) then later now 30000 else until
+
+-- so many bytes of it were written, and more wait or not; nothing changes if no response is passed on
+abbrev pub passed_at : Stage → ℕ → Bool → ℕ → Client → Client
+passed_at (stage.PassingOn p) count waits now c =
+    at_until (stage.PassingOn (record p { waits = waits })) (until_passed p count waits c.facts.until now) c
+passed_at other count waits now c = c
+
+-- the response cannot be passed on to its end: the connection leaves; nothing changes if no response is passed on
+abbrev pub cut_off : Client → Client
+cut_off c = if is_passing_on c.stage then left c else c
+
+-- THE ANSWER IS WRITTEN
 
 -- when the timeout of an answer ends after so many bytes of it were written: it is renewed if a byte was
 abbrev pub until_after : Answering → ℕ → ℕ → ℕ → ℕ
@@ -197,8 +233,7 @@ closing c =
 
 -- the connection failed: it leaves, unless its request is inside
 abbrev pub failed_at : Stage → Client → Client
-failed_at stage.Inside c = record c { facts = record c.facts { has_failed = true } }
-failed_at other c = left c
+failed_at s c = if is_inside s then record c { facts = record c.facts { has_failed = true } } else left c
 
 -- so many bytes were discarded in a lingering close, which ends at 16 MiB
 abbrev pub discarded_on : Lingering → ℕ → Client → Client
@@ -210,6 +245,6 @@ abbrev pub discarded_at : Stage → ℕ → Client → Client
 discarded_at (stage.Lingering l) count c = discarded_on l count c
 discarded_at other count c = c
 
--- a moment: a connection is late from the moment at which its timeout ends, and leaves
+-- a moment: a connection is late from the moment at which its timeout ends, and has failed
 abbrev pub looked : Client → ℕ → Client
-looked c now = if has_timeout c.stage && nat_le c.facts.until now then left c else c
+looked c now = if has_timeout c.stage && nat_le c.facts.until now then failed_at c.stage c else c

@@ -3,8 +3,8 @@ use Rattle.std.specs.Prelude.{◌≡◌, ℕ, ◌+◌, true, false, List, [], �
 use Rattle.bg_http.specs.declared.request.Request.{Request}
 use Rattle.bg_http_read.specs.Sequences.{AreRequestsOf}
 use Rattle.bg_client_side.specs.Clients.{Client, accepted}
-use Rattle.bg_client_side.specs.Runs.{Calls, ClientCall, IsNoEarlier, Runs, answers_by, answers_in, asked_in, count_if, given_in, read_in, whole_in, written_in}
-use Rattle.bg_client_side.specs.Stages.{awaits_answer, goes_on, has_left, is_idle, is_inside, to_write, waiting_request}
+use Rattle.bg_client_side.specs.Runs.{Calls, ClientCall, IsNoEarlier, Runs, answers_by, answers_in, asked_in, count_if, given_in, passed_in, read_in, whole_in, written_in}
+use Rattle.bg_client_side.specs.Stages.{awaits_answer, goes_on, has_left, is_idle, is_inside, is_passing_on, to_write, waiting_request}
 use Rattle.bg_client_side.specs.declared.facts.ClientSettings.{ClientSettings}
 
 -- what is left of the answer at hand and the answers that were given are, in their sequence, what was written and what is
@@ -16,7 +16,7 @@ IsWrittenInSequence old calls new =
     × (has_left new.stage ≡ false → cut ≡ [])
 
 -- each request that became whole, and each refusal, was answered once, except one for which an answer is awaited; and one
--- that was not answered, if the connection has left
+-- that was not answered, if the connection has left. A response that was cut counts as an answer
 abbrev pub IsAnsweredOnce : Client → List ClientCall → Client → Type 0
 IsAnsweredOnce old calls new =
     Runs old calls new
@@ -34,10 +34,24 @@ StaysLeft old calls new =
     Runs old calls new → has_left old.stage ≡ true
     → (has_left new.stage ≡ true) × (whole_in calls ≡ []) × (written_in calls ≡ [])
 
--- a connection whose request is inside leaves only by the answer to it
+-- a connection whose request is inside leaves only by the answer to it, or as its response is cut
 abbrev pub LeavesByAnswer : Client → ClientCall → Client → Type 0
 LeavesByAnswer old call new =
     Calls old call new → is_inside old.stage ≡ true → has_left new.stage ≡ true → answers_by call ≡ 1
+
+-- what calls did while a response was passed on: what they wrote is what they passed on, they read nothing, and the response
+-- is passed on still, after which a further request may be read, or not, as before
+pub record PassedOnAlone (old : Client) (calls : List ClientCall) (new : Client) : Type 0 where
+  pub only_it : written_in calls ≡ passed_in calls
+  pub none_read : read_in calls ≡ []
+  pub none_whole : whole_in calls ≡ []
+  pub passes_still : is_passing_on new.stage ≡ true
+  pub goes_on_as_before : goes_on new.stage ≡ goes_on old.stage
+
+-- so it is from the begin of the response until it is answered or cut
+abbrev pub PassesOnAlone : Client → List ClientCall → Client → Type 0
+PassesOnAlone old calls new =
+    Runs old calls new → is_passing_on old.stage ≡ true → answers_in calls ≡ 0 → PassedOnAlone old calls new
 
 -- an idle connection has no request that waits, is inside or awaits an answer, and no part of an answer is left
 pub record HasNone (c : Client) : Type 0 where

@@ -2,8 +2,8 @@
 use Rattle.std.specs.Prelude.{◌≡◌, ◌⊎◌, ℕ, ◌+◌, ◌<◌, ◌≤◌, Bool, true, false, List, [], ◌∷◌, ◌++◌, length, if◌then◌else◌, Option, Some, None}
 use Rattle.bg_http.specs.declared.persistence.Persistence.{Persistence}
 use Rattle.bg_http.specs.declared.request.Request.{Request}
-use Rattle.bg_client_side.specs.Clients.{Client, Continues, Feeds, Writes, answered, closing, discarded_at, ended, failed_at, looked, taken}
-use Rattle.bg_client_side.specs.Stages.{awaits_answer, rank, to_write, waiting_request}
+use Rattle.bg_client_side.specs.Clients.{Client, Continues, Feeds, Writes, answered, begun_passing_on, closing, cut_off, discarded_at, ended, failed_at, looked, may_pass_on, passed_at, taken}
+use Rattle.bg_client_side.specs.Stages.{awaits_answer, is_passing_on, rank, to_write, waiting_request}
 use Rattle.bg_client_side.specs.declared.reading.Fed.{Fed}
 use Rattle.bg_client_side.specs.declared.reading.Fed.TheVariants as fed
 
@@ -14,6 +14,12 @@ pub data ClientCall : Type 0 where
   takes : Option Request → ClientCall
   -- the text of an answer, the memory that it takes, whether it keeps the connection, a moment, and whether it was awaited
   answers : List ℕ → ℕ → Persistence → ℕ → Bool → ClientCall
+  -- whether the head of the response keeps the connection, a moment, and whether the response began to be passed on
+  begins_passing_on : Persistence → ℕ → Bool → ClientCall
+  -- these bytes of the response were written, whether more wait, a moment, and whether a response was passed on
+  passes_on : List ℕ → Bool → ℕ → Bool → ClientCall
+  -- whether a response was passed on
+  cuts : Bool → ClientCall
   -- these bytes were written
   writes : List ℕ → ℕ → Fed → Option Request → ClientCall
   ends_input : ClientCall
@@ -36,6 +42,11 @@ Calls old (takes request) new = (request ≡ waiting_request old.stage) × (new 
 Calls old (answers text weight persistence now awaited) new =
     (awaited ≡ awaits_answer old.stage)
     × (new ≡ answered (record { sent = []; rest = text; weight = weight }) persistence now old)
+Calls old (begins_passing_on persistence now begun) new =
+    (begun ≡ may_pass_on old) × (new ≡ begun_passing_on persistence now old)
+Calls old (passes_on bytes waits now passes) new =
+    (passes ≡ is_passing_on old.stage) × (new ≡ passed_at old.stage (length bytes) waits now old)
+Calls old (cuts was) new = (was ≡ is_passing_on old.stage) × (new ≡ cut_off old)
 Calls old (writes bytes now result whole) new =
     ((rest : List ℕ) × (to_write old.stage ≡ bytes ++ rest)) × Writes old (length bytes) now result new
     × (whole ≡ became_whole result new)
@@ -78,10 +89,19 @@ abbrev pub read_in : List ClientCall → List ℕ
 read_in [] = []
 read_in (call ∷ more) = read_by call ++ read_in more
 
--- the text of an answer that was given and awaited
+-- the bytes of a response that were passed on
+abbrev pub passed_by : ClientCall → List ℕ
+passed_by (passes_on bytes waits now passes) = if passes then bytes else []
+passed_by other = []
+
+abbrev pub passed_in : List ClientCall → List ℕ
+passed_in [] = []
+passed_in (call ∷ more) = passed_by call ++ passed_in more
+
+-- the text of an answer that was given and awaited, and the bytes of a response that were passed on
 abbrev pub given_by : ClientCall → List ℕ
 given_by (answers text weight persistence now awaited) = if awaited then text else []
-given_by other = []
+given_by other = passed_by other
 
 abbrev pub given_in : List ClientCall → List ℕ
 given_in [] = []
@@ -90,7 +110,7 @@ given_in (call ∷ more) = given_by call ++ given_in more
 -- what was written
 abbrev pub written_by : ClientCall → List ℕ
 written_by (writes bytes now result whole) = bytes
-written_by other = []
+written_by other = passed_by other
 
 abbrev pub written_in : List ClientCall → List ℕ
 written_in [] = []
@@ -116,9 +136,10 @@ abbrev pub asked_in : List ClientCall → ℕ
 asked_in [] = 0
 asked_in (call ∷ more) = asked_by call + asked_in more
 
--- how many answers were given that were awaited
+-- how many answers were given that were awaited; a response that was cut counts as one
 abbrev pub answers_by : ClientCall → ℕ
 answers_by (answers text weight persistence now awaited) = count_if awaited
+answers_by (cuts was) = count_if was
 answers_by other = 0
 
 abbrev pub answers_in : List ClientCall → ℕ

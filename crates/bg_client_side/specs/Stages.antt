@@ -1,5 +1,5 @@
 -- The stages of a connection.
-use Rattle.std.specs.Prelude.{ℕ, Bool, true, false, List, [], Option, Some, None}
+use Rattle.std.specs.Prelude.{ℕ, Bool, true, false, ◌||◌, List, [], Option, Some, None}
 use Rattle.bg_http.specs.declared.request.Request.{Request}
 use Rattle.bg_client_side.specs.declared.stage.Answering.{Answering}
 use Rattle.bg_client_side.specs.declared.stage.Stage.{Stage}
@@ -33,15 +33,25 @@ abbrev pub waiting_request : Stage → Option Request
 waiting_request (stage.Waiting request) = Some request
 waiting_request other = None
 
+-- the request was handed out, and nothing of its response was passed on
+abbrev pub is_handed_out : Stage → Bool
+is_handed_out stage.Inside = true
+is_handed_out other = false
+
+-- a response is passed on as it comes
+abbrev pub is_passing_on : Stage → Bool
+is_passing_on (stage.PassingOn passing) = true
+is_passing_on other = false
+
 -- the request was handed out, and holds a seat
 abbrev pub is_inside : Stage → Bool
-is_inside stage.Inside = true
-is_inside other = false
+is_inside s = is_handed_out s || is_passing_on s
 
 -- an answer may be given
 abbrev pub awaits_answer : Stage → Bool
 awaits_answer (stage.Waiting request) = true
 awaits_answer stage.Inside = true
+awaits_answer (stage.PassingOn passing) = true
 awaits_answer (stage.Refused named) = true
 awaits_answer other = false
 
@@ -49,6 +59,7 @@ awaits_answer other = false
 abbrev pub was_whole : Stage → Bool
 was_whole (stage.Waiting request) = true
 was_whole stage.Inside = true
+was_whole (stage.PassingOn passing) = true
 was_whole (stage.Answering answering) = answering.was_whole
 was_whole (stage.Lingering lingering) = lingering.was_whole
 was_whole other = false
@@ -58,6 +69,7 @@ abbrev pub has_timeout : Stage → Bool
 has_timeout stage.Idle = true
 has_timeout stage.Reading = true
 has_timeout stage.Continuing = true
+has_timeout (stage.PassingOn passing) = passing.waits
 has_timeout (stage.Answering answering) = true
 has_timeout (stage.Lingering lingering) = true
 has_timeout other = false
@@ -74,6 +86,7 @@ to_write other = []
 
 -- a further request may be read on the connection
 abbrev pub goes_on : Stage → Bool
+goes_on (stage.PassingOn passing) = passing.goes_on
 goes_on (stage.Refused named) = false
 goes_on (stage.Answering answering) = answering.goes_on
 goes_on (stage.Lingering lingering) = false
@@ -92,7 +105,8 @@ rank stage.Reading = 1
 rank stage.Continuing = 1
 rank (stage.Waiting request) = 2
 rank stage.Inside = 3
-rank (stage.Refused named) = 4
-rank (stage.Answering answering) = 5
-rank (stage.Lingering lingering) = 6
-rank stage.Left = 7
+rank (stage.PassingOn passing) = 4
+rank (stage.Refused named) = 5
+rank (stage.Answering answering) = 6
+rank (stage.Lingering lingering) = 7
+rank stage.Left = 8

@@ -29,10 +29,12 @@ impl ClientConnection {
         }
     }
 
-    /// Gives the text of an answer: to the request that waits or is inside, or to what came and is no request. Its
-    /// `persistence` is that of the text: the connection goes on after it only if the text says so, and if
-    /// [`Self::persistence`] does. The seat of a request that is inside is free from then on, as far as the connection is
-    /// concerned. Gives whether an answer was awaited; otherwise nothing changes.
+    /// Gives the text of an answer: to the request that waits or is inside, or to what came and is no request. If a
+    /// response is passed on, it is whole, and the text is the rest of it; of an empty one, [`Self::wrote`] notes that no
+    /// byte was written. Its `persistence` is that of the text: the connection goes on after it only if the text says so,
+    /// and if [`Self::persistence`] does. The seat of a request that is inside is free from then on, as far as the
+    /// connection is concerned. A connection that has failed leaves. Gives whether an answer was awaited; otherwise nothing
+    /// changes.
     pub fn answer(&mut self, text: Vec<u8>, persistence: Persistence, now: u64) -> bool
         ensures awaited { result ≡ awaits_answer self.old.stage }
         ensures new { self.new
@@ -57,7 +59,7 @@ impl ClientConnection {
     }
 
     /// Whether the connection goes on after an answer with this persistence.
-    fn goes_on_after(&self, persistence: Persistence) -> bool
+    pub(crate) fn goes_on_after(&self, persistence: Persistence) -> bool
         ensures { result ≡ (keeps persistence && stays_after self.now) }
     {
         persistence == Persistence::Keep && self.persistence() == Persistence::Keep

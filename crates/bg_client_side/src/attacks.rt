@@ -1,6 +1,7 @@
 //! Clients that send well, badly or not at all, and clients that wait for seats.
 
 mod events;
+mod passing;
 mod pieces;
 mod seats;
 
@@ -26,6 +27,7 @@ enum Where {
     Continuing,
     Waiting,
     Inside,
+    PassingOn,
     Refused(RequestFault),
     Answering,
     Lingering,
@@ -39,6 +41,7 @@ fn where_of(connection: &ClientConnection) -> Where {
         Stage::Continuing => Where::Continuing,
         Stage::Waiting(_) => Where::Waiting,
         Stage::Inside => Where::Inside,
+        Stage::PassingOn(_) => Where::PassingOn,
         Stage::Refused(fault) => Where::Refused(*fault),
         Stage::Answering(_) => Where::Answering,
         Stage::Lingering(_) => Where::Lingering,

@@ -83,7 +83,7 @@ impl ClientConnection {
         ) && !self.facts.has_ended
     }
 
-    /// What is to be written now: the rest of the answer.
+    /// What is to be written now: the rest of the answer. The caller holds the bytes of a response that is passed on.
     pub fn rest(&self) -> &[u8]
         ensures { result.now ≡ to_write self.now.stage }
     {
@@ -107,7 +107,7 @@ impl ClientConnection {
         matches!(self.stage, Stage::Idle)
     }
 
-    /// Whether a request was handed out, and no answer was given.
+    /// Whether a request was handed out, and its answer is not whole: none was given, or a response is passed on.
     pub fn is_inside(&self) -> bool
         ensures { result ≡ is_inside self.now.stage }
     {
@@ -124,7 +124,8 @@ impl ClientConnection {
         }
     }
 
-    /// Whether the connection failed while its request was inside, so that the request may be given up.
+    /// Whether the connection failed while its request was inside, or its client was late to take a response that is passed
+    /// on. So the request may be given up, and such a response be cut.
     pub fn has_failed(&self) -> bool
         ensures { result ≡ self.now.facts.has_failed }
     {
@@ -144,7 +145,7 @@ impl ClientConnection {
         ensures { result ≡ was_whole self.now.stage }
     {
         match &self.stage {
-            Stage::Waiting(_) | Stage::Inside => true,
+            Stage::Waiting(_) | Stage::Inside | Stage::PassingOn(_) => true,
             Stage::Answering(answering) => answering.was_whole,
             Stage::Lingering(lingering) => lingering.was_whole,
             _ => false,
@@ -184,11 +185,11 @@ impl ClientConnection {
     /// Whether the connection is to go on after the answer to the request at hand, so that the text of the answer does not
     /// say `Connection: close` (RFC 9112 section 9.3). It is if the request was read whole, its version is 1.1, no element of
     /// its Connection fields is `close`, fewer than the most requests were answered with this one, no shutdown has begun,
-    /// and connections are kept.
+    /// and connections are kept. While a response is passed on or an answer is written, it is only if that one lets it.
     pub fn persistence(&self) -> Persistence
         ensures { keeps result ≡ stays_after self.now }
     {
-        if self.was_whole() && self.facts.keeps_after() {
+        if self.stage.goes_on() && self.was_whole() && self.facts.keeps_after() {
             Persistence::Keep
         } else {
             Persistence::Close

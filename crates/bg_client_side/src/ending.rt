@@ -30,7 +30,7 @@ impl ClientConnection {
     }
 
     /// Notes that the connection was reset, that a read or a write on it failed, or that its caller closes it. It leaves,
-    /// unless its request is inside: then it leaves with the answer to its request.
+    /// unless its request is inside: then it leaves with the answer to its request, or as its response is cut.
     pub fn fail(&mut self)
         ensures { self.new ≡ failed_at self.old.stage self.old }
     {
@@ -58,13 +58,14 @@ impl ClientConnection {
         }
     }
 
-    /// Lets a connection leave whose timeout has passed: that of an idle connection, of a request, of an answer or of a
-    /// lingering close. A request that waits or is inside has none here.
+    /// Notes as failed a connection whose timeout has passed: that of an idle connection, of a request, of an answer, of a
+    /// response of which bytes wait for the client, or of a lingering close. So it leaves, unless its response is passed
+    /// on. A request that waits has none here, and one that is inside only while bytes of its response wait.
     pub fn look(&mut self, now: u64)
         ensures { self.new ≡ looked self.old now }
     {
         if self.stage.has_timeout() && self.facts.until <= now {
-            self.stage = Stage::Left;
+            self.fail();
         }
     }
 }

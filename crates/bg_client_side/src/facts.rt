@@ -32,7 +32,7 @@ pub struct ClientFacts {
     pub(crate) until: u64,
     /// Whether the client has ended its input.
     pub(crate) has_ended: bool,
-    /// Whether the connection failed while its request was inside.
+    /// Whether the connection failed, or was late, while its request was inside.
     pub(crate) has_failed: bool,
     /// Whether a shutdown has begun.
     pub(crate) is_closing: bool,

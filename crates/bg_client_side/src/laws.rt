@@ -3,18 +3,20 @@ ghost use Rattle.std.specs.Prelude.{[], List, ℕ};
 ghost use Rattle.bg_http.specs.declared.request.Request.{Request};
 ghost use Rattle.bg_client_side.specs.Clients.{Client};
 ghost use Rattle.bg_client_side.specs.Laws.{GivesTheSequence, GoesForward, IdleHasAnswered, IdleHasNone};
-ghost use Rattle.bg_client_side.specs.Laws.{IsAnsweredOnce, IsWrittenInSequence, LeavesByAnswer, StaysLeft};
+ghost use Rattle.bg_client_side.specs.Laws.{IsAnsweredOnce, IsWrittenInSequence, LeavesByAnswer, PassesOnAlone, StaysLeft};
 ghost use Rattle.bg_client_side.specs.Runs.{ClientCall};
 ghost use Rattle.bg_client_side.specs.declared.facts.ClientSettings.{ClientSettings};
 
 /// What was written to a connection, and what is left of the answer at hand, are in their sequence the answers that were
-/// given for this connection. A part of an answer is cut off only if the connection has left.
+/// given for this connection. A response that is passed on is such an answer: its bytes are given as they are written, and
+/// the rest of it with its end. A part of an answer is cut off only if the connection has left.
 pub fn answers_are_written_in_sequence()
     ensures { (calls : List ClientCall) (old new : Client) → IsWrittenInSequence old calls new }
 {}
 
-/// Each request of a connection, and each refusal, is answered once. Only a request that waits or is inside, or a refusal
-/// that is to be given, is not yet answered; and one of them never is, if the connection has left.
+/// Each request of a connection, and each refusal, is answered once; a response that is cut counts as an answer. Only a
+/// request that waits or is inside, or a refusal that is to be given, is not yet answered; and one of them never is, if the
+/// connection has left.
 pub fn each_request_is_answered_once()
     ensures { (calls : List ClientCall) (old new : Client) → IsAnsweredOnce old calls new }
 {}
@@ -25,10 +27,16 @@ pub fn a_connection_goes_forward()
 {}
 
 /// A connection that has left stays so, reads no request and writes nothing. One whose request is inside leaves only by the
-/// answer to that request.
+/// answer to that request, or as its response is cut.
 pub fn a_connection_leaves_once()
     ensures stays { (calls : List ClientCall) (old new : Client) → StaysLeft old calls new }
     ensures inside { (old new : Client) (call : ClientCall) → LeavesByAnswer old call new }
+{}
+
+/// While a response is passed on, nothing else is written, no byte is read, and no request becomes whole. The response is
+/// passed on until it is answered or cut, and what its head told of the connection stays.
+pub fn a_response_is_passed_on_alone()
+    ensures { (calls : List ClientCall) (old new : Client) → PassesOnAlone old calls new }
 {}
 
 /// An idle connection has no request that waits or is inside, so it holds no seat, and it has answered all that came to it.

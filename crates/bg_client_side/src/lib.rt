@@ -10,6 +10,7 @@ mod ending;
 mod facts;
 pub mod laws;
 mod outgoing;
+mod passing;
 mod reading;
 pub mod seat_laws;
 mod seats;

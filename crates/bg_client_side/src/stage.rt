@@ -1,8 +1,8 @@
 //! The stages of a connection.
 ghost use Rattle.std.specs.Prelude.{◌≡◌, IfErr, IfOk, None, OnErr};
 ghost use Rattle.bg_client_side.specs.Outgoing.{with_written};
-ghost use Rattle.bg_client_side.specs.Clients.{until_after};
-ghost use Rattle.bg_client_side.specs.Stages.{as_answering, awaits_answer, has_timeout, is_inside, reads, takes_bytes, waiting_request};
+ghost use Rattle.bg_client_side.specs.Clients.{until_after, until_passed};
+ghost use Rattle.bg_client_side.specs.Stages.{as_answering, awaits_answer, goes_on, has_timeout, is_handed_out, is_inside, is_passing_on, reads, takes_bytes, waiting_request};
 ghost use Rattle.bg_client_side.specs.declared.stage.Stage.TheVariants as stage;
 
 use crate::facts::later;
@@ -32,6 +32,15 @@ pub struct Answering {
     pub(crate) last: u64,
 }
 
+/// A response that is passed on as it comes. Its caller holds its bytes.
+#[derive(Clone, Copy, Drop)]
+pub struct PassingOn {
+    /// Whether the connection goes on after it, as its head told the client.
+    pub(crate) goes_on: bool,
+    /// Whether bytes of it wait for the client.
+    pub(crate) waits: bool,
+}
+
 /// A lingering close: the writing side is shut, and what still comes is discarded (RFC 9112 section 9.6).
 #[derive(Clone, Copy, Drop)]
 pub struct Lingering {
@@ -53,6 +62,8 @@ pub enum Stage {
     Waiting(Request),
     /// The request was handed out, and holds a seat.
     Inside,
+    /// Its response is passed on as it comes. The request holds its seat still.
+    PassingOn(PassingOn),
     /// What came is no request, and its refusal is to be written.
     Refused(RequestFault),
     /// An answer is written.
@@ -95,6 +106,19 @@ impl Answering {
     }
 }
 
+impl PassingOn {
+    /// When its timeout ends after so many bytes were written, and more wait or not, if it ended at `until` before.
+    pub(crate) fn until_passed(&self, count: usize, waits: bool, until: u64, now: u64) -> u64
+        ensures { result ≡ until_passed self.now count waits until now }
+    {
+        if count > 0 || waits && !self.waits {
+            later(now, STILL_MILLIS)
+        } else {
+            until
+        }
+    }
+}
+
 impl Drop for Stage {
     /// Drops the fields by one call, so that the proofs of what owns a value are short (CONTRIBUTING.md, "What a check costs").
     fn drop(self) {
@@ -104,6 +128,7 @@ impl Drop for Stage {
             | Stage::Reading
             | Stage::Continuing
             | Stage::Inside
+            | Stage::PassingOn(_)
             | Stage::Refused(_)
             | Stage::Lingering(_)
             | Stage::Left => {}
@@ -147,14 +172,44 @@ impl Stage {
     pub(crate) fn awaits_answer(&self) -> bool
         ensures { result ≡ awaits_answer self.now }
     {
-        matches!(self, Stage::Waiting(_) | Stage::Inside | Stage::Refused(_))
+        matches!(
+            self,
+            Stage::Waiting(_) | Stage::Inside | Stage::PassingOn(_) | Stage::Refused(_)
+        )
     }
 
-    /// Whether the request was handed out, and no answer was given.
+    /// Whether the request was handed out, and nothing of its response was passed on.
+    pub(crate) fn is_handed_out(&self) -> bool
+        ensures { result ≡ is_handed_out self.now }
+    {
+        matches!(self, Stage::Inside)
+    }
+
+    /// Whether a response is passed on.
+    pub(crate) fn is_passing_on(&self) -> bool
+        ensures { result ≡ is_passing_on self.now }
+    {
+        matches!(self, Stage::PassingOn(_))
+    }
+
+    /// Whether the request was handed out, and holds a seat.
     pub(crate) fn is_inside(&self) -> bool
         ensures { result ≡ is_inside self.now }
     {
-        matches!(self, Stage::Inside)
+        self.is_handed_out() || self.is_passing_on()
+    }
+
+    /// Whether a further request may be read on the connection.
+    pub(crate) fn goes_on(&self) -> bool
+        ensures { result ≡ goes_on self.now }
+    {
+        match self {
+            Stage::Idle | Stage::Reading | Stage::Continuing | Stage::Waiting(_) | Stage::Inside =>
+                true,
+            Stage::PassingOn(passing) => passing.goes_on,
+            Stage::Answering(answering) => answering.goes_on,
+            Stage::Refused(_) | Stage::Lingering(_) | Stage::Left => false,
+        }
     }
 
     /// Whether a connection leaves where its input ends at this stage.
@@ -174,6 +229,7 @@ impl Stage {
             | Stage::Continuing
             | Stage::Answering(_)
             | Stage::Lingering(_) => true,
+            Stage::PassingOn(passing) => passing.waits,
             Stage::Waiting(_) | Stage::Inside | Stage::Refused(_) | Stage::Left => false,
         }
     }

@@ -2,14 +2,21 @@
 
 use super::{SETTINGS, Where, where_of};
 use crate::client_connection::ClientConnection;
+use bg_http::Persistence;
 use std::alloc::{AllocError, Global};
 
 /// What happens on a connection.
-enum Event {
+pub(super) enum Event {
     Came(&'static [u8], u64),
     Continued,
     Take,
     Answer(&'static [u8], u64),
+    /// A response begins to be passed on, whose head has this persistence.
+    Begin(Persistence, u64),
+    Passed(usize, bool, u64),
+    /// The rest of a response, which lets the connection be kept.
+    Rest(&'static [u8], u64),
+    Cut,
     Wrote(usize, u64),
     End,
     Closing,
@@ -18,10 +25,10 @@ enum Event {
     Look(u64),
 }
 
-struct Attack {
-    name: &'static str,
-    events: &'static [Event],
-    ends: Where,
+pub(super) struct Attack {
+    pub(super) name: &'static str,
+    pub(super) events: &'static [Event],
+    pub(super) ends: Where,
 }
 
 fn carry_out(
@@ -42,6 +49,16 @@ fn carry_out(
         Event::Answer(text, now) => {
             let persistence = connection.persistence();
             connection.answer(Vec::from_slice(alloc, text)?, persistence, *now);
+        }
+        Event::Begin(persistence, now) => {
+            connection.begin_passing_on(*persistence, *now);
+        }
+        Event::Passed(count, waits, now) => connection.passed_on(*count, *waits, *now),
+        Event::Rest(text, now) => {
+            connection.answer(Vec::from_slice(alloc, text)?, Persistence::Keep, *now);
+        }
+        Event::Cut => {
+            connection.cut();
         }
         Event::Wrote(count, now) => {
             connection.wrote(*count, *now);
@@ -71,7 +88,10 @@ fn end_of(alloc: Global, attack: &Attack) -> Result<Option<Where>, AllocError> {
 }
 
 /// The name of the first attack that does not end as it should, and where it ends.
-fn first_wrong(alloc: Global, attacks: &[Attack]) -> Option<(&'static str, Option<Where>)> {
+pub(super) fn first_wrong(
+    alloc: Global,
+    attacks: &[Attack],
+) -> Option<(&'static str, Option<Where>)> {
     for attack in attacks {
         match end_of(alloc, attack) {
             Ok(ends) if ends == Some(attack.ends) => {}
@@ -82,9 +102,9 @@ fn first_wrong(alloc: Global, attacks: &[Attack]) -> Option<(&'static str, Optio
     None
 }
 
-const GET: &[u8] = b"GET / HTTP/1.1\r\nHost: x\r\n\r\n";
+pub(super) const GET: &[u8] = b"GET / HTTP/1.1\r\nHost: x\r\n\r\n";
 
-const TWO: &[u8] = b"GET / HTTP/1.1\r\nHost: x\r\n\r\nGET / HTTP/1.1\r\nHost: x\r\n\r\n";
+pub(super) const TWO: &[u8] = b"GET / HTTP/1.1\r\nHost: x\r\n\r\nGET / HTTP/1.1\r\nHost: x\r\n\r\n";
 
 const EXPECTS: &[u8] =
     b"POST / HTTP/1.1\r\nHost: x\r\nExpect: 100-continue\r\nContent-Length: 2\r\n\r\na";
