@@ -14,7 +14,7 @@ LEAST_BLOCKS = 8
 PLACES = re.compile(r"\bNAME\b|\bN\b|\bA\b|\bB\b|\bR\b|\.\.|\bLINE\b|\bREPLY\b|\bpre\b")
 
 SWITCH_PLACES = re.compile(
-    r"\bactive\b|\bN\b|\bM\b|\bP\b|\bPATH\b|\bWORD\b|\bFILE\b|\bLINE\b|\bNAME\b|\.\.|\b60\b|\b1000000\b"
+    r"\bactive\b|\bN\b|\bM\b|\bP\b|\bPATH\b|\bWORD\b|\bFILE\b|\bLINE\b|\bNAME\b|\bADDRESS\b|\.\.|\b60\b|\b1000000\b"
     r"|\bBG_SWITCH_\w+|(?<=control )port\b|\) (?=can't be bound)"
 )
 

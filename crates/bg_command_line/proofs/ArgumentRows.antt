@@ -8,9 +8,9 @@ use Rattle.clap.specs.Kinds.{range_kinds}
 use Rattle.clap.specs.Faults.{level_fault, use_fault, walk_fault, repeat_fault}
 use Rattle.clap.specs.declared.builder.value_parser.Reading.TheVariants as reading
 use Rattle.clap.specs.declared.parser.matches.ValueSource.TheVariants as value_source
-use Rattle.bg_command_line.specs.CommandLine.{number_rule, required_rule, count_rule, flag_rule_required_if, rule_required_if, text_rule_required_if, word_rule_required_if}
+use Rattle.bg_command_line.specs.CommandLine.{number_rule, required_rule, count_rule, flag_rule_required_if, rule_required_if, text_rule_required_if, texts_rule_required_if, word_rule_required_if}
 use Rattle.bg_command_line.proofs.WordsTaken.{none_else, walk_keeps, settled_keeps}
-use Rattle.bg_command_line.proofs.ValuesAccepted.{AreGood, is_accepted, flag_full, option_full, use_keeps, with_values_keeps}
+use Rattle.bg_command_line.proofs.ValuesAccepted.{AreGood, append_keeps, is_accepted, flag_full, option_full, use_keeps, with_values_keeps}
 
 abbrev pub Keeps : List Rule → Rule → Type 0
 Keeps c a = (values : List Text) (rows : List Row) → AreGood c rows → use_fault false a values rows ≡ [] → AreGood c (used a values rows)
@@ -54,6 +54,11 @@ text_keeps c required name own values rows g e =
     let f = none_else (range_kinds 1 1 (length values)) _ e in
     let h = none_else (repeat_fault false (text_rule_required_if required name).id rows) _ f.1 in
     use_keeps c (held (text_rule_required_if required name)) reading.AsWritten value_source.CommandLine _ rows own (option_full (held (text_rule_required_if required name)) values f.0) h.1 g
+
+pub texts_keeps : (c : List Rule) (required : Bool) (name : Text) → arg_by_id c (texts_rule_required_if required name).id ≡ Some (held (texts_rule_required_if required name)) → Keeps c (held (texts_rule_required_if required name))
+texts_keeps c required name own values rows g e =
+    let f = none_else (range_kinds 1 1 (length values)) _ e in
+    append_keeps c (held (texts_rule_required_if required name)) reading.AsWritten value_source.CommandLine _ rows own (option_full (held (texts_rule_required_if required name)) values f.0) f.1 g
 
 pub word_keeps : (c : List Rule) (required : Bool) (name : Text) → arg_by_id c (word_rule_required_if required name).id ≡ Some (held (word_rule_required_if required name)) → Keeps c (held (word_rule_required_if required name))
 word_keeps c required name own values rows g e =

@@ -6,4 +6,5 @@ pub mod SubcommandRows
 pub mod AcceptedWords
 pub mod ErrorKinds
 mod Additions
+pub mod ListenSteps
 pub mod BadAddresses

@@ -12,11 +12,11 @@ use Rattle.clap.specs.Kinds.{check_kinds}
 use Rattle.clap.specs.Faults.{level_fault, walk_fault, settle_fault, defaults_fault}
 use Rattle.clap.specs.declared.builder.value_parser.ValueParser.TheVariants as value_parser
 use Rattle.clap.proofs.ValueTestLemmas.{accepts-Accepts}
-use Rattle.bg_command_line.specs.CommandLine.{IsIn, HasWordsOfServe, journal_app, program, replay_app, serve_app, number_rule, required_rule, count_rule, flag_rule, forever_rule, rule_required_if, text_rule, text_rule_required_if, word_rule_required_if}
+use Rattle.bg_command_line.specs.CommandLine.{IsIn, HasWordsOfServe, journal_app, program, replay_app, serve_app, number_rule, required_rule, count_rule, flag_rule, forever_rule, rule_required_if, text_rule, text_rule_required_if, texts_rule, word_rule_required_if}
 use Rattle.bg_command_line.specs.declared.invocation.Flags.{Flags}
 use Rattle.bg_command_line.proofs.WordsTaken.{none_else}
 use Rattle.bg_command_line.proofs.ValuesAccepted.{AreGood, has_none, first_accepted}
-use Rattle.bg_command_line.proofs.ArgumentRows.{Keeps, Each, held, number_keeps, required_keeps, required_if_keeps, text_keeps, word_keeps, count_keeps, flag_keeps, help_keeps, DefaultKeeps, no_default_keeps, flag_default_keeps, help_default_keeps, leaf_good}
+use Rattle.bg_command_line.proofs.ArgumentRows.{Keeps, Each, held, number_keeps, required_keeps, required_if_keeps, text_keeps, texts_keeps, word_keeps, count_keeps, flag_keeps, help_keeps, DefaultKeeps, no_default_keeps, flag_default_keeps, help_default_keeps, leaf_good}
 
 abbrev pub built_sub : Shape → Shape
 built_sub s = built_leaf (inherited (with_leaf_noted (marked_built (program (record { forever = false; concurrency = false; socket = false })).top)) s)
@@ -129,12 +129,15 @@ serve_keeps flags = let c = (serve flags).rules in (
   (
     number_keeps c (codes "preview") 65535 refl,
     (
-      required_if_keeps c (not flags.socket) (codes "control") 65535 refl,
+      texts_keeps c false (codes "listen") refl,
       (
-        text_keeps c flags.socket (codes "control-socket") refl,
+        required_if_keeps c (not flags.socket) (codes "control") 65535 refl,
         (
-          number_keeps c (codes "control-socket-mode") 777 refl,
-          (text_keeps c false (codes "control-socket-group") refl, worker_and_later_keep flags),
+          text_keeps c flags.socket (codes "control-socket") refl,
+          (
+            number_keeps c (codes "control-socket-mode") 777 refl,
+            (text_keeps c false (codes "control-socket-group") refl, worker_and_later_keep flags),
+          ),
         ),
       ),
     ),
@@ -201,12 +204,15 @@ serve_defaults flags = let c = (serve flags).rules in (
   (
     no_default_keeps c (held (number_rule (codes "preview") 65535)) refl,
     (
-      no_default_keeps c (held (rule_required_if (not flags.socket) (codes "control") 65535)) refl,
+      no_default_keeps c (held (texts_rule (codes "listen"))) refl,
       (
-        no_default_keeps c (held (text_rule_required_if flags.socket (codes "control-socket"))) refl,
+        no_default_keeps c (held (rule_required_if (not flags.socket) (codes "control") 65535)) refl,
         (
-          no_default_keeps c (held (number_rule (codes "control-socket-mode") 777)) refl,
-          (no_default_keeps c (held (text_rule (codes "control-socket-group"))) refl, worker_and_later_defaults flags),
+          no_default_keeps c (held (text_rule_required_if flags.socket (codes "control-socket"))) refl,
+          (
+            no_default_keeps c (held (number_rule (codes "control-socket-mode") 777)) refl,
+            (no_default_keeps c (held (text_rule (codes "control-socket-group"))) refl, worker_and_later_defaults flags),
+          ),
         ),
       ),
     ),

@@ -89,13 +89,19 @@ all_same p q (v ∷ vs) e h = go (p v) (e v) h (all_same p q vs e)
 accepted_own : (c : List Rule) (a : Rule) (v : Text) → arg_by_id c a.id ≡ Some a → value_passes a v ≡ is_accepted c a.id v
 accepted_own c a v own = sym (ap (λ (o : Option Rule). option_map_or (λ x. value_passes x v) o true) own)
 
+-- a use that adds these values
+pub append_keeps : (c : List Rule) (a : Rule) (how : Reading) (from : ValueSource) (values : List Text) (rows : List Row) → arg_by_id c a.id ≡ Some a
+    → has_none values ≡ false → values_fault a values ≡ [] → AreGood c rows → AreGood c (with_values a.id how from values rows)
+append_keeps c a how from values rows own full accepted g =
+    let all : list_all (value_passes a) values ≡ true = values_accepted _ _ values accepted in
+    let same : list_all (is_accepted c a.id) values ≡ true = all_same (value_passes a) (is_accepted c a.id) values (λ x. accepted_own c a x own) all in
+    with_values_keeps c a.id how from values rows full same g
+
 -- a use that has these values
 pub use_keeps : (c : List Rule) (a : Rule) (how : Reading) (from : ValueSource) (values : List Text) (rows : List Row) → arg_by_id c a.id ≡ Some a
     → has_none values ≡ false → values_fault a values ≡ [] → AreGood c rows → AreGood c (with_values a.id how from values (without a.id rows))
 use_keeps c a how from values rows own full accepted g =
-    let all : list_all (value_passes a) values ≡ true = values_accepted _ _ values accepted in
-    let same : list_all (is_accepted c a.id) values ≡ true = all_same (value_passes a) (is_accepted c a.id) values (λ x. accepted_own c a x own) all in
-    with_values_keeps c a.id how from values (without a.id rows) full same (without_keeps c a.id rows g)
+    append_keeps c a how from values (without a.id rows) own full accepted (without_keeps c a.id rows g)
 
 -- a use of an option that wants one value has one
 pub option_full : (a : Rule) (values : List Text) → range_kinds 1 1 (length values) ≡ [] → has_none (values_or_missing a values) ≡ false

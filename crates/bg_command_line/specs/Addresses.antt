@@ -57,6 +57,6 @@ abbrev pub IsEndpointFault : List Row → AddressFault → Type 0
 IsEndpointFault rows fault = (text : Text) × (first_of (codes "endpoint-address") rows ≡ Some text) × IsFaultOf text fault
 
 -- `--endpoint-address` is given with a text that writes no address, or one to which no connection can be opened
-abbrev pub HasBadAddress : List Row → Type 0
-HasBadAddress rows = (text : Text) × (first_of (codes "endpoint-address") rows ≡ Some text)
+abbrev pub HasBadEndpointAddress : List Row → Type 0
+HasBadEndpointAddress rows = (text : Text) × (first_of (codes "endpoint-address") rows ≡ Some text)
     × (HasNoAddress text ⊎ IsNoDestination text)

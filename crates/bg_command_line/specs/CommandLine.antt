@@ -8,9 +8,11 @@ use Rattle.clap.specs.Kinds.{or_else}
 use Rattle.clap.specs.Words.{App, IsAmong, IsUnsignedIn, Kinds, Row, Rule, Text, fault_of, first_of, kind_of, new_app, new_rule, subcommand_of, with_rule, with_subcommand}
 use Rattle.clap.specs.declared.error.Error.{Error}
 use Rattle.clap.specs.declared.error.kind.ErrorKind.TheVariants as kind
-use Rattle.clap.specs.declared.builder.action.ArgAction.TheVariants.{SetTrue}
+use Rattle.clap.specs.declared.builder.action.ArgAction.TheVariants.{Append, SetTrue}
 use Rattle.clap.specs.declared.builder.value_parser.ValueParser.TheVariants as value_parser
-use Rattle.bg_command_line.specs.Addresses.{HasBadAddress, IsEndpointAddress}
+use Rattle.bg_command_line.specs.Addresses.{IsEndpointAddress}
+use Rattle.bg_command_line.specs.GivenAddresses.{HasBadAddress}
+use Rattle.bg_command_line.specs.ListenAddresses.{AreListenAddresses, listed, listen_texts}
 use Rattle.bg_command_line.specs.declared.command_option.CommandOption.{CommandOption}
 use Rattle.bg_command_line.specs.declared.command_option.OptionValue.{OptionValue}
 use Rattle.bg_command_line.specs.declared.command_option.OptionValue.TheVariants as option_value
@@ -57,6 +59,10 @@ text_rule name = record (new_rule name) {
   parser = Some value_parser.NonEmptyString;
 }
 
+-- the same, which may be given several times
+abbrev pub texts_rule : Text → Rule
+texts_rule name = record (text_rule name) { action = Some Append }
+
 -- the word NAME, a text that is not empty
 abbrev pub word_rule : Text → Rule
 word_rule name = record (new_rule name) {
@@ -72,11 +78,16 @@ word_rule_required_if required name = record (word_rule name) { required = requi
 abbrev pub text_rule_required_if : Bool → Text → Rule
 text_rule_required_if required name = record (text_rule name) { required = required }
 
--- the flag `--NAME`, `--NAME N` with N from 1 to the number, `--NAME TEXT`, or the word NAME
+-- `--NAME TEXT` several times, of which one is required if `required` says so
+abbrev pub texts_rule_required_if : Bool → Text → Rule
+texts_rule_required_if required name = record (texts_rule name) { required = required }
+
+-- the flag `--NAME`, `--NAME N` with N from 1 to the number, `--NAME TEXT` once or several times, or the word NAME
 abbrev pub rule_of_kind : OptionValue → Bool → Text → Rule
 rule_of_kind option_value.Nothing required name = flag_rule_required_if required name
 rule_of_kind (option_value.UpTo most) required name = rule_required_if required name most
 rule_of_kind (option_value.Text value) required name = text_rule_required_if required name
+rule_of_kind (option_value.Texts value) required name = texts_rule_required_if required name
 rule_of_kind (option_value.Word value) required name = word_rule_required_if required name
 
 -- the rule of an option
@@ -97,9 +108,11 @@ journal_app = with_rule (with_rule (with_rule (new_app (codes "journal")) (flag_
     (text_rule (codes "ports")))
     (word_rule_required_if true (codes "file"))
 
--- `--active P [--preview P]`
+-- `--active P [--preview P] [--listen ADDRESS]..`
 abbrev pub with_port_rules : App → App
-with_port_rules a = with_rule (with_rule a (required_rule (codes "active") 65535)) (number_rule (codes "preview") 65535)
+with_port_rules a = with_rule (with_rule (with_rule a (required_rule (codes "active") 65535))
+    (number_rule (codes "preview") 65535))
+    (texts_rule (codes "listen"))
 
 -- `--control P`, `--control-socket PATH`, `[--control-socket-mode MODE]` and `[--control-socket-group GROUP]`; of the first
 -- two the second is required if `socket` holds, else the first
@@ -154,10 +167,10 @@ with_journal_rule a = with_rule a (text_rule (codes "journal"))
 abbrev pub with_connection_rules : Bool → App → App
 with_connection_rules forever a = with_rule (with_rule a (count_rule forever)) (forever_rule forever)
 
--- `serve --active P [--preview P] [--control-socket-mode MODE] [--control-socket-group GROUP] [--preview-concurrency M]
--- [--threads N] [--redispatch] [--endpoint-limit M] [--endpoint-address ADDRESS] [--abort-on-close] [--shutdown-grace S]
--- [--error-pages] [--keep-alive] [--keep-alive-timeout S] [--keep-alive-requests N] [--endpoint-keep-alive-timeout S]
--- [--journal FILE]`, with `--control P` or `--control-socket PATH` or both, `--workers N` or `--concurrency N`, and `--count K`
+-- `serve --active P [--preview P] [--listen ADDRESS].. [--control-socket-mode MODE] [--control-socket-group GROUP]
+-- [--preview-concurrency M] [--threads N] [--redispatch] [--endpoint-limit M] [--endpoint-address ADDRESS] [--abort-on-close]
+-- [--shutdown-grace S] [--error-pages] [--keep-alive] [--keep-alive-timeout S] [--keep-alive-requests N]
+-- [--endpoint-keep-alive-timeout S] [--journal FILE]`, with `--control P` or `--control-socket PATH` or both, `--workers N` or `--concurrency N`, and `--count K`
 -- or `--forever`; the flags say which of each two is required
 abbrev pub serve_app : Flags → App
 serve_app flags = with_connection_rules flags.forever (with_journal_rule (with_keep_alive_rules (with_client_rules
@@ -287,6 +300,7 @@ pub record IsServe (flags : Flags) (rows : List Row) (settings : ServeSettings) 
   pub active_is : IsGiven 1 65535 (codes "active") rows settings.active
   pub preview_is : settings.preview ≡ number_of (codes "preview") rows
   pub preview_range : IfSome settings.preview (IsBetween 1 65535)
+  pub listen_is : AreListenAddresses (listen_texts rows) (listed settings.listen)
   pub control_is : settings.control ≡ number_of (codes "control") rows
   pub control_range : IfSome settings.control (IsBetween 1 65535)
   pub control_given : flags.socket ≡ false → is_some settings.control ≡ true

@@ -1,7 +1,7 @@
 //! The addresses among the words.
 ghost use Rattle.std.specs.Prelude.{◌≡◌, IfOk, IfErr, MatchOption};
 ghost use Rattle.clap.specs.Words.{found_of, rows_of};
-ghost use Rattle.bg_command_line.specs.Addresses.{HasBadAddress, HasNoAddress, IsAddressText, IsDestination, IsEndpointAddress, IsEndpointFault, IsFaultOf};
+ghost use Rattle.bg_command_line.specs.Addresses.{HasBadEndpointAddress, HasNoAddress, IsAddressText, IsDestination, IsEndpointAddress, IsEndpointFault, IsFaultOf};
 
 use crate::arguments::argument_text;
 use clap::ArgMatches;
@@ -35,7 +35,7 @@ impl fmt::Display for AddressFault<'_> {
 /// The address of the endpoints: that of `--endpoint-address`, or 127.0.0.1.
 pub(crate) fn endpoint_address_of<'a>(matches: &ArgMatches<'a>) -> Result<IpAddr, AddressFault<'a>>
     ensures address { IfOk result (IsEndpointAddress (rows_of (found_of matches.now))) }
-    ensures fault { IfErr result (λ _. HasBadAddress (rows_of (found_of matches.now))) }
+    ensures fault { IfErr result (λ _. HasBadEndpointAddress (rows_of (found_of matches.now))) }
     ensures why { IfErr result (IsEndpointFault (rows_of (found_of matches.now))) }
 {
     match argument_text(matches, "endpoint-address") {
@@ -57,7 +57,7 @@ fn destination_in<'a>(text: &'a str) -> Result<IpAddr, AddressFault<'a>>
 }
 
 /// The address that a text writes. An IPv6 address that is IPv4-mapped stands for the IPv4 address in it.
-fn address_in(text: &str) -> Option<IpAddr>
+pub(crate) fn address_in(text: &str) -> Option<IpAddr>
     ensures { MatchOption result (HasNoAddress text.now) (IsAddressText text.now) }
 {
     match text.parse::<IpAddr>() {

@@ -1,6 +1,6 @@
 //! The arguments among the matches of `clap`.
-ghost use Rattle.std.specs.Prelude.{◌≡◌, Some, is_some, option_map, true};
-ghost use Rattle.clap.specs.Words.{first_of, found_of, rows_of};
+ghost use Rattle.std.specs.Prelude.{◌≡◌, Some, is_some, map, option_map, true};
+ghost use Rattle.clap.specs.Words.{all_of, first_of, found_of, rows_of};
 ghost use Rattle.bg_command_line.specs.CommandLine.{has_flag};
 
 use clap::ArgMatches;
@@ -20,6 +20,13 @@ pub(crate) fn argument_text<'a>(matches: &ArgMatches<'a>, id: &str) -> Option<&'
     ensures { option_map (λ t. t.now) result ≡ first_of id.now (rows_of (found_of matches.now)) }
 {
     matches.get_str(id)
+}
+
+/// The texts of an argument, in the order of the words, if it is given.
+pub(crate) fn argument_texts<'m, 'a>(matches: &'m ArgMatches<'a>, id: &str) -> Option<&'m [&'a str]>
+    ensures { option_map (λ texts. map (λ t. t.now) texts.now) result ≡ all_of id.now (rows_of (found_of matches.now)) }
+{
+    matches.get_strs(id)
 }
 
 /// The text of an argument that is required.

@@ -24,6 +24,8 @@ With --forever, the workers take connections without a limit, up to a graceful s
 The active port has --workers or --concurrency workers. The preview port has --preview-concurrency workers. Where
 that isn't given, it has one with --workers, and with --concurrency an eighth of that number, but at least one.
 --preview-concurrency has no effect without --preview.
+With --listen, both of these ports are at each of its addresses, where whoever reaches them is served, without TLS.
+:: has IPv6 addresses alone. An address can't stand beside 0.0.0.0 or :: of its family.
 With --control-socket, who may write to the file may order. Its mode is --control-socket-mode, and its group
 --control-socket-group. A file that an earlier run left there is replaced, and the file is removed at the end.
 With --redispatch, a request for which the switch can't connect to an endpoint goes to another endpoint of the same
@@ -55,6 +57,9 @@ that revision other ports, as many as there are replicas; it has no effect witho
 serve takes, on ports of 127.0.0.1:
   --active P   port of clients whose requests go to the active revision, 1 to 65535; has to be given
   --preview P  that of the revision under preview, 1 to 65535; no such port where it isn't given
+  --listen ADDRESS
+               IPv4 or IPv6 address at which these two ports are, as 0.0.0.0 or fd00::2, up to eight times;
+               127.0.0.1 where it isn't given; the control port is at 127.0.0.1 alone
   --control P  port at which operators' lines are answered, 1 to 65535; has to be given,
                unless --control-socket is
   --control-socket PATH
@@ -168,10 +173,10 @@ fn journal_command<'a>(alloc: Global) -> Result<Command<'a>, AllocError>
     with_options(alloc, named, &[restart, ports, file])
 }
 
-/// `serve --active P [--preview P] [--control-socket-mode MODE] [--control-socket-group GROUP] [--preview-concurrency M]
-/// [--threads N] [--redispatch] [--endpoint-limit M] [--endpoint-address ADDRESS] [--abort-on-close] [--shutdown-grace S]
-/// [--error-pages] [--keep-alive] [--keep-alive-timeout S] [--keep-alive-requests N] [--endpoint-keep-alive-timeout S]
-/// [--journal FILE]`, with `--control P` or `--control-socket PATH` or both, `--workers N` or `--concurrency N`, and `--count K`
+/// `serve --active P [--preview P] [--listen ADDRESS].. [--control-socket-mode MODE] [--control-socket-group GROUP]
+/// [--preview-concurrency M] [--threads N] [--redispatch] [--endpoint-limit M] [--endpoint-address ADDRESS] [--abort-on-close]
+/// [--shutdown-grace S] [--error-pages] [--keep-alive] [--keep-alive-timeout S] [--keep-alive-requests N]
+/// [--endpoint-keep-alive-timeout S] [--journal FILE]`, with `--control P` or `--control-socket PATH` or both, `--workers N` or `--concurrency N`, and `--count K`
 /// or `--forever`. The flags say which of each two is required.
 fn serve_command<'a>(alloc: Global, flags: Flags) -> Result<Command<'a>, AllocError>
     ensures app { IfOk result (λ c. app_of c ≡ serve_app flags) }

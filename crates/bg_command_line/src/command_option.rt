@@ -2,7 +2,7 @@
 ghost use Rattle.std.specs.Prelude.{◌≡◌, IfOk, false, fold, map};
 ghost use Rattle.clap.specs.Words.{app_of, rule_of, with_rule};
 ghost use Rattle.clap.specs.declared.builder.command.Command.TheViews.{out-Command as fields_of};
-ghost use Rattle.bg_command_line.specs.CommandLine.{flag_rule, number_rule, option_rule, text_rule, word_rule};
+ghost use Rattle.bg_command_line.specs.CommandLine.{flag_rule, number_rule, option_rule, text_rule, texts_rule, word_rule};
 
 use clap::builder::ValueParser;
 use clap::{Arg, ArgAction, Command};
@@ -17,6 +17,8 @@ pub(crate) enum OptionValue<'a> {
     UpTo(u64),
     /// A text that is not empty. The help calls it by this word.
     Text(&'a str),
+    /// Texts that are not empty, each after a `--NAME` of its own. The help calls one by this word.
+    Texts(&'a str),
     /// A text that is not empty, as a word of its own without `--NAME`: a positional argument. The help calls it by
     /// this word.
     Word(&'a str),
@@ -55,6 +57,14 @@ fn text_argument<'a>(alloc: Global, name: &'a str, value: &'a str) -> Arg<'a>
         .value_parser(ValueParser::NonEmptyString)
 }
 
+/// The same, which may be given several times.
+fn texts_argument<'a>(alloc: Global, name: &'a str, value: &'a str) -> Arg<'a>
+    ensures rule { rule_of result ≡ texts_rule name.entry.now }
+    ensures local { result.global ≡ false }
+{
+    text_argument(alloc, name, value).action(ArgAction::Append)
+}
+
 /// The optional word `NAME`, a text that is not empty, which the help calls `value`.
 fn word_argument<'a>(alloc: Global, name: &'a str, value: &'a str) -> Arg<'a>
     ensures rule { rule_of result ≡ word_rule name.entry.now }
@@ -82,6 +92,7 @@ fn argument<'a>(alloc: Global, option: &CommandOption<'a>) -> Arg<'a>
         OptionValue::Nothing => flag(alloc, option.name),
         OptionValue::UpTo(most) => number_argument(alloc, option.name, most),
         OptionValue::Text(value) => text_argument(alloc, option.name, value),
+        OptionValue::Texts(value) => texts_argument(alloc, option.name, value),
         OptionValue::Word(value) => word_argument(alloc, option.name, value),
     };
     argument.required(option.required).help(option.help)

@@ -3,9 +3,9 @@ ghost use Rattle.std.specs.Prelude.{◌≡◌, IfOk};
 ghost use Rattle.clap.specs.Words.{kind_of};
 ghost use Rattle.bg_command_line.specs.CommandLine.{IsConflict, IsFaultFrom, IsValueFault};
 
-use crate::addresses::AddressFault;
 use crate::arguments::argument_text;
 use crate::command_line::error_of_serve;
+use crate::given_addresses::BadAddress;
 use crate::invocation::InvocationFault;
 use clap::error::ErrorKind;
 use clap::{ArgMatches, Error};
@@ -46,18 +46,18 @@ pub(crate) fn fault_of(error: Error) -> InvocationFault
 }
 
 /// The fault for a bad address.
-pub(crate) fn address_fault(alloc: Global, fault: AddressFault) -> InvocationFault
+pub(crate) fn address_fault(alloc: Global, bad: BadAddress) -> InvocationFault
     ensures { IsValueFault result }
 {
-    match address_error(alloc, fault) {
+    match address_error(alloc, bad) {
         Ok(error) => InvocationFault::Words(error),
         Err(_) => InvocationFault::OutOfMemory,
     }
 }
 
-fn address_error(alloc: Global, fault: AddressFault) -> Result<Error, AllocError>
+fn address_error(alloc: Global, bad: BadAddress) -> Result<Error, AllocError>
     ensures { IfOk result (λ e. kind_of e ≡ ErrorKind.ValueValidation) }
 {
-    let message = format!(in alloc; "{fault}")?;
+    let message = format!(in alloc; "{bad}")?;
     error_of_serve(alloc, ErrorKind::ValueValidation, message.as_str())
 }

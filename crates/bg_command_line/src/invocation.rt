@@ -3,6 +3,7 @@ ghost use Rattle.std.specs.Prelude.{◌≡◌, ◌↔◌, IsTrue};
 ghost use Rattle.bg_command_line.specs.CommandLine.{AsksForVersion};
 ghost use Rattle.bg_command_line.specs.declared.invocation.InvocationFault.TheVariants.{OutOfMemory};
 
+use crate::listen_addresses::ListenAddresses;
 use clap::Error;
 use clap::error::ErrorKind;
 use std::alloc::AllocError;
@@ -86,7 +87,9 @@ pub struct ServeSettings<'a> {
     pub active: u16,
     /// The port of the preview service, if it is given.
     pub preview: Option<u16>,
-    /// The control port, if it is given. It or the control socket is.
+    /// The addresses at which both of them listen (those of nginx's `listen` and of HAProxy's `bind`).
+    pub listen: ListenAddresses,
+    /// The control port, if it is given. It or the control socket is. It is at 127.0.0.1.
     pub control: Option<u16>,
     /// The control socket, if it is given.
     pub control_socket: Option<ControlSocket<'a>>,

@@ -6,7 +6,9 @@ mod arguments;
 mod command_line;
 mod command_option;
 mod faults;
+mod given_addresses;
 mod invocation;
+mod listen_addresses;
 mod message_timeout;
 mod numbers;
 mod serve_options;
@@ -15,5 +17,6 @@ mod words;
 pub use invocation::{
     Connections, ControlSocket, Invocation, InvocationFault, KeepAlive, ServeSettings,
 };
+pub use listen_addresses::{ListenAddresses, are_of_one_family};
 pub use message_timeout::{MessageTimeout, TIMEOUT_VARIABLE};
 pub use words::parse_command_line;

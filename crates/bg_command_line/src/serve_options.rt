@@ -26,14 +26,14 @@ const MOST_IDLE_SECONDS: u64 = 3_600;
 /// How many connections a worker may take, or how many requests a connection may carry.
 const MOST_COUNT: u64 = 1_000_000;
 
-/// The options of `serve`: `--active P [--preview P]`; `--control P`, `--control-socket PATH`, `[--control-socket-mode MODE]`
-/// and `[--control-socket-group GROUP]`; `--workers N`, `--concurrency N`, `[--preview-concurrency M]` and `[--threads N]`;
-/// `[--redispatch] [--endpoint-limit M]
+/// The options of `serve`: `--active P [--preview P] [--listen ADDRESS]..`; `--control P`, `--control-socket PATH`,
+/// `[--control-socket-mode MODE]` and `[--control-socket-group GROUP]`; `--workers N`, `--concurrency N`,
+/// `[--preview-concurrency M]` and `[--threads N]`; `[--redispatch] [--endpoint-limit M]
 /// [--endpoint-address ADDRESS]`; `[--abort-on-close] [--shutdown-grace S] [--error-pages]`; `[--keep-alive]
 /// [--keep-alive-timeout S] [--keep-alive-requests N] [--endpoint-keep-alive-timeout S]`; `[--journal FILE]`; `--count K` and
 /// `--forever`. The flags say which of `--control` and `--control-socket` is required, which of `--workers` and
 /// `--concurrency`, and which of `--count` and `--forever`.
-pub(crate) fn serve_options<'a>(flags: Flags) -> [CommandOption<'a>; 23]
+pub(crate) fn serve_options<'a>(flags: Flags) -> [CommandOption<'a>; 24]
     ensures { (before : App) → fold with_rule before (map option_rule result) ≡ with_connection_rules flags.forever
         (with_journal_rule (with_keep_alive_rules (with_client_rules (with_endpoint_rules (with_worker_rules flags.concurrency
         (with_control_rules flags.socket (with_port_rules before))))))) }
@@ -50,6 +50,12 @@ pub(crate) fn serve_options<'a>(flags: Flags) -> [CommandOption<'a>; 23]
             value: OptionValue::UpTo(GREATEST_PORT),
             required: false,
             help: "The port of 127.0.0.1 whose requests go to the revision under preview, 1 to 65535; none where it isn't given",
+        },
+        CommandOption {
+            name: "listen",
+            value: OptionValue::Texts("ADDRESS"),
+            required: false,
+            help: "The IPv4 or IPv6 address at which those two ports are, up to eight times; 127.0.0.1 where it isn't given; the control port is at 127.0.0.1 alone",
         },
         CommandOption {
             name: "control",

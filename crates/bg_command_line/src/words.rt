@@ -4,11 +4,12 @@ ghost use Rattle.std.specs.List.{list_any};
 ghost use Rattle.clap.specs.Words.{IsUnsignedIn, first_of, found_of, rows_of};
 ghost use Rattle.bg_command_line.specs.Addresses.{IsEndpointAddress};
 ghost use Rattle.bg_command_line.specs.CommandLine.{AreConnections, AreWorkers, IsAddressFault, HasWordsOfServe, IsBetween, IsFaultIn, IsIn, IsKnown, IsInvocationIn, IsInvocationOf, IsControlSocket, IsKeepAlive, IsMode, default_preview_workers, flags_of, has_flag, has_option, has_word, is_in_conflict, is_option, number, number_of};
+ghost use Rattle.bg_command_line.specs.ListenAddresses.{AreListenAddresses, listed, listen_texts};
 
-use crate::addresses::endpoint_address_of;
 use crate::arguments::{argument_text, has_flag, required_text};
 use crate::command_line::program_command;
 use crate::faults::{address_fault, conflict_fault, fault_of};
+use crate::given_addresses::{GivenAddresses, addresses_of};
 use crate::invocation::{
     Connections, ControlSocket, Flags, Invocation, InvocationFault, KeepAlive, ServeSettings,
 };
@@ -18,7 +19,6 @@ use crate::numbers::{
 };
 use clap::ArgMatches;
 use std::alloc::Global;
-use std::net::IpAddr;
 
 /// The number of seats of a replay if `--seats` is not given.
 const DEFAULT_SEATS: u8 = 4;
@@ -43,14 +43,16 @@ const DEFAULT_KEPT_REQUESTS: u32 = 1_000;
 /// P]` with `--control P` or `--control-socket PATH` or both, with ports from 1 to 65535, either `--workers N` with N from 1 to 7 or `--concurrency N`
 /// with N from 1 to 1023, and either `--count K` with K from 1 to 1,000,000 or `--forever`. `serve` also takes
 /// `--preview-concurrency M` and `--endpoint-limit M` with M from 1 to 1023, `--threads N` with N from 1 to 64,
-/// `--redispatch`, `--endpoint-address ADDRESS`, `--abort-on-close`, `--error-pages`, `--shutdown-grace S` with S from 1 to 60,
+/// `--redispatch`, `--endpoint-address ADDRESS`, `--listen ADDRESS` up to eight times, `--abort-on-close`, `--error-pages`,
+/// `--shutdown-grace S` with S from 1 to 60,
 /// `--control-socket-mode MODE` with MODE from 1 to 777, `--control-socket-group GROUP`, `--keep-alive`,
 /// `--keep-alive-timeout S` and `--endpoint-keep-alive-timeout S` with S from 1 to 3,600, `--keep-alive-requests N` with N from
 /// 1 to 1,000,000, and `--journal FILE`. A value may also follow its option after `=`, in the same word.
 ///
 /// The error is `Words` only if `clap` refuses the words, if they ask for help or for the version, if
-/// both `--count` and `--forever` are given, or both `--workers` and `--concurrency`, or if ADDRESS is no IPv4 or IPv6 address
-/// (RFC 4291 section 2.2), 0.0.0.0 or `::`. It is `OutOfMemory` if an allocation fails.
+/// both `--count` and `--forever` are given, or both `--workers` and `--concurrency`, or if an ADDRESS is no IPv4 or IPv6 address
+/// (RFC 4291 section 2.2), if that of `--endpoint-address` is 0.0.0.0 or `::`, or if one of `--listen` is the same as one before,
+/// is 0.0.0.0 or `::` beside another one of its family, or is the ninth. It is `OutOfMemory` if an allocation fails.
 pub fn parse_command_line<'a>(
     alloc: Global,
     words: &'a [&'a str],
@@ -151,9 +153,9 @@ fn invocation_of<'a>(
             Ok(Invocation::Journal { path })
         }
     } else {
-        match endpoint_address_of(matches) {
-            Ok(address) => Ok(serve_of(flags, address, matches)),
-            Err(fault) => Err(address_fault(alloc, fault)),
+        match addresses_of(matches) {
+            Ok(addresses) => Ok(serve_of(flags, addresses, matches)),
+            Err(bad) => Err(address_fault(alloc, bad)),
         }
     }
 }
@@ -170,9 +172,10 @@ fn seats_of(matches: &ArgMatches) -> u8
     }
 }
 
-fn serve_of<'a>(flags: Flags, endpoint_address: IpAddr, matches: &ArgMatches<'a>) -> Invocation<'a>
+fn serve_of<'a>(flags: Flags, addresses: GivenAddresses, matches: &ArgMatches<'a>) -> Invocation<'a>
     requires words { HasWordsOfServe flags (rows_of (found_of matches.now)) }
-    requires address { IsEndpointAddress (rows_of (found_of matches.now)) endpoint_address }
+    requires endpoint { IsEndpointAddress (rows_of (found_of matches.now)) addresses.endpoint }
+    requires listen { AreListenAddresses (listen_texts (rows_of (found_of matches.now))) (listed addresses.listen) }
     ensures { IsInvocationOf flags (codes "serve") (rows_of (found_of matches.now)) result }
 {
     let workers = workers_of(flags.concurrency, matches);
@@ -182,6 +185,7 @@ fn serve_of<'a>(flags: Flags, endpoint_address: IpAddr, matches: &ArgMatches<'a>
             Some(text) => Some(port_in(text)),
             None => None,
         },
+        listen: addresses.listen,
         control: control_of(matches),
         control_socket: control_socket_of(matches),
         workers,
@@ -189,7 +193,7 @@ fn serve_of<'a>(flags: Flags, endpoint_address: IpAddr, matches: &ArgMatches<'a>
         threads: threads_of(matches),
         redispatch: has_flag(matches, "redispatch"),
         endpoint_limit: endpoint_limit_of(matches),
-        endpoint_address,
+        endpoint_address: addresses.endpoint,
         abort_on_close: has_flag(matches, "abort-on-close"),
         shutdown_grace: shutdown_grace_of(matches),
         error_pages: has_flag(matches, "error-pages"),

@@ -15,7 +15,7 @@ use std::net::TcpStream;
 /// An event wakes at least one of the waiting sets, and not always all (`EPOLLEXCLUSIVE` of epoll_ctl(2)).
 const EXCLUSIVE: u32 = 1 << 28;
 
-/// The maximum number of clients of the backlog that a loop accepts at a shutdown.
+/// The maximum number of clients of the backlog of a listener that a loop accepts at a shutdown.
 const MOST_OF_BACKLOG: u32 = 2_048;
 
 /// The time, in milliseconds, for which no loop accepts a client after an accept has failed, for example because no descriptor
@@ -26,61 +26,93 @@ const PAUSE_MILLIS: u64 = 100;
 const FULL_PAUSE_MILLIS: u64 = 20;
 
 impl<'a, P: EndpointPorts, L: RequestLog> EventLoop<'a, P, L> {
-    /// Watches the listener: an event comes as long as clients wait. Gives whether that succeeded.
-    pub(crate) fn watch_listener(&mut self) -> bool {
-        let watched = self.set.add(Watched {
-            descriptor: self.port.descriptor(),
-            events: EPOLLIN | EXCLUSIVE,
-            number: Source::Listener.number(),
-        });
-        self.watches_listener = watched.is_ok();
-        self.watches_listener
+    /// Watches the listeners: an event comes as long as clients wait. Gives whether that succeeded.
+    pub(crate) fn watch_listeners(&mut self) -> bool {
+        self.watches_listeners = true;
+        for listener in 0..self.port.listeners() {
+            if !self.watch_listener(listener) {
+                self.unwatch_listeners();
+                break;
+            }
+        }
+        self.watches_listeners
     }
 
-    /// Watches the listener no longer. A closed listener would be ready all the time.
-    pub(crate) fn unwatch_listener(&mut self) {
-        if self.watches_listener {
-            self.watches_listener = false;
-            self.set.remove(self.port.descriptor());
+    /// Watches the listener of this number. Gives whether that succeeded.
+    fn watch_listener(&self, listener: usize) -> bool {
+        match self.port.descriptor(listener) {
+            Some(descriptor) => {
+                let watched = self.set.add(Watched {
+                    descriptor,
+                    events: EPOLLIN | EXCLUSIVE,
+                    number: Source::Listener(listener).number(),
+                });
+                watched.is_ok()
+            }
+            None => false,
         }
     }
 
-    /// Watches the listener anew, if it is watched: an event comes if clients wait, also if their event went to another loop.
-    pub(crate) fn watch_listener_anew(&mut self) {
-        if self.watches_listener {
-            self.unwatch_listener();
-            if !self.watch_listener() {
+    /// Watches the listeners no longer. A closed listener would be ready all the time.
+    pub(crate) fn unwatch_listeners(&mut self) {
+        if self.watches_listeners {
+            self.watches_listeners = false;
+            for listener in 0..self.port.listeners() {
+                if let Some(descriptor) = self.port.descriptor(listener) {
+                    self.set.remove(descriptor);
+                }
+            }
+        }
+    }
+
+    /// Watches the listeners anew, if they are watched: an event comes if clients wait, also if their event went to another loop.
+    pub(crate) fn watch_listeners_anew(&mut self) {
+        if self.watches_listeners {
+            self.unwatch_listeners();
+            if !self.watch_listeners() {
                 self.pause_accepts(PAUSE_MILLIS);
             }
         }
     }
 
-    /// Accepts clients that wait, as far as there is room. The listener has an event in the next round too if more wait.
-    pub(crate) fn accept_some(&mut self) {
+    /// Accepts clients that wait at a listener, as far as there is room. It has an event in the next round too if more wait.
+    pub(crate) fn accept_some(&mut self, listener: usize) {
+        if self.accepts_at.is_some() {
+            // an event before this one has begun a pause
+            return;
+        }
         let is_backlog_left = self.port.is_backlog_left();
         for _ in 0..self.accept_rounds.most_in_a_row(is_backlog_left) {
-            if !self.accept_one() {
+            if !self.accept_one(listener) {
                 return;
             }
         }
     }
 
-    /// Accepts the clients of the backlog, as far as there is room: their requests may have come before a shutdown.
-    pub(crate) fn accept_backlog(&mut self) {
+    /// Accepts the clients of the backlogs, as far as there is room: their requests may have come before a shutdown.
+    pub(crate) fn accept_backlogs(&mut self) {
+        for listener in 0..self.port.listeners() {
+            self.accept_backlog(listener);
+        }
+    }
+
+    /// Accepts the clients of the backlog of a listener.
+    fn accept_backlog(&mut self, listener: usize) {
         for _ in 0..MOST_OF_BACKLOG {
-            if !self.accept_one() {
+            if !self.accept_one(listener) {
                 return;
             }
         }
     }
 
-    /// Accepts a client. Gives whether one was accepted. Without room, or after a failure, no client is accepted for a while.
-    fn accept_one(&mut self) -> bool {
+    /// Accepts a client of a listener. Gives whether one was accepted. Without room, or after a failure, no client is accepted for
+    /// a while.
+    fn accept_one(&mut self, listener: usize) -> bool {
         if !self.has_room() {
             self.leave_backlog();
             return false;
         }
-        match self.port.accept() {
+        match self.port.accept(listener) {
             Accepted::Stream(stream) => {
                 self.accept_rounds.note();
                 self.begin_client(stream);
@@ -108,15 +140,15 @@ impl<'a, P: EndpointPorts, L: RequestLog> EventLoop<'a, P, L> {
 
     /// Accepts no client for a while, since this loop has no room. Another one may have.
     fn leave_backlog(&mut self) {
-        if self.watches_listener {
+        if self.watches_listeners {
             self.port.leave_backlog();
         }
         self.pause_accepts(FULL_PAUSE_MILLIS);
     }
 
-    /// Accepts no client for so many milliseconds. The listener would be ready all the time.
+    /// Accepts no client for so many milliseconds. A listener would be ready all the time.
     fn pause_accepts(&mut self, millis: u64) {
-        self.unwatch_listener();
+        self.unwatch_listeners();
         self.accepts_at = Some(self.now.saturating_add(millis));
     }
 
@@ -125,7 +157,7 @@ impl<'a, P: EndpointPorts, L: RequestLog> EventLoop<'a, P, L> {
         if self.port.is_closed() || !has_come(self.accepts_at, self.now) {
             return;
         }
-        if self.has_room() && self.watch_listener() {
+        if self.has_room() && self.watch_listeners() {
             self.accepts_at = None;
         } else {
             self.pause_accepts(FULL_PAUSE_MILLIS);

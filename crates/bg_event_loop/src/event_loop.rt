@@ -61,8 +61,8 @@ pub(crate) struct EventLoop<'a, P, L> {
     pub(crate) due: VecDeque<usize>,
     /// What the last read gave.
     pub(crate) piece: Vec<u8>,
-    /// Whether the listener is watched.
-    pub(crate) watches_listener: bool,
+    /// Whether the listeners are watched.
+    pub(crate) watches_listeners: bool,
     /// In which rounds clients were accepted.
     pub(crate) accept_rounds: AcceptRounds,
     /// Since when its requests wait, and what the other loops know of that.
@@ -105,7 +105,7 @@ impl<'a, P: EndpointPorts, L: RequestLog> EventLoop<'a, P, L> {
             queue: Seats::new(alloc, seats, settings.most_waiting)?,
             due: VecDeque::new(alloc),
             piece: vec![in alloc; 0; PIECE]?,
-            watches_listener: false,
+            watches_listeners: false,
             accept_rounds: AcceptRounds::NONE,
             waiting: Waiting::new(alloc, number),
             now: 0,
@@ -119,8 +119,8 @@ impl<'a, P: EndpointPorts, L: RequestLog> EventLoop<'a, P, L> {
     pub(crate) fn note(&mut self, event: &EpollEvent) {
         let told = Told::of(event.events);
         match Source::of(event.data) {
-            Source::Listener => self.accept_some(),
             Source::Signal => self.note_signal(),
+            Source::Listener(listener) => self.accept_some(listener),
             Source::Client(key) => {
                 if let Some(client) = self.clients.get_mut(key) {
                     client.note(told);
@@ -138,7 +138,7 @@ impl<'a, P: EndpointPorts, L: RequestLog> EventLoop<'a, P, L> {
     /// Notes the signal of the port, or that of this loop. Whether a request may enter is looked at in each round anyway.
     fn note_signal(&mut self) {
         if self.port.is_backlog_left() {
-            self.watch_listener_anew();
+            self.watch_listeners_anew();
         }
     }
 

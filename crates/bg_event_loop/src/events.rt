@@ -1,6 +1,6 @@
 //! The events of an epoll set.
 ghost use Rattle.std.specs.Prelude.{◌≡◌};
-ghost use Rattle.bg_event_loop.specs.Sources.{number_of, source_of};
+ghost use Rattle.bg_event_loop.specs.Sources.{number_of, numbered, source_of};
 
 use bg_sockets::{EpollSet, Watched};
 use libc::net::{EPOLLERR, EPOLLET, EPOLLHUP, EPOLLIN, EPOLLOUT, EPOLLRDHUP};
@@ -8,14 +8,24 @@ use std::io;
 use std::net::TcpStream;
 use std::os::fd::AsRawFd;
 
-/// Who an event belongs to: the listener, a signal (that of the port, or that of the loop), or the connection of this key.
+/// Who an event belongs to: the listener of this number, a signal (that of the port, or that of the loop), or the connection of
+/// this key.
 #[derive(Clone, Copy, PartialEq, Eq, Debug, Drop)]
 pub(crate) enum Source {
-    Listener,
     Signal,
+    Listener(usize),
     Client(usize),
     Endpoint(usize),
 }
+
+/// The kinds of sources: the rest of a number by four.
+const SIGNAL: u64 = 0;
+
+const LISTENER: u64 = 1;
+
+const CLIENT: u64 = 2;
+
+const ENDPOINT: u64 = 3;
 
 impl Source {
     /// The number that its events have.
@@ -23,10 +33,10 @@ impl Source {
         ensures { result ≡ number_of self }
     {
         match self {
-            Source::Listener => 0,
-            Source::Signal => 1,
-            Source::Client(key) => (key as u64).saturating_mul(2).saturating_add(2),
-            Source::Endpoint(key) => (key as u64).saturating_mul(2).saturating_add(3),
+            Source::Signal => SIGNAL,
+            Source::Listener(number) => numbered(number, LISTENER),
+            Source::Client(key) => numbered(key, CLIENT),
+            Source::Endpoint(key) => numbered(key, ENDPOINT),
         }
     }
 
@@ -34,19 +44,21 @@ impl Source {
     pub(crate) fn of(number: u64) -> Source
         ensures { result ≡ source_of number }
     {
-        match number {
-            0 => Source::Listener,
-            1 => Source::Signal,
-            other => {
-                let key = ((other - 2) / 2) as usize;
-                if other % 2 == 0 {
-                    Source::Client(key)
-                } else {
-                    Source::Endpoint(key)
-                }
-            }
+        let key = (number / 4) as usize;
+        match number % 4 {
+            SIGNAL => Source::Signal,
+            LISTENER => Source::Listener(key),
+            CLIENT => Source::Client(key),
+            _ => Source::Endpoint(key),
         }
     }
+}
+
+/// The number of a source of this kind.
+fn numbered(key: usize, kind: u64) -> u64
+    ensures { result ≡ numbered key kind }
+{
+    (key as u64).saturating_mul(4).saturating_add(kind)
 }
 
 /// What an event says of a connection.

@@ -103,12 +103,12 @@ fn serve_clients<N: Names, R: Clock + Wait, G: Gate<N>, P: EndpointPorts, L: Req
     unreachable!()
 }
 
-/// Watches the listener, the signal of the port, and that of the loop.
+/// Watches the listeners, the signal of the port, and that of the loop.
 fn watch_port<P: EndpointPorts, L: RequestLog>(
     connections: &mut EventLoop<'_, P, L>,
 ) -> io::Result<()> {
     connections.watch_signals()?;
-    if connections.watch_listener() {
+    if connections.watch_listeners() {
         Ok(())
     } else {
         Err(io::Error::from(ErrorKind::Other))
@@ -132,7 +132,7 @@ fn note_events<R: Clock, P: EndpointPorts, L: RequestLog>(
     if connections.port.is_shut_down() {
         connections.begin_closing();
     } else if connections.port.is_closed() {
-        connections.unwatch_listener();
+        connections.unwatch_listeners();
     }
     count < events.len()
 }

@@ -58,14 +58,14 @@ impl<'a, P: EndpointPorts, L: RequestLog> EventLoop<'a, P, L> {
         self.make_due(key);
     }
 
-    /// Begins a shutdown: the clients of the backlog are accepted, and no others; no connection is kept, and idle ones are
+    /// Begins a shutdown: the clients of the backlogs are accepted, and no others; no connection is kept, and idle ones are
     /// closed.
     pub(crate) fn begin_closing(&mut self) {
         if self.closes_at.is_some() {
             return;
         }
-        self.accept_backlog();
-        self.unwatch_listener();
+        self.accept_backlogs();
+        self.unwatch_listeners();
         self.port.close();
         self.endpoints.keep_none();
         self.grace_until = Some(self.now.saturating_add(self.settings.grace_millis));

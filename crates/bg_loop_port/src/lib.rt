@@ -1,5 +1,5 @@
-//! What the event loops of a client port share: its listener, how many connections and requests it takes, what their connections
-//! come to, its shutdown, and what is reported of it.
+//! What the event loops of a client port share: its listeners, how many connections and requests it takes, what their
+//! connections come to, its shutdown, and what is reported of it.
 #![tactic(auto)]
 
 mod accept;
@@ -9,6 +9,9 @@ mod longest_waiting;
 mod loop_port;
 #[cfg(test)]
 mod order;
+mod port_listener;
+#[cfg(test)]
+mod two_listeners;
 #[cfg(test)]
 mod two_loops;
 mod waiting_loop;

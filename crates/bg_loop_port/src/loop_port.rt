@@ -1,15 +1,16 @@
 //! A client port that event loops serve.
+ghost use Rattle.std.specs.Prelude.{◌≡◌, IfOk, is_some, map, nat_lt, vec_len};
 
-use crate::accept::{Accepted, accept};
+use crate::accept::Accepted;
 use crate::admission::Admission;
 use crate::loads_of_loops::LoadsOfLoops;
+use crate::port_listener::PortListener;
 use bg_load::Totals;
-use bg_sockets::{PortClock, Signal, set_backlog};
-use libc::net::{SHUT_RDWR, shutdown};
+use bg_sockets::{PortClock, Signal};
 use std::alloc::Global;
 use std::io;
 use std::net::TcpListener;
-use std::os::fd::{AsRawFd, RawFd};
+use std::os::fd::RawFd;
 use std::sync::atomic::{AtomicBool, AtomicU64, AtomicUsize, Ordering};
 use std::time::Clock;
 
@@ -30,7 +31,8 @@ pub struct LoopPortSettings {
 
 /// A client port that event loops serve. They share it.
 pub struct LoopPort {
-    listener: TcpListener,
+    /// Where clients connect: at one address each.
+    listeners: Vec<PortListener>,
     /// The number of connections for which no accept has begun, and of those that were not accepted.
     free: AtomicU64,
     untaken: AtomicU64,
@@ -46,8 +48,6 @@ pub struct LoopPort {
     admission: Admission,
     /// What gives the moments of the port.
     clock: PortClock,
-    /// Whether a loop without room has left clients to the others.
-    is_backlog_left: AtomicBool,
     /// What the connections of the loops come to.
     loads: LoadsOfLoops,
     /// The number of the next loop, and the number of loops that have begun.
@@ -65,7 +65,7 @@ impl Drop for LoopPort {
     /// Drops the fields by one call, so that the proofs of what owns a value are short (CONTRIBUTING.md, "What a check costs").
     fn drop(self) {
         let LoopPort {
-            listener: _,
+            listeners: _,
             free: _,
             untaken: _,
             has_limit: _,
@@ -75,7 +75,6 @@ impl Drop for LoopPort {
             signal: _,
             admission: _,
             clock: _,
-            is_backlog_left: _,
             loads: _,
             next_loop: _,
             loops_begun: _,
@@ -98,18 +97,18 @@ pub struct CutAnswers {
 }
 
 impl LoopPort {
-    /// The port of a listener, whose accepts do not wait from now on. An error if a system call or an allocation fails.
+    /// The port of these listeners, whose accepts do not wait from now on. An error if a system call or an allocation fails.
     pub fn new<R: Clock>(
         rt: &R,
         alloc: Global,
-        listener: TcpListener,
+        listeners: Vec<TcpListener>,
         settings: LoopPortSettings,
-    ) -> io::Result<LoopPort> {
-        listener.set_nonblocking(true)?;
-        set_backlog(&listener);
+    ) -> io::Result<LoopPort>
+        ensures { IfOk result (λ port. map (λ l. l.listener) port.listeners.items ≡ listeners.items) }
+    {
         let most = settings.connections.unwrap_or(u64::MAX);
         Ok(LoopPort {
-            listener,
+            listeners: PortListener::all(alloc, listeners)?,
             free: AtomicU64::new(most),
             untaken: AtomicU64::new(most),
             has_limit: settings.connections.is_some(),
@@ -119,7 +118,6 @@ impl LoopPort {
             signal: Signal::new()?,
             admission: Admission::new(alloc, settings.concurrency, settings.loops)?,
             clock: PortClock::start(rt)?,
-            is_backlog_left: AtomicBool::new(false),
             loads: LoadsOfLoops::new(),
             next_loop: AtomicUsize::new(0),
             loops_begun: AtomicUsize::new(0),
@@ -147,18 +145,33 @@ impl LoopPort {
         self.is_closed.load(Ordering::SeqCst)
     }
 
-    /// Accepts no further connection: clients are refused from now on. The descriptor of the listener stays open, since loops
-    /// may watch it.
+    /// Accepts no further connection: clients are refused from now on. The descriptors of the listeners stay open, since loops
+    /// may watch them.
     pub fn close(&self) {
         if !self.is_closed.swap(true, Ordering::SeqCst) {
-            shutdown(self.listener.as_raw_fd(), SHUT_RDWR);
+            for listener in self.listeners.iter() {
+                listener.close();
+            }
             self.signal.post();
         }
     }
 
-    /// The descriptor of the listener, so that it can be watched.
-    pub fn descriptor(&self) -> RawFd {
-        self.listener.as_raw_fd()
+    /// The number of listeners.
+    pub fn listeners(&self) -> usize
+        ensures { result ≡ vec_len self.now.listeners }
+    {
+        self.listeners.len()
+    }
+
+    /// The descriptor of the listener of this number, from 0 on, so that it can be watched. `None` if the port has no such
+    /// listener.
+    pub fn descriptor(&self, listener: usize) -> Option<RawFd>
+        ensures { is_some result ≡ nat_lt listener (vec_len self.now.listeners) }
+    {
+        match self.listeners.get(listener) {
+            Some(listener) => Some(listener.descriptor()),
+            None => None,
+        }
     }
 
     /// The descriptor that is readable after a shutdown has begun, after the port was closed, or after a loop has left clients to
@@ -231,23 +244,39 @@ impl LoopPort {
     }
 
     /// Notes that a loop without room accepts no client for a while, although clients may wait. The signal comes, so that
-    /// another loop accepts them: an event of the listener wakes one loop only (`EPOLLEXCLUSIVE` of epoll_ctl(2)).
+    /// another loop accepts them: an event of a listener wakes one loop only (`EPOLLEXCLUSIVE` of epoll_ctl(2)).
     pub fn leave_backlog(&self) {
-        self.is_backlog_left.store(true, Ordering::SeqCst);
+        for listener in self.listeners.iter() {
+            listener.leave_backlog();
+        }
         self.signal.post();
     }
 
-    /// Whether a loop has left clients to the others, and no accept has found since that none waits.
+    /// Whether a loop has left clients to the others, and there is a listener of which no accept has found since that none
+    /// waits.
     pub fn is_backlog_left(&self) -> bool {
-        self.is_backlog_left.load(Ordering::SeqCst)
+        for listener in self.listeners.iter() {
+            if listener.is_backlog_left() {
+                return true;
+            }
+        }
+        false
     }
 
-    /// The next client that waits, if a further connection may be accepted.
-    pub fn accept(&self) -> Accepted {
+    /// The next client that waits at the listener of this number, from 0 on, if there is such a listener and a further
+    /// connection may be accepted.
+    pub fn accept(&self, listener: usize) -> Accepted {
+        match self.listeners.get(listener) {
+            Some(listener) => self.accept_at(listener),
+            None => Accepted::Nothing,
+        }
+    }
+
+    fn accept_at(&self, listener: &PortListener) -> Accepted {
         if self.is_closed() || !self.begin_accept() {
             return Accepted::Nothing;
         }
-        match accept(&self.listener) {
+        match listener.accept() {
             Accepted::Stream(stream) => {
                 self.failures.store(0, Ordering::SeqCst);
                 self.count_accepted();
@@ -255,7 +284,6 @@ impl LoopPort {
             }
             Accepted::Nothing => {
                 self.withdraw_accept();
-                self.is_backlog_left.store(false, Ordering::SeqCst);
                 Accepted::Nothing
             }
             Accepted::Failed => {

@@ -1,6 +1,7 @@
 //! Why a port or the control socket cannot be bound.
 
 use bg_control_port::SocketFault;
+use std::net::IpAddr;
 use std::{fmt, io};
 
 /// What is bound.
@@ -10,6 +11,8 @@ pub enum Place<'a> {
         /// The word of the command line that gives the port.
         word: &'static str,
         port: u16,
+        /// The address at which it is bound, or the first one.
+        address: IpAddr,
     },
     /// The control socket with this path.
     Socket(&'a str),
@@ -18,7 +21,11 @@ pub enum Place<'a> {
 impl fmt::Display for Place<'_> {
     fn fmt<W: fmt::Write>(&self, f: &mut fmt::Formatter<W>) -> fmt::Result {
         match self {
-            Place::Port { word, port } => write!(f, "port {port} of 127.0.0.1 (--{word})"),
+            Place::Port {
+                word,
+                port,
+                address,
+            } => write!(f, "port {port} of {address} (--{word})"),
             Place::Socket(path) => write!(f, "socket {path} (--control-socket)"),
         }
     }

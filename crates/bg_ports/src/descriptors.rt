@@ -14,8 +14,8 @@ const STANDARD_STREAMS: usize = 3;
 
 const SPARE: usize = 8;
 
-/// The number of descriptors of a client port without its connections: its listener, and its signal.
-const OF_A_PORT: usize = 2;
+/// The number of descriptors of a client port without its connections and its listeners: its signal.
+const OF_A_PORT: usize = 1;
 
 /// The same of an event loop: its epoll set, and its signal.
 const OF_A_LOOP: usize = 2;
@@ -84,11 +84,16 @@ fn reserved_of(settings: &ServeSettings, loops: EventLoops, descriptors: usize) 
     let operators = (descriptors / CONTROL_SHARE).min(MOST_OPERATORS);
     STANDARD_STREAMS
         .saturating_add(SPARE)
-        .saturating_add(ports_of(settings).saturating_mul(OF_A_PORT))
+        .saturating_add(ports_of(settings).saturating_mul(of_a_port(settings)))
         .saturating_add((loops.all() as usize).saturating_mul(OF_A_LOOP))
         .saturating_add((requests as usize).saturating_mul(of_a_request(settings)))
         .saturating_add(control_descriptors(settings))
         .saturating_add(operators)
+}
+
+/// The number of descriptors of a client port without its connections.
+fn of_a_port(settings: &ServeSettings) -> usize {
+    settings.listen.as_slice().len().saturating_add(OF_A_PORT)
 }
 
 /// The number of descriptors for each request that may be inside.

@@ -13,12 +13,13 @@ use bg_loop_port::{LoopPort, LoopPortSettings};
 use bg_operator::Line;
 use bg_peers::Users;
 use bg_revisions::Service;
+use bg_sockets::is_of_this_machine;
 use std::alloc::Global;
-use std::net::{Net, TcpListener, TcpStream};
+use std::net::{Net, TcpListener};
 use std::rt::Files;
 use std::time::Clock;
 
-/// The ports on 127.0.0.1, and the control socket.
+/// The client ports at the addresses of the settings, the control port at 127.0.0.1, and the control socket.
 #[derive(Drop)]
 pub struct Ports {
     active: LoopPort,
@@ -33,8 +34,9 @@ pub struct Ports {
 
 impl Ports {
     /// Listens at the ports of the settings, which are bound in the order active, preview, control, and then at the control
-    /// socket. The control port serves the connections of `operators`; `None` stands for all users. The error names the first
-    /// port or the socket that cannot be bound. If all are bound, it names the first one for which another system call or an
+    /// socket. The active port is bound at each address of the settings, in their order, and so is the preview port. The control
+    /// port serves the connections of `operators`; `None` stands for all users. The error names the first
+    /// port that cannot be bound, with its address, or the socket. If all are bound, it names the first one for which another system call or an
     /// allocation fails.
     pub fn bind<'a, R>(
         rt: &R,
@@ -44,7 +46,7 @@ impl Ports {
         operators: Option<Users>,
     ) -> Result<Ports, BindFault<'a>>
     where
-        R: Files + Net<Listener = TcpListener, Stream = TcpStream> + Clock,
+        R: Files + Net + Clock,
     {
         let addresses = Addresses::of(settings);
         let listeners = addresses.listen(rt, alloc)?;
@@ -56,8 +58,8 @@ impl Ports {
             settings.connections,
         );
         let preview = match (&addresses.preview, listeners.preview) {
-            (Some(address), Some(listener)) => {
-                Some(client_port(rt, alloc, address, listener, of_preview)?)
+            (Some(address), Some(listeners)) => {
+                Some(client_port(rt, alloc, address, listeners, of_preview)?)
             }
             _ => None,
         };
@@ -68,7 +70,7 @@ impl Ports {
             preview,
             control,
             socket_file: listeners.socket_file,
-            own: own_ports(settings),
+            own: own_ports(settings, is_of_this_machine(settings.endpoint_address)),
         })
     }
 
@@ -120,15 +122,15 @@ fn port_settings(requests: u16, loops: u32, connections: Connections) -> LoopPor
     }
 }
 
-/// The client port at an address.
+/// The client port with these listeners.
 fn client_port<'a, R: Clock>(
     rt: &R,
     alloc: Global,
     address: &Address,
-    listener: TcpListener,
+    listeners: Vec<TcpListener>,
     settings: LoopPortSettings,
 ) -> Result<LoopPort, BindFault<'a>> {
-    address.or_fault(LoopPort::new(rt, alloc, listener, settings))
+    address.or_fault(LoopPort::new(rt, alloc, listeners, settings))
 }
 
 /// The number of requests that the preview port forwards at a time; 0 if there is no such port.

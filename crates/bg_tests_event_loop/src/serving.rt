@@ -65,10 +65,14 @@ where
     R: AllocGlobal + Input + Threads + Wait + Clock + Sync,
 {
     let alloc = rt.alloc();
+    let mut listeners = Vec::with_capacity(alloc, 1)?;
+    if listeners.push(listener).is_err() {
+        return Err(Stop::OutOfMemory);
+    }
     let port = LoopPort::new(
         rt,
         alloc,
-        listener,
+        listeners,
         LoopPortSettings {
             loops: 1,
             concurrency: u64::from(SEATS),
