@@ -9,6 +9,7 @@ import random
 import subprocess
 import sys
 import tempfile
+import threading
 import time
 import unittest
 from collections.abc import Sequence
@@ -23,9 +24,10 @@ from bg_switch_tools.fleet.machine import line_table
 from bg_switch_tools.fleet.machine.machine import Machine
 from bg_switch_tools.fleet.record import leader
 from bg_switch_tools.fleet.record.leader import Votes
+from support.endpoints import Endpoint
 from support.fleet import random_faults
 from support.fleet.aimed_abort import is_promoting
-from support.fleet.analysis import bad_file, hold_file
+from support.fleet.analysis import bad_file, hold_file, verdict_of
 from support.fleet.lab import Lab
 from support.fleet.machine_clock import ADJ_NANO, ADJ_SETOFFSET, Timex, step_wall_clock
 from support.fleet.planted import PLANTED
@@ -47,7 +49,9 @@ from support.fleet.rules import RULES, Broken, Run
 from support.fleet.seen import Seen
 from support.fleet.stepped_clock import clock_file, stepped
 from support.fleet.verdict import Mix, mix_of, rule_lines, table, verdict
+from support.messages import response
 from support.moments import moment
+from tests.fake_port import free_port
 from tests.test_fleet_rules import SECOND, good, record
 from tests.tool_runs import TOP, WAIT, comes
 
@@ -566,6 +570,31 @@ class Analyses(unittest.TestCase):
             lab.pass_analysis("a", "pre", 2)
             lab.pass_analysis("a", "pre", 2)
             self.assertEqual(list(pathlib.Path(name).iterdir()), [])
+
+    def test_one_that_waits(self) -> None:
+        """It asks nothing while it waits: the switch is down then."""
+        port, found = free_port(), list[str]()
+        with tempfile.TemporaryDirectory() as name:
+            lab = Lab(pathlib.Path(name), HOSTS, agent=None, is_quiet=True)
+
+            def judge() -> None:
+                found.append(verdict_of(pathlib.Path(name), "a", "post", port, "web-2"))
+
+            with lab.held_analysis("a", "post", 2):
+                waiting = threading.Thread(target=judge)
+                waiting.start()
+                waiting.join(1.0)
+                self.assertEqual(found, [])
+                switch = Endpoint(lambda _, to: to.sendall(response(b"web-2")), port)
+            waiting.join(WAIT)
+            self.assertEqual(found, ["successful"])
+            for revision, other in (("web-2", "successful"), ("web-3", "failed")):
+                self.assertEqual(verdict_of(pathlib.Path(name), "a", "post", port, revision), other)
+            lab.fail_analysis("a", "post", 2)
+            judge()
+            switch.stop()
+            judge()
+        self.assertEqual(found, ["successful", "failed", "error"])
 
 
 class Failures(unittest.TestCase):

@@ -249,6 +249,8 @@ def kill_switch(session: Session, host: str, number: int, selected: int) -> None
     with session.lab.held_analysis(host, "post", number):
         session.deploy(number)
         check(f"{host} selects the revision", session.selects(host, number, 20), True)
+        judges = JUDGES.format(number)
+        check("its analysis has begun", comes(lambda: count_told(session, host, judges)), True)
         session.lab.kill("switch", host)
         check("it is down", comes(lambda: not session.lab.looks()[host].is_up), True)
         session.lab.restart("switch", host)

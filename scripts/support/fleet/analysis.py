@@ -1,7 +1,7 @@
-"""An analysis: python3 -m support.fleet.analysis FOLDER HOST STEP PORT. It asks the switch for a
-while, and longer while the file hold-HOST-STEP-REVISION is in the folder. It fails if an answer is
-not the revision's, or if the file bad-HOST-STEP-REVISION is there. It writes down what it came
-to."""
+"""An analysis: python3 -m support.fleet.analysis FOLDER HOST STEP PORT. While the file
+hold-HOST-STEP-REVISION is in the folder, it waits and asks nothing. Then it asks the switch until
+it has run for a while, and at least once. It fails if an answer is not the revision's, or if the
+file bad-HOST-STEP-REVISION is there. It writes down what it came to."""
 import json
 import os
 import pathlib
@@ -23,23 +23,24 @@ def bad_file(host: str, step: str, revision: str) -> str:
 
 
 def hold_file(host: str, step: str, revision: str) -> str:
-    """The file by which a drill lets an analysis go on."""
+    """The file by which a drill lets an analysis wait."""
     return f"hold-{host}-{step}-{revision}"
 
 
 def verdict_of(folder: pathlib.Path, host: str, step: str, port: int, revision: str) -> str:
-    end = time.monotonic() + SECONDS
-    latest = end + LONGEST_HOLD
-    while time.monotonic() < end or (
-        (folder / hold_file(host, step, revision)).exists() and time.monotonic() < latest
-    ):
+    """What the analysis of a revision comes to. `port` is the switch's."""
+    begun, hold = time.monotonic(), folder / hold_file(host, step, revision)
+    while hold.exists() and time.monotonic() < begun + LONGEST_HOLD:
+        time.sleep(PAUSE)
+    while True:
         answered = ask("127.0.0.1", port)
         if not answered.status:
             return "error"
         if (answered.status, answered.revision) != (200, revision):
             return "failed"
+        if time.monotonic() >= begun + SECONDS:
+            return "failed" if (folder / bad_file(host, step, revision)).exists() else "successful"
         time.sleep(PAUSE)
-    return "failed" if (folder / bad_file(host, step, revision)).exists() else "successful"
 
 
 def main(words: list[str]) -> int:

@@ -324,8 +324,8 @@ class Lab:
 
     @contextlib.contextmanager
     def held_analysis(self, host: str, step: str, number: int) -> Iterator[None]:
-        """An analysis of a revision goes on on one host, until the block ends or a switch gives it
-        no answer."""
+        """An analysis of a revision runs on on one host until the block ends, and asks nothing
+        meanwhile."""
         path = self.folder / hold_file(host, step, name_of(number))
         path.touch()
         try:
