@@ -1,14 +1,17 @@
 """Several analyses in a phase: all have to pass, the first that fails decides, and each one's result
 is told with the last lines that it has printed."""
+import fcntl
 import json
 import os
 import pathlib
 import signal
+import sys
 import tempfile
+import termios
 import threading
 import time
 import unittest
-from collections.abc import Mapping
+from collections.abc import Callable, Mapping
 from unittest import mock
 
 from bg_switch_tools.controller.analyses import analysis_runner, printed_lines
@@ -35,7 +38,10 @@ from bg_switch_tools.controller.state.analysis_results import (
 )
 from bg_switch_tools.controller.state.pause import PauseFile
 from bg_switch_tools.controller.state.state_file import StateFile
+from bg_switch_tools.controller.rounds.controller import Controller
+from bg_switch_tools.switch.connection import Connection
 from bg_switch_tools.switch.lines import AnalysisKind
+from bg_switch_tools.switch.reports import Report
 from support.pace import is_within
 from tests.test_bgctl import run
 from tests.test_bgctl_history import KNOWN, report
@@ -527,6 +533,54 @@ class Told(SeveralCase):
         self.assertNotIn("analysis", run("status", BG_PLAN=self.plan.path).told)
 
 
+class RetriedAtOnce(SeveralCase):
+    """An attempt that is aborted and retried within a round: one report alone shows the abort."""
+
+    EXPECTED = [("deployed", "aborted"), ("retried", "")]
+
+    def check_retry(self, step: str) -> None:
+        """The abort shows in the report of this step of a round, and the retry in the next one."""
+        step_of_round: Callable[..., Report | None] = getattr(Controller, step)
+
+        def between_orders(
+            its: Controller, connection: Connection, *report: Report
+        ) -> Report | None:
+            if not self.path("go").exists():
+                return step_of_round(its, connection, *report)
+            self.path("go").unlink()
+            self.by_hand("abort")
+            shown = its.book.open_report(connection)
+            self.by_hand("retry")
+            return shown
+
+        def read_again(its: Controller, connection: Connection, _: Report) -> Report:
+            return its.book.open_report(connection)
+
+        self.write_pre({"latency": SLEEPS.format("p1")})
+        with mock.patch.object(Controller, "_tick", read_again):
+            with mock.patch.object(Controller, step, between_orders):
+                runner = self.start()
+                pid = self.pid("p1")
+                self.path("p1").unlink()
+                self.path("go").touch()
+                self.assertNotEqual(self.pid("p1"), pid)
+                self.assertTrue(comes(lambda: identity(pid) is None))
+                runner.stop()
+        self.await_log(
+            "phase: preAnalysis -> aborted",
+            "analysis pre latency of web-v2 is stopped: its phase has ended",
+            "phase: aborted -> preAnalysis",
+        )
+        attempts = HistoryFile(self.plan.path).read()[0].all
+        self.assertEqual([(each.began, each.how) for each in attempts[-2:]], self.EXPECTED)
+
+    def test_its_analyses_are_judged_by_the_report_after_the_abort(self) -> None:
+        self.check_retry("_open_book")
+
+    def test_its_analyses_are_judged_by_the_report_of_the_abort(self) -> None:
+        self.check_retry("_tick")
+
+
 class OneCommand(SeveralCase):
     """A command without a list: its files and lines are what they were before there were lists."""
 
@@ -563,6 +617,11 @@ class OneCommand(SeveralCase):
         self.assertEqual((told["analysis"]["pid"], "analyses" in told), (pid, False))
 
 
+def bytes_in(pipe: int) -> int:
+    """The number of bytes in a pipe that were not read yet."""
+    return int.from_bytes(fcntl.ioctl(pipe, termios.FIONREAD, bytes(4)), sys.byteorder)
+
+
 class Printed(unittest.TestCase):
     """What a command prints."""
 
@@ -586,7 +645,7 @@ class Printed(unittest.TestCase):
         reader.start()
         for piece in pieces:
             os.write(writing, piece)
-            time.sleep(0.02)
+            self.assertTrue(comes(lambda: not bytes_in(reading)))  # each piece is one read
         os.close(writing)
         lines.settle(10)
         os.close(self.stderr)

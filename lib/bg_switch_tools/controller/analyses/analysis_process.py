@@ -141,9 +141,13 @@ class AnalysesOfPhase:
     metrics, they are successful once each one is; the first one that fails, or ends in an error,
     decides."""
 
-    def __init__(self, judged: Judged, planned: tuple[PlannedAnalysis, ...]) -> None:
+    def __init__(
+        self, judged: Judged, planned: tuple[PlannedAnalysis, ...], stage: int = 0
+    ) -> None:
+        """`stage` is the number of the book's stage in which they begin (`Book.stages`)."""
         self.judged = judged
         self.planned = planned
+        self.stage = stage
         self.runs: list[Analysis] = []
         self.patience = SETTLE  # what is left of it
 

@@ -51,16 +51,19 @@ class AnalysisRunner:
     ) -> None:
         """Runs the analyses that the phase asks for. A verdict is handed in on the connection whose
         report shows that the phase and the revision are those of the analyses, once the source of
-        lines allows it."""
+        lines allows it. An attempt that was aborted and retried is another one, also if only a report
+        between two calls has shown the abort."""
         self._note_end()
         kind, newest = ANALYSIS_OF_PHASE.get(report.phase), report.newest
-        if self.running and not self.running.judged.is_of(kind, newest):
+        if self.running and not (
+            self.running.judged.is_of(kind, newest) and self.running.stage == book.stages
+        ):
             self.end("its phase has ended")
         if kind is None:
             for each in (*KINDS, "held"):
                 self.once.forget(each, newest)
         elif self.running is None:
-            self._begin(plan, kind, newest)
+            self._begin(plan, kind, newest, book.stages)
         elif not source.is_paused() and (result := self._verdict(self.running)) is not None:
             verdict = Verdict(kind, result)
             if source.may_hand_in(report, verdict, self.running.reason()):
@@ -111,7 +114,7 @@ class AnalysisRunner:
         if was_ending and not self.ending and self.running is None:
             self.memory.set_analyses(())
 
-    def _begin(self, plan: Plan, kind: AnalysisKind, newest: Revision) -> None:
+    def _begin(self, plan: Plan, kind: AnalysisKind, newest: Revision, stage: int) -> None:
         """Begins the analyses of a phase, and remembers each one at once: this controller may be
         killed before the next one."""
         if self.ending:
@@ -124,7 +127,7 @@ class AnalysisRunner:
             return
         self.memory.results.begin_analyses(newest.name, newest.number)
         judged = Judged(kind, newest.number, planned, plan.control)
-        self.running = AnalysesOfPhase(judged, several)
+        self.running = AnalysesOfPhase(judged, several, stage)
         for each in several:
             run = self.running.begin(AnalysisCommand(each, self.folder, plan.analyses.seconds))
             self.memory.set_analyses(self.running.processes())

@@ -5,12 +5,17 @@ from bg_switch_tools.controller.lines.crash_losses import last_seen
 from bg_switch_tools.controller.log import Log
 from bg_switch_tools.switch.connection import Connection, UnreachableError
 from bg_switch_tools.switch.lines import Line, Tick, without_time_limit
+from bg_switch_tools.switch.phases import Phase
 from bg_switch_tools.switch.replies import JOURNAL_FAILED, Done, Reply, Unsaved
 from bg_switch_tools.switch.report_changes import changes, is_another_book
 from bg_switch_tools.switch.reports import SERVICES, Report
 
 ANY_TICK = Tick(0)  # by which the refusal of each tick is known
 AGAIN = 60  # seconds until a line that is refused again and again goes into the log once more
+
+
+def _stage_of(report: Report) -> tuple[Phase, int, str]:
+    return report.phase, report.newest.number, report.newest.name
 
 
 class Book:
@@ -20,6 +25,8 @@ class Book:
     def __init__(self, log: Log) -> None:
         self.log = log
         self.latest: Report | None = None  # the latest report of the book that is open
+        # how often a report has shown another phase or newest revision than the one before
+        self.stages = 0
         self.seen_at = 0.0  # the time of the latest report
         # the latest one that no crash undoes: `is_in_doubt` says that the journal of the switch lacks an order
         self.kept: Report | None = None
@@ -60,6 +67,8 @@ class Book:
             self.log.say("switch", f"a book is open: phase {report.phase}, {selected}")
         for change in changes(self.latest, report) if self.latest else []:
             self.log.say("change", change)
+        if self.latest is None or _stage_of(self.latest) != _stage_of(report):
+            self.stages += 1
         self.latest, self.seen_at = report, time.monotonic()
         if not self.is_in_doubt:
             self.kept = report

@@ -97,8 +97,9 @@ class Controller:
         if report is None:
             return SOON if self.opening.is_early() else ROUND
         self.opening.check_sizes(self.plan, report)
-        self.history.take_in(report, self.memory.noted(self.plan))
+        self._note(report)
         report = self._tick(connection, report)
+        self._note(report)
         self.source.take_report(self.plan, report)
         for step in (
             self._report_availability,
@@ -112,8 +113,13 @@ class Controller:
             self.book.open_report(connection) if self.book.has_sent else self.book.latest or report
         )
         self.memory.take_in(self.plan, latest)
+        self._note(latest)
         self._watch_endpoints()
         return ROUND
+
+    def _note(self, report: Report) -> None:
+        """Notes in the history what this report shows: the next one may not show it any more."""
+        self.history.take_in(report, self.memory.noted(self.plan))
 
     def take_silence(self, reason: Exception) -> None:
         """Takes in why the switch gives no answer: moments pass on, but not while it is down."""
