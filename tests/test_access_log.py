@@ -25,7 +25,12 @@ LINE = (
     b'"duration_ms":4.25,"upstream_ms":3}'
 )
 
-
+# What a member that a line need not have is tried with, and which of these none of them can be.
+OPTIONAL_VALUES = (
+    *(b"null", b"true", b"false", b"0", b"3", b"18446744073709551615", b"18446744073709551616"),
+    *(b"-1", b"1.5", b"1e400", b'"3"', b'"true"', b"[]", b"{}"),
+)
+NEVER = (b"18446744073709551616", b"-1")
 LINES_A_SECOND = 20_000
 
 
@@ -79,25 +84,23 @@ class Lines(unittest.TestCase):
             # 1 == True, which no caller should depend on
             assert isinstance(kept, LogEntry)
             self.assertIs(kept.upstream_reused, is_reused)
-        for wrong in (
-            b'"idle_connections":"4"',
-            b'"slot_port":"9202"',
-            b'"slot_port":-1',
-            b'"tries":1.5',
-            b'"tries":true',
-            b'"tries":1e400',
-            b'"slot_port":[]',
-            b'"connection_request":"3"',
-            b'"connection_request":true',
-            b'"connection_request":-1',
-            b'"connection_request":1e400',
-            b'"upstream_reused":1',
-            b'"upstream_reused":0',
-            b'"upstream_reused":"true"',
-            b'"upstream_reused":[]',
-        ):
-            with self.subTest(member=wrong), self.assertRaises(LogEntryError):
-                read_line(LINE[:-1] + b"," + wrong + b"}")
+
+    def test_each_member_that_a_line_need_not_have(self) -> None:
+        """Its values are those of its types, and no others."""
+        expected = read_line(LINE)
+        assert isinstance(expected, LogEntry)
+        for name, types in access_log.OPTIONAL.items():
+            self.assertIsNone(getattr(expected, name))
+            for text in OPTIONAL_VALUES:
+                line = LINE[:-1] + b',"%b":%b}' % (name.encode(), text)
+                value = json.loads(text)
+                with self.subTest(name=name, value=text):
+                    if type(value) in types and text not in NEVER:
+                        read = read_line(line)
+                        self.assertEqual(read, expected._replace(**{name: value}))
+                        self.assertIs(type(getattr(read, name)), type(value))
+                    else:
+                        self.assertRaises(LogEntryError, read_line, line)
 
     def test_a_request_on_a_kept_connection(self) -> None:
         for number, is_kept in ((None, False), (1, False), (2, True), (1000, True)):

@@ -9,7 +9,8 @@ import unittest
 from collections.abc import Iterator
 from typing import Any
 
-from bg_switch_tools.controller.plan.plan import Commands
+from bg_switch_tools.controller.plan.plan_kinds import names_of
+from bg_switch_tools.controller.plan.plan_reader import COMMANDS, read_plan
 from bg_switch_tools.fleet.plan.fleet_file import (
     KEYS,
     MOST_ENDPOINTS,
@@ -23,6 +24,7 @@ from bg_switch_tools.fleet.plan.fleet_plan import MachineSettings
 from bg_switch_tools.fleet.store.etcd_gateway import EtcdSettings
 from bg_switch_tools.fleet.store.store_endpoints import StoreEndpoint
 from bg_switch_tools.fleet.store.tls_files import TlsFiles
+from tests.test_plan import GOOD as PLAN
 from tests.test_plan_schema import library, other_values
 from tests.tool_runs import TOP
 from tools import fleet_schema
@@ -40,10 +42,8 @@ GOOD: dict[str, object] = {
     "password_file": "password",
     "timeout_seconds": 1.5,
     "analyses": {"smoke": ["./smoke_test.sh", "8081"], "log": ["bg-analysis"]},
-    "start": ["systemctl", "start", "web@{port}"],
-    "stop": ["true"],
-    "notify": ["./tell"],
-    "timeout": 20,
+    # the commands of a machine are those of a plan
+    **{name: PLAN[name] for name in names_of(COMMANDS) if name in PLAN},
 }
 FOLDER = "/etc/bg"
 LEAST_VALUES = 300
@@ -85,7 +85,7 @@ class Good(unittest.TestCase):
         machine = MachineSettings(
             8082,
             {"smoke": ("./smoke_test.sh", "8081"), "log": ("bg-analysis",)},
-            Commands(("systemctl", "start", "web@{port}"), ("true",), ("./tell",), 20),
+            read_plan(json.dumps(PLAN).encode()).commands,
             {"active": 8080, "preview": 8081},
             "/etc/bg/rollout.json",
         )

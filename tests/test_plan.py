@@ -1,5 +1,6 @@
 """A plan is judged as a whole, with the place of each problem."""
 import contextlib
+import dataclasses
 import importlib
 import io
 import json
@@ -8,6 +9,8 @@ import pathlib
 import tempfile
 import time
 import unittest
+from collections.abc import Mapping
+from typing import Any
 from unittest import mock
 
 from bg_switch_tools.controller import cli as controller_cli
@@ -17,14 +20,23 @@ from bg_switch_tools.controller.plan import plan_text
 from bg_switch_tools.controller.plan.plan import (
     Commands,
     Health,
+    Plan,
     PlannedAnalysis,
     PlannedRevision,
     Progress,
 )
 from bg_switch_tools.controller.plan.plan_file import PlanFile
+from bg_switch_tools.controller.plan.plan_kinds import Schema, names_of
 from bg_switch_tools.controller.plan.plan_limits import missing_commands
-from bg_switch_tools.controller.plan.plan_reader import PlanError, read_plan
+from bg_switch_tools.controller.plan.plan_reader import (
+    COMMANDS,
+    PLAN_SCHEMA,
+    PlanError,
+    read_plan,
+)
 
+WHOLE_SCHEMA: Any = PLAN_SCHEMA
+SCHEMAS = WHOLE_SCHEMA["properties"]  # by the keys of a plan
 GOOD: dict[str, object] = {
     "control": 8082,
     "health": {"path": "/up?deep=1", "interval": 0.5, "timeout": 1, "failures": 3},
@@ -144,6 +156,49 @@ class Good(unittest.TestCase):
             )
 
 
+def another(schema: Mapping[str, Any]) -> object:
+    """A value that a schema takes, and that is not its default."""
+    if schema["type"] == "boolean":
+        return not schema["default"]
+    if schema["type"] == "string":
+        return "/another"
+    return schema["maximum"] if "maximum" in schema else ["another", "word"]
+
+
+class EachKey(unittest.TestCase):
+    """A key gives the field of its name, and the fields without a key have their defaults."""
+
+    def read(self, **members: object) -> Plan:
+        needed = {name: GOOD[name] for name in ("control", "revisions")}
+        return read_plan(json.dumps({**needed, **members}).encode())
+
+    def check(self, got: object, plain: Any, name: str, value: object, schema: Schema) -> None:
+        """That this value is that of the field `name`, and differs from the default."""
+        field = tuple(value) if isinstance(value, list) else value
+        self.assertEqual(got, dataclasses.replace(plain, **{name: field}))
+        self.assertNotEqual(got, plain)
+        self.assertEqual(getattr(plain, name), schema.get("default", ()))
+
+    def test_of_objects(self) -> None:
+        for key, plain in (("health", Health()), ("progress", Progress())):
+            schemas = SCHEMAS[key]["properties"]
+            self.assertEqual(set(schemas), set(vars(plain)))
+            for name, schema in schemas.items():
+                with self.subTest(f"{key}.{name}"):
+                    value = another(schema)
+                    got = getattr(self.read(**{key: {name: value}}), key)
+                    self.check(got, plain, name, value, schema)
+
+    def test_of_commands(self) -> None:
+        self.assertEqual(set(names_of(COMMANDS)), set(vars(Commands())))
+        for key in COMMANDS:
+            with self.subTest(key.name):
+                schema = key.schema()
+                value = another(schema)
+                got = self.read(**{key.name: value}).commands
+                self.check(got, Commands(), key.name, value, schema)
+
+
 class SeveralAnalyses(unittest.TestCase):
     """A list of analyses in the place of a command."""
 
@@ -238,11 +293,13 @@ class Complaints(unittest.TestCase):
             problems(with_keys(analysis={})),
             ["analysis: there is no such key; the nearest is analyses"],
         )
+        [problem] = problems(with_keys(health={"retries": 1}))
         self.assertEqual(
-            problems(with_keys(health={"retries": 1})),
-            [
-                "health.retries: there is no such key; those that can stand there are path, interval, timeout, failures"
-            ],
+            problem.split("those that can stand there are ")[0],
+            "health.retries: there is no such key; ",
+        )
+        self.assertEqual(
+            problem.split(" are ")[1].split(", "), list(SCHEMAS["health"]["properties"])
         )
 
     def test_a_name_with_a_line_end(self) -> None:

@@ -19,11 +19,14 @@ from bg_switch_tools.controller.plan.plan_kinds import (
     FLAG,
     LONGEST,
     SECONDS,
+    names_of,
     numbers,
     values_of,
     whole_numbers,
 )
 from bg_switch_tools.controller.plan.plan_reader import (
+    COMMANDS,
+    CONTROL_KEY,
     HEALTH,
     LARGEST,
     MOST_AT_ONCE,
@@ -31,6 +34,7 @@ from bg_switch_tools.controller.plan.plan_reader import (
     REVISIONS,
     SCHEMA,
     SCHEMA_KEY,
+    SERVICES,
     PlanError,
     compare_ports,
 )
@@ -40,7 +44,7 @@ from bg_switch_tools.switch.json_values import JsonObject, Judge, decoded, shown
 
 KEYS = ("health", "analyses", "progress", "redispatch", "revisions", "fleet", SCHEMA)
 # keys of a plan for one machine alone
-OF_MACHINES = ("control", "active", "preview", "start", "stop", "notify", "timeout")
+OF_MACHINES = names_of((CONTROL_KEY, *SERVICES, *COMMANDS))
 MOST_MISSING = 1000
 ANALYSES = ("pre", "post")
 Names = str | tuple[str, ...]  # of one analysis, or of several that run at the same time
