@@ -7,10 +7,11 @@ usage: bench/beside_peers.py [--rounds N] [--seconds S] [--out FILE] ..     figu
 Each proxy runs in three modes: `both` keeps the connections of clients and to endpoints, `client`
 keeps those of clients, `none` has one request a connection. A mode that the switch has not is left
 out. The bench prints a line for each round and proxy, the medians as a table, and each ratio with
-its limit. Processor time is that of all threads of a proxy. A switch with fewer requests at a time
-than there are clients is measured only before an endpoint that answers at once. wrk counts only
-what is answered, so clients that are never answered show only in the requests a second before the
-slow endpoint.
+its limit. Processor time is that of all threads of a proxy. The peers forward all requests at once;
+HAProxy is measured with as many at a time as the switch too (`maxconn`), if there are more clients.
+A proxy with fewer requests at a time than there are clients is measured only before an endpoint that
+answers at once. wrk counts only what is answered, so clients that are never answered show only in
+the requests a second before the slow endpoint.
 
 --system-calls and --instructions count those of a request of the switch, with one client and with
 64, by strace and callgrind. The help (--help) names the other words.
@@ -100,6 +101,11 @@ def running(
                 for name in asked.proxies
                 if name in PEERS
             ]
+            if proxies.LIMITED in asked.proxies:
+                ones += [
+                    proxies.limited_peer(place(), mode, asked.threads, most)
+                    for most in asked.concurrency
+                ]
             if mode in flags:
                 words = (*flags[mode], "--threads", str(asked.threads))
                 ones += [

@@ -321,6 +321,37 @@ class Verdicts(unittest.TestCase):
                             [holds, has_p99, has_time],
                         )
 
+    def test_a_peer_with_as_many_requests_at_a_time_counts_by_itself(self) -> None:
+        """It is compared with the switch that has its limit, and with no other one."""
+        few, others = f"{OTHER} maxconn 8", f"{OTHER} maxconn 80"
+        found = [
+            (one.name, one.value)
+            for one in verdicts(
+                {
+                    subject(PEER): shown(1000, 10, 10),
+                    subject(few): shown(500, 20, 40),
+                    subject(others): shown(9000, 1, 1),
+                    subject(FEW): shown(400, 30, 20),
+                    subject(MANY): shown(900, 10, 10),
+                },
+                LIMITS,
+            )
+            if FEW in one.name and not one.name.startswith((self.ERRORS, self.BESIDE_FEW))
+        ]
+        end = f"both, 8 clients, at once, {FEW}"
+        as_many = "that of a peer with as many at a time"
+        self.assertEqual(
+            found,
+            [
+                (f"{self.REQUESTS}, {end}", 0.4),
+                (f"{self.P99}, {end}", 3.0),
+                (f"{self.TIME}, {end}", 2.0),
+                (f"requests a second to {as_many}, {end}", 0.8),
+                (f"p99 to {as_many}, {end}", 1.5),
+                (f"processor time of a request to {as_many}, {end}", 0.5),
+            ],
+        )
+
     def test_more_requests_at_a_time_cost_no_more(self) -> None:
         for time, holds in ((105, True), (106, False)):
             found = self.judged({subject(FEW): shown(1, 1, 100), subject(MANY): shown(1, 1, time)})
@@ -405,6 +436,9 @@ class Configurations(unittest.TestCase):
                 self.assertIn("nbthread 3", lines)
                 self.assertIn("bind 127.0.0.1:1234 backlog 4096", lines)
                 self.assertIn("server one 127.0.0.1:5678", lines)
+                limited = configurations.haproxy(self.PLACE, mode, 3, 8)
+                without = text.replace("server one 127.0.0.1:5678", "{}")
+                self.assertEqual(limited, without.format("server one 127.0.0.1:5678 maxconn 8"))
 
     def test_a_mode_needs_its_flags_in_the_help(self) -> None:
         flags = {Mode.BOTH: ("--keep", "all"), Mode.CLIENT: None, Mode.NONE: ()}
@@ -433,6 +467,11 @@ class Configurations(unittest.TestCase):
         ):
             self.assertEqual(switch.is_measured(delay, clients), expected)
             self.assertTrue(peer.is_measured(delay, clients))
+
+    def test_a_limited_peer_is_measured_at_its_limit(self) -> None:
+        peer = Proxy(f"{PEER} maxconn 8", Mode.NONE, 1, 1, 8)
+        for delay, clients, expected in ((0.0, 8, False), (0.0, 9, True), (0.1, 9, False)):
+            self.assertEqual(peer.is_measured(delay, clients), expected)
 
     def test_each_round_begins_with_another_proxy(self) -> None:
         proxies = [Proxy(name, Mode.NONE, 1, 1) for name in (PEER, OTHER, MANY)]

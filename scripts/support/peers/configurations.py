@@ -86,8 +86,10 @@ http {{
 """
 
 
-def haproxy(place: Place, mode: Mode, threads: int) -> str:
-    """The text of haproxy.cfg."""
+def haproxy(place: Place, mode: Mode, threads: int, most: int | None = None) -> str:
+    """The text of haproxy.cfg. With `most`, HAProxy forwards so many requests at a time, and the
+    others wait."""
+    limit = "" if most is None else f" maxconn {most}"
     return f"""global
     nbthread {threads}
     maxconn {MOST_CONNECTIONS}
@@ -102,7 +104,7 @@ frontend clients
     bind {HOST}:{place.port} backlog {BACKLOG}
     default_backend endpoints
 backend endpoints
-    server one {HOST}:{place.endpoint}
+    server one {HOST}:{place.endpoint}{limit}
 """
 
 

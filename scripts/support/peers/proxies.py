@@ -29,8 +29,8 @@ Running = subprocess.Popen[str]
 
 
 class Proxy(NamedTuple):
-    """A proxy: its name, with the flag of a switch that says how many requests it forwards at a
-    time; which connections it keeps; its port, its process, and the number of that flag."""
+    """A proxy: its name, with the words that say how many requests it forwards at a time, if they
+    are limited; which connections it keeps; its port, its process, and that limit."""
 
     name: str
     mode: Mode
@@ -40,8 +40,12 @@ class Proxy(NamedTuple):
 
     def is_measured(self, delay: float, clients: int) -> bool:
         """Whether its figures say how good it is. Before an endpoint that takes `delay` seconds, a
-        switch with fewer requests at a time than clients answers as many as this number lets it."""
-        return not delay or clients <= self.concurrency
+        proxy with fewer requests at a time than clients answers as many as this number lets it. A
+        peer whose limit clients don't reach does the same as without one."""
+        is_at_its_limit = clients > self.concurrency
+        if self.concurrency < math.inf and not self.name.startswith(SWITCH):
+            return is_at_its_limit and not delay
+        return not delay or not is_at_its_limit
 
 
 def in_turn(proxies: Sequence[Proxy], number: int) -> list[Proxy]:
@@ -144,18 +148,36 @@ PEERS = {
     ),
     "haproxy": Peer("haproxy.cfg", configurations.haproxy, ("haproxy", "-f", "haproxy.cfg", "-db")),
 }
+LIMITED = "haproxy"  # the peer that can let requests wait for others
 
 
 @contextlib.contextmanager
 def peer(name: str, place: Place, mode: Mode, threads: int) -> Iterator[Proxy]:
     """A peer with `threads` threads or worker processes."""
     kind = PEERS[name]
-    (place.folder / kind.file).write_text(kind.text(place, mode, threads), encoding="ascii")
+    with running_peer(name, kind, place, mode, kind.text(place, mode, threads)) as process:
+        yield Proxy(name, mode, place.port, process.pid)
+
+
+@contextlib.contextmanager
+def limited_peer(place: Place, mode: Mode, threads: int, most: int) -> Iterator[Proxy]:
+    """HAProxy with `threads` threads that forwards at most `most` requests at a time. nginx has no
+    such limit: beyond `max_conns` it refuses requests, where these wait."""
+    kind, name = PEERS[LIMITED], f"{LIMITED} maxconn {most}"
+    text = configurations.haproxy(place, mode, threads, most)
+    with running_peer(name, kind, place, mode, text) as process:
+        yield Proxy(name, mode, place.port, process.pid, most)
+
+
+@contextlib.contextmanager
+def running_peer(name: str, kind: Peer, place: Place, mode: Mode, text: str) -> Iterator[Running]:
+    """A peer with this text of its file, which answers."""
+    (place.folder / kind.file).write_text(text, encoding="ascii")
     with started(kind.words, place.folder) as process:
         need(lambda: is_open(place.port), f"{name} does not listen", place.folder)
         what = f"{name} does not answer, or not in the mode {mode.value}"
         need(lambda: answers(place.port, mode), what, place.folder)
-        yield Proxy(name, mode, place.port, process.pid)
+        yield process
 
 
 def help_of_serve() -> str:
