@@ -55,7 +55,7 @@ FIRST_PORT, SYSTEM_PORT = 19_500, 32_768
 PORTS_EACH = (SYSTEM_PORT - FIRST_PORT) // len(SCRIPTS)
 # The system's table of sockets, its columns, and the state of a socket that listens.
 TABLE = pathlib.Path("/proc/net/tcp")
-LOCAL, STATE, QUEUES, INODE = 1, 3, 4, 9
+LOCAL, PEER, STATE, QUEUES, INODE = 1, 2, 3, 4, 9
 LISTENS, ESTABLISHED = "0A", "01"
 
 
@@ -175,6 +175,13 @@ def has_closed_all(port: int) -> bool:
 def inodes_at(port: int) -> set[str]:
     """The numbers of the sockets of the connections that a program keeps at a port (`lsof -i`)."""
     return {fields[INODE] for fields in rows_at(port) if fields[STATE] != LISTENS}
+
+
+def is_accepted(client: socket.socket) -> bool:
+    """Whether the program of a port of this machine has accepted a client. Counts before and after
+    don't tell it: while sockets come and go, a read of the table may miss some."""
+    port, own = client.getpeername()[1], client.getsockname()[1]
+    return any(fields[PEER].endswith(f":{own:04X}") for fields in rows_at(port))
 
 
 def is_open(port: int) -> bool:

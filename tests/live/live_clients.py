@@ -10,11 +10,19 @@ import time
 from collections import Counter
 from collections.abc import Callable, Iterator
 from functools import partial
-from typing import NamedTuple
 
 from support import checks, clients, faults, processes
 from support.checks import check, check_soon, comes
-from support.clients import SMALL_BUFFER, Crowd, at_once, connect, received, reset, timed
+from support.clients import (
+    SMALL_BUFFER,
+    Crowd,
+    at_once,
+    connect,
+    read_steadily,
+    received,
+    reset,
+    timed,
+)
 from support.endpoints import Endpoint, Held, Request, by_target, held_at
 from support.messages import (
     BAD_REQUEST,
@@ -33,6 +41,7 @@ from support.ports import (
     connections_at,
     has_delivered,
     inodes_at,
+    is_accepted,
     is_refused,
     unread_at,
 )
@@ -46,10 +55,8 @@ TIMEOUT = 600
 ABORT_ON_CLOSE = "--abort-on-close"
 # What a wait may take, in seconds, beyond its limit.
 SLACK = 5.0
-# How many clients read steadily at once, how often they come at most, and the pause, in seconds,
-# below which one of them was steady: below the quarter of a second after which the port may let a
-# silent reader go.
-READERS, ROUNDS_OF_READERS, STEADY = 80, 3, 0.2
+# How many clients read steadily at once, and how often they come at most.
+READERS, ROUNDS_OF_READERS = 80, 3
 BIG = b"x" * 4000000
 # How often clients come at most until they are at several event loops.
 ROUNDS_OF_CLIENTS = 10
@@ -385,42 +392,13 @@ def steady_readers() -> None:
     steady = 0
     with serving(Endpoint(by_target(b"one")).port, workers=7, timeout=TIMEOUT) as switch:
         for _ in range(ROUNDS_OF_READERS):
-            reads = at_once([partial(read_steadily, switch.active)] * READERS)
+            reads = at_once([partial(read_steadily, switch.active, b"/big")] * READERS)
             cut = [one for one in reads if one.bytes_read < len(answer(BIG)) and one.is_steady()]
             check("steady readers get the whole of their answers", cut, [])
             steady += sum(one.is_steady() for one in reads)
             if steady >= READERS // 2:
                 break
     check("readers were steady", steady > 0, True)
-
-
-class SteadyRead(NamedTuple):
-    """How many bytes came to a client, and for how many seconds it took none at most."""
-
-    bytes_read: int
-    pause: float
-
-    def is_steady(self) -> bool:
-        return self.pause < STEADY
-
-
-def read_steadily(port: int) -> SteadyRead:
-    """What comes to a client that reads 64,000 bytes each 40 milliseconds."""
-    count, longest = 0, 0.0
-    with connect(port, 65536) as client:
-        client.sendall(request(b"/big"))
-        with contextlib.suppress(ConnectionError):
-            client.recv(1, socket.MSG_PEEK)
-        latest = time.monotonic() - clients.silence(client)
-        has_more = True
-        while has_more:
-            piece = b""
-            with contextlib.suppress(ConnectionError):
-                piece = client.recv(64000, socket.MSG_WAITALL)
-            longest, latest = max(longest, time.monotonic() - latest), time.monotonic()
-            count, has_more = count + len(piece), piece != b""
-            time.sleep(0.04 if has_more else 0)
-    return SteadyRead(count, longest)
 
 
 def large_bodies() -> None:
@@ -517,18 +495,12 @@ def full_port() -> None:
             )
 
 
-def is_accepted(switch: Switch, before: int) -> bool:
-    """Whether the switch has accepted more connections than before."""
-    return connections_at(switch.active) > before
-
-
 def filled(switch: Switch, uploads: list[socket.socket]) -> socket.socket:
     """Adds uploads until the port is full. Gives the first client that has to wait for an
     accept."""
     while True:
-        before = connections_at(switch.active)
         client = connect(switch.active)
-        if not comes(partial(is_accepted, switch, before), 1.0):
+        if not comes(partial(is_accepted, client), 1.0):
             return client
         client.sendall(head_of(MEGABYTE).replace(b"/", b"/slow", 1) + b"x" * 4096)
         uploads.append(client)
