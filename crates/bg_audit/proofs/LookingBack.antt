@@ -1,12 +1,11 @@
 -- What one more of the oldest entries says, where the newest one is looked at first.
-use Rattle.std.proofs.Common.{◌≡◌, ◌<◌, ◌+◌, ◌-◌, ℕ, Bool, true, false, ◌&&◌, ◌||◌, List, ◌∷◌, reverse, Option, Some, None, refl, ap, sym, ◌∙◌, arith}
+use Rattle.std.proofs.Common.{◌≡◌, ◌<◌, ◌+◌, ◌-◌, ℕ, Bool, true, false, not, ◌&&◌, ◌||◌, List, ◌∷◌, reverse, Option, Some, None, refl, ap, sym, ◌∙◌, arith}
 use Rattle.std.specs.Prelude.{slice_get, unwrap_or}
 use Rattle.std.specs.Option.{option_or}
 use Rattle.bg_strategy.specs.declared.strategy.Strategy.{Strategy}
 use Rattle.bg_history.specs.declared.entry.Entry.{Entry}
-use Rattle.bg_history.specs.declared.entry.Entry.TheVariants.{Deploy, Verdict, Abort, Retry, Outcome}
+use Rattle.bg_history.specs.declared.entry.Entry.TheVariants.{Deploy, Retry, Outcome}
 use Rattle.bg_history.specs.declared.entry.Outcome.TheVariants.{Promoted}
-use Rattle.bg_history.specs.declared.entry.AnalysisResult.TheVariants.{Failed, Error}
 use Rattle.bg_history.specs.AttemptBounds.{moment, is_attempt_bound, is_running}
 use Rattle.bg_history.specs.Attempts.{in_attempt, passes, first_at, pass_moment}
 use Rattle.bg_audit.specs.Openings.{oldest}
@@ -27,11 +26,8 @@ looked V n past e r y is says back = sym is ∙ sym says ∙ sym (ap V back)
 pub still-runs : (e : Entry) (p : List Entry) → is_attempt_bound e ≡ false → is_running (e ∷ p) ≡ is_running p
 still-runs (Deploy r name ports) p h = absurd (cc)
 still-runs Retry p h = absurd (cc)
-still-runs Abort p h = absurd (cc)
 still-runs (Outcome (Promoted r)) p h = absurd (cc)
-still-runs (Verdict analysis Failed) p h = absurd (cc)
-still-runs (Verdict analysis Error) p h = absurd (cc)
-still-runs _ p h = refl
+still-runs e p h = ap (λ halt. not halt && is_running p) h
 
 -- after a bound, the attempt has no step
 pub no-step : (t : Entry → Bool) (e : Entry) (p : List Entry) → is_attempt_bound e ≡ true → in_attempt t (e ∷ p) ≡ false

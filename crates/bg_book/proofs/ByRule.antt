@@ -2,11 +2,10 @@
 use Rattle.std.proofs.Common.{◌≡◌, ℕ, Bool, true, false, cond, ◌==◌, ◌&&◌, ◌||◌, List, [], ◌∷◌, refl, ap, ◌∙◌}
 use Rattle.bg_strategy.specs.declared.strategy.Strategy.{Strategy}
 use Rattle.bg_history.specs.declared.entry.Entry.{Entry}
-use Rattle.bg_history.specs.declared.entry.Entry.TheVariants.{Deploy, Verdict, Abort, Outcome}
+use Rattle.bg_history.specs.declared.entry.Entry.TheVariants.{Deploy, Outcome}
 use Rattle.bg_history.specs.declared.entry.Outcome.TheVariants.{Switched}
-use Rattle.bg_history.specs.declared.entry.AnalysisResult.TheVariants.{Failed, Error}
 use Rattle.bg_history.specs.Kept.{Opening}
-use Rattle.bg_history.specs.AttemptBounds.{stable_of}
+use Rattle.bg_history.specs.AttemptBounds.{stable_of, is_halt}
 use Rattle.bg_history.specs.Selections.{active_of}
 use Rattle.bg_history.specs.Allowed.{is_allowed}
 use Rattle.bg_history.specs.Steps.{all_allowed}
@@ -41,13 +40,16 @@ deploys s r name ports before true e =
     returns_to_stable s (Deploy r name ports) before e (ap (λ b. cond b r (active_of before)) e ∙ eq_from r (stable_of before) e)
 deploys s r name ports before false e = stays s (Deploy r name ports) before (ap (λ b. cond b r (active_of before)) e)
 
+-- the active service goes back if it may, else it keeps its revision
+returns_or_stays : (s : Strategy) (e : Entry) (before : List Entry) (back : Bool) → may_go_back e before ≡ back → active_of (e ∷ before) ≡ cond back (stable_of before) (active_of before)
+    → moves_by_rule s e before ≡ true
+returns_or_stays s e before true may same = returns_to_stable s e before may same
+returns_or_stays s e before false may same = stays s e before same
+
 pub moves : (s : Strategy) (o : Opening) (e : Entry) (before : List Entry) → is_allowed s o e before ≡ true → moves_by_rule s e before ≡ true
 moves s o (Deploy r name ports) before h = deploys s r name ports before (r == stable_of before) refl
-moves s o (Verdict analysis Failed) before h = returns_to_stable s (Verdict analysis Failed) before refl refl
-moves s o (Verdict analysis Error) before h = returns_to_stable s (Verdict analysis Error) before refl refl
-moves s o Abort before h = returns_to_stable s Abort before refl refl
 moves s o (Outcome (Switched r)) before h = switches s (Outcome (Switched r)) before h
-moves s o e before h = stays s e before refl
+moves s o e before h = returns_or_stays s e before (is_halt e) refl refl
 
 -- each entry of a legal history moves the active service by the rule or doesn't move it
 pub reached_by_rule : (s : Strategy) (o : Opening) (past : List Entry) → all_allowed s o past ≡ true → is_reached_by_rule s past ≡ true

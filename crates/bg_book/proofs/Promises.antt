@@ -1,5 +1,5 @@
 -- The calls that roll back, and those that promote.
-use Rattle.std.proofs.Common.{◌≡◌, ◌≤◌, ◌+◌, ℕ, zero, suc, Bool, true, false, not, cond, ◌==◌, ◌&&◌, nat_lt, nat_le, List, [], ◌∷◌, length, Option, Some, None, is_none, refl, ap, sym, subst, arith, ◌∙◌, ◌⊎◌, inl, inr}
+use Rattle.std.proofs.Common.{◌≡◌, ◌≤◌, ◌+◌, ℕ, zero, suc, Bool, true, false, not, cond, ◌==◌, ◌&&◌, ◌||◌, nat_lt, nat_le, List, [], ◌∷◌, length, Option, Some, None, is_none, refl, ap, sym, subst, arith, ◌∙◌, ◌⊎◌, inl, inr}
 use Rattle.std.specs.Prelude.{Result, Ok, Err, unwrap_or}
 use Rattle.std.specs.Option.{option_or}
 use Rattle.bg_strategy.specs.Label.{is_label}
@@ -12,7 +12,7 @@ use Rattle.bg_history.specs.declared.entry.Entry.TheVariants as entry
 use Rattle.bg_history.specs.declared.entry.Entry.TheVariants.{Outcome}
 use Rattle.bg_history.specs.declared.entry.AnalysisResult.TheVariants.{Failed, Error}
 use Rattle.bg_history.specs.declared.entry.Outcome.TheVariants.{Promoted}
-use Rattle.bg_history.specs.AttemptBounds.{stable_of, newest_of, is_running, is_halted}
+use Rattle.bg_history.specs.AttemptBounds.{stable_of, newest_of, is_halt, is_running, is_halted}
 use Rattle.bg_history.specs.Sizes.{existing, last_number, desired, is_scaled}
 use Rattle.bg_history.specs.Deadlines.{exists_in}
 use Rattle.bg_history.specs.Templates.{template, has_ports, namesake}
@@ -41,10 +41,10 @@ running-unhalted [] runs = refl
 running-unhalted (entry.Deploy r name ports ∷ before) runs = refl
 running-unhalted (entry.Retry ∷ before) runs = refl
 running-unhalted (Outcome (Promoted r) ∷ before) runs = refl
-running-unhalted (entry.Abort ∷ before) runs = absurd (cc)
-running-unhalted (entry.Verdict analysis Failed ∷ before) runs = absurd (cc)
-running-unhalted (entry.Verdict analysis Error ∷ before) runs = absurd (cc)
-running-unhalted (e ∷ before) runs = running-unhalted before runs
+running-unhalted (e ∷ before) runs = go (is_halt e) runs (running-unhalted before) where
+  go : (halt : Bool) → not halt && is_running before ≡ true → (is_running before ≡ true → is_halted before ≡ false) → halt || is_halted before ≡ false
+  go true runs earlier = absurd (cc)
+  go false runs earlier = earlier runs
 
 -- a call whose event has no fault can be refused only for lack of room
 is-taken : (b : Routing) (c : Control) → event_fault b c ≡ None → IsTaken b c

@@ -1,5 +1,5 @@
 -- The bounds of the attempts of a past: the begin and the end of each attempt, and its revision.
-use Rattle.std.specs.Prelude.{ℕ, Bool, true, false, not, ◌==◌, List, [], ◌∷◌}
+use Rattle.std.specs.Prelude.{ℕ, Bool, true, false, not, ◌==◌, ◌&&◌, ◌||◌, List, [], ◌∷◌}
 use Rattle.bg_history.specs.declared.entry.Entry.{Entry}
 use Rattle.bg_history.specs.declared.entry.Entry.TheVariants.{Tick, Deploy, Verdict, Abort, Retry, Outcome}
 use Rattle.bg_history.specs.declared.entry.Outcome.TheVariants.{Promoted}
@@ -35,10 +35,7 @@ abbrev pub is_attempt_bound : Entry → Bool
 is_attempt_bound (Deploy r name ports) = true
 is_attempt_bound Retry = true
 is_attempt_bound (Outcome (Promoted r)) = true
-is_attempt_bound Abort = true
-is_attempt_bound (Verdict analysis Failed) = true
-is_attempt_bound (Verdict analysis Error) = true
-is_attempt_bound _ = false
+is_attempt_bound e = is_halt e
 
 -- an attempt runs: the newest bound is a retry, or a deploy of a revision that wasn't the stable one
 abbrev pub is_running : List Entry → Bool
@@ -46,10 +43,7 @@ is_running [] = false
 is_running (Deploy r name ports ∷ before) = not (r == stable_of before)
 is_running (Retry ∷ before) = true
 is_running (Outcome (Promoted r) ∷ before) = false
-is_running (Abort ∷ before) = false
-is_running (Verdict analysis Failed ∷ before) = false
-is_running (Verdict analysis Error ∷ before) = false
-is_running (_ ∷ before) = is_running before
+is_running (e ∷ before) = not (is_halt e) && is_running before
 
 -- the last attempt was halted: the newest bound is an abort or a verdict that is failed or error
 abbrev pub is_halted : List Entry → Bool
@@ -57,7 +51,4 @@ is_halted [] = false
 is_halted (Deploy r name ports ∷ before) = false
 is_halted (Retry ∷ before) = false
 is_halted (Outcome (Promoted r) ∷ before) = false
-is_halted (Abort ∷ before) = true
-is_halted (Verdict analysis Failed ∷ before) = true
-is_halted (Verdict analysis Error ∷ before) = true
-is_halted (_ ∷ before) = is_halted before
+is_halted (e ∷ before) = is_halt e || is_halted before

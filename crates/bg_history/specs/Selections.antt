@@ -2,10 +2,9 @@
 use Rattle.std.specs.Prelude.{ℕ, Bool, if◌then◌else◌, ◌==◌, ◌||◌, List, [], ◌∷◌}
 use Rattle.bg_revisions.specs.declared.revision.Selectors.{Selectors}
 use Rattle.bg_history.specs.declared.entry.Entry.{Entry}
-use Rattle.bg_history.specs.declared.entry.Entry.TheVariants.{Deploy, Verdict, Abort, Outcome}
+use Rattle.bg_history.specs.declared.entry.Entry.TheVariants.{Deploy, Outcome}
 use Rattle.bg_history.specs.declared.entry.Outcome.TheVariants.{Switched}
-use Rattle.bg_history.specs.declared.entry.AnalysisResult.TheVariants.{Failed, Error}
-use Rattle.bg_history.specs.AttemptBounds.{stable_of, newest_of, is_running}
+use Rattle.bg_history.specs.AttemptBounds.{stable_of, newest_of, is_halt, is_running}
 
 -- the newest revision while an attempt runs, else the stable one
 abbrev pub preview_of : List Entry → ℕ
@@ -16,11 +15,8 @@ preview_of past = if is_running past then newest_of past else stable_of past
 abbrev pub active_of : List Entry → ℕ
 active_of [] = 1
 active_of (Outcome (Switched r) ∷ before) = r
-active_of (Abort ∷ before) = stable_of before
-active_of (Verdict analysis Failed ∷ before) = stable_of before
-active_of (Verdict analysis Error ∷ before) = stable_of before
 active_of (Deploy r name ports ∷ before) = if r == stable_of before then r else active_of before
-active_of (_ ∷ before) = active_of before
+active_of (e ∷ before) = if is_halt e then stable_of before else active_of before
 
 -- r is active, preview or stable
 abbrev pub is_selected : ℕ → List Entry → Bool

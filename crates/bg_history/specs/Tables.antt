@@ -1,10 +1,9 @@
 -- The table of the deadlines, and the one that a past makes, for a book that keeps the deadlines in addition to its past.
-use Rattle.std.specs.Prelude.{ℕ, Bool, true, false, not, ◌+◌, ◌==◌, List, [], ◌∷◌, length, Option, Some, None, is_some, filter, find, IsTrue}
+use Rattle.std.specs.Prelude.{ℕ, Bool, true, false, not, if◌then◌else◌, ◌+◌, ◌==◌, List, [], ◌∷◌, length, Option, Some, None, is_some, filter, find, IsTrue}
 use Rattle.bg_history.specs.declared.entry.Entry.{Entry}
-use Rattle.bg_history.specs.declared.entry.Entry.TheVariants.{Deploy, Verdict, Abort, Retry, Outcome}
+use Rattle.bg_history.specs.declared.entry.Entry.TheVariants.{Deploy, Retry, Outcome}
 use Rattle.bg_history.specs.declared.entry.Outcome.TheVariants.{Switched, ScaledDown}
-use Rattle.bg_history.specs.declared.entry.AnalysisResult.TheVariants.{Failed, Error}
-use Rattle.bg_history.specs.AttemptBounds.{moment, stable_of, newest_of}
+use Rattle.bg_history.specs.AttemptBounds.{moment, stable_of, newest_of, is_halt}
 use Rattle.bg_history.specs.Selections.{active_of}
 use Rattle.bg_history.specs.Sizes.{is_scaled}
 use Rattle.bg_history.specs.Deadlines.{deadline, exists_in}
@@ -66,12 +65,8 @@ touched (Deploy r name ports) before = active_of before ∷ newest_of before ∷
 touched Retry before = newest_of before ∷ []
 touched (Outcome (Switched r)) before = active_of before ∷ r ∷ []
 touched (Outcome (ScaledDown r)) before = r ∷ []
-touched Abort before = active_of before ∷ newest_of before ∷ stable_of before ∷ []
-touched (Verdict analysis Failed) before =
-    active_of before ∷ newest_of before ∷ stable_of before ∷ []
-touched (Verdict analysis Error) before =
-    active_of before ∷ newest_of before ∷ stable_of before ∷ []
-touched _ before = []
+touched e before =
+    if is_halt e then active_of before ∷ newest_of before ∷ stable_of before ∷ [] else []
 
 -- the stamps after an entry, with its effect on these revisions
 abbrev pub stamp_all : Strategy → Entry → List Entry → List ℕ → List Stamp → List Stamp

@@ -1,10 +1,10 @@
 -- Consequences of what has happened in an attempt.
-use Rattle.std.proofs.Common.{◌≡◌, ℕ, Bool, true, false, ◌&&◌, ◌||◌, List, [], ◌∷◌, Option, None, refl, arith, is_some}
+use Rattle.std.proofs.Common.{◌≡◌, ℕ, Bool, true, false, not, ◌&&◌, ◌||◌, List, [], ◌∷◌, Option, None, refl, ap, arith, is_some}
 use Rattle.std.proofs.lemmas.Grind.{common_steps}
 use Rattle.bg_history.specs.declared.entry.Entry.{Entry}
-use Rattle.bg_history.specs.declared.entry.Entry.TheVariants.{Deploy, Verdict, Abort, Retry, Outcome}
+use Rattle.bg_history.specs.declared.entry.Entry.TheVariants.{Deploy, Verdict, Retry, Outcome}
 use Rattle.bg_history.specs.declared.entry.Outcome.TheVariants.{Ready, Promoted}
-use Rattle.bg_history.specs.declared.entry.AnalysisResult.TheVariants.{Successful, Failed, Error}
+use Rattle.bg_history.specs.declared.entry.AnalysisResult.TheVariants.{Successful}
 use Rattle.bg_history.specs.declared.entry.Analysis.TheVariants.{Pre}
 use Rattle.bg_strategy.specs.declared.strategy.Strategy.{Strategy}
 use Rattle.bg_history.specs.AttemptBounds.{moment, is_attempt_bound, is_running}
@@ -13,12 +13,9 @@ use Rattle.bg_history.specs.Attempts.{in_attempt, has_ready, is_ready, first_at,
 -- only a bound begins or ends an attempt
 is_running-unbounded : (e : Entry) (before : List Entry) → is_attempt_bound e ≡ false → is_running (e ∷ before) ≡ is_running before
 is_running-unbounded (Deploy r name ports) before h = grind arith
-is_running-unbounded (Verdict analysis Failed) before h = grind arith
-is_running-unbounded (Verdict analysis Error) before h = grind arith
-is_running-unbounded Abort before h = grind arith
 is_running-unbounded Retry before h = grind arith
 is_running-unbounded (Outcome (Promoted r)) before h = grind arith
-is_running-unbounded e before h = refl
+is_running-unbounded e before h = ap (λ halt. not halt && is_running before) h
 
 -- if an entry is in the running attempt, an attempt runs
 pub in_attempt_runs : (test : Entry → Bool) (past : List Entry) → in_attempt test past ≡ true → is_running past ≡ true

@@ -1,5 +1,5 @@
 -- Lemmas about following the entries of a journal.
-use Rattle.std.proofs.Common.{◌≡◌, ◌≤◌, ◌+◌, ℕ, Bool, true, false, not, cond, ◌==◌, ◌&&◌, nat_lt, nat_le, List, [], ◌∷◌, ◌++◌, length, reverse, take, unwrap_or, Option, Some, None, Result, Ok, Err, is_none, refl, sym, ap, ◌∙◌, subst, arith}
+use Rattle.std.proofs.Common.{◌≡◌, ◌≤◌, ◌+◌, ℕ, Bool, true, false, not, cond, ◌==◌, ◌&&◌, ◌||◌, nat_lt, nat_le, List, [], ◌∷◌, ◌++◌, length, reverse, take, unwrap_or, Option, Some, None, Result, Ok, Err, is_none, refl, sym, ap, ◌∙◌, subst, arith}
 use Rattle.std.specs.Prelude.{slice_get}
 use Rattle.std.specs.Option.{option_or}
 use Rattle.std.proofs.lemmas.Bool.Decides.{nat_tests}
@@ -19,12 +19,11 @@ use Rattle.bg_promotion.specs.declared.faults.AbortFault.TheVariants as abort_fa
 use Rattle.bg_promotion.specs.declared.faults.PromoteFullFault as full
 use Rattle.bg_promotion.specs.declared.faults.PromoteFullFault.TheVariants as full_fault
 use Rattle.bg_history.specs.declared.entry.Entry.{Entry}
-use Rattle.bg_history.specs.declared.entry.Entry.TheVariants.{Deploy, Verdict, Abort, Retry, Enter, Leave, Outcome}
-use Rattle.bg_history.specs.declared.entry.AnalysisResult.TheVariants.{Failed, Error}
+use Rattle.bg_history.specs.declared.entry.Entry.TheVariants.{Deploy, Retry, Enter, Leave, Outcome}
 use Rattle.bg_history.specs.declared.entry.Outcome as outcome
 use Rattle.bg_history.specs.declared.entry.Outcome.TheVariants.{Ready, Resumed, Switched, Promoted, ScaledDown, Removed}
 use Rattle.bg_history.specs.Kept.{Opening}
-use Rattle.bg_history.specs.AttemptBounds.{newest_of, is_running, is_halted}
+use Rattle.bg_history.specs.AttemptBounds.{newest_of, is_halt, is_running, is_halted}
 use Rattle.bg_history.specs.Attempts.{has_promote_full}
 use Rattle.bg_history.specs.Sizes.{existing, last_number}
 use Rattle.bg_history.specs.Templates.{template, has_ports, namesake}
@@ -67,10 +66,10 @@ running_unhalted [] runs = refl
 running_unhalted (Deploy r name ports ∷ before) runs = refl
 running_unhalted (Retry ∷ before) runs = refl
 running_unhalted (Outcome (Promoted r) ∷ before) runs = refl
-running_unhalted (Abort ∷ before) runs = absurd (cc)
-running_unhalted (Verdict analysis Failed ∷ before) runs = absurd (cc)
-running_unhalted (Verdict analysis Error ∷ before) runs = absurd (cc)
-running_unhalted (e ∷ before) runs = running_unhalted before runs
+running_unhalted (e ∷ before) runs = go (is_halt e) runs (running_unhalted before) where
+  go : (halt : Bool) → not halt && is_running before ≡ true → (is_running before ≡ true → is_halted before ≡ false) → halt || is_halted before ≡ false
+  go true runs earlier = absurd (cc)
+  go false runs earlier = earlier runs
 
 -- an abort that has a fault isn't allowed
 pub abort_refused : (past : List Entry) (e : abort.AbortFault) → abort_answer past ≡ Err e → is_running past ≡ false

@@ -1,13 +1,12 @@
 -- The number of marks in the table of a past.
-use Rattle.std.proofs.Common.{◌≡◌, ◌<◌, ◌≤◌, ◌+◌, ℕ, Bool, true, false, ◌==◌, List, [], ◌∷◌, ◌++◌, length, Option, Some, None, is_some, is_none, not, refl, arith, ap, ◌∙◌, inl, inr}
+use Rattle.std.proofs.Common.{◌≡◌, ◌<◌, ◌≤◌, ◌+◌, ℕ, Bool, true, false, cond, ◌==◌, List, [], ◌∷◌, ◌++◌, length, Option, Some, None, is_some, is_none, not, refl, arith, ap, ◌∙◌, inl, inr}
 use Rattle.std.specs.Option.{option_map}
 use Rattle.std.proofs.lemmas.Bool.Decides.{nat_tests, eqb_tells}
 use Rattle.bg_strategy.specs.declared.strategy.Strategy.{Strategy}
 use Rattle.bg_history.specs.declared.entry.Entry.{Entry}
-use Rattle.bg_history.specs.declared.entry.Entry.TheVariants.{Deploy, Verdict, Abort, Outcome}
+use Rattle.bg_history.specs.declared.entry.Entry.TheVariants.{Deploy, Outcome}
 use Rattle.bg_history.specs.declared.entry.Outcome.TheVariants.{Switched}
-use Rattle.bg_history.specs.declared.entry.AnalysisResult.TheVariants.{Successful, Failed, Error}
-use Rattle.bg_history.specs.AttemptBounds.{newest_of}
+use Rattle.bg_history.specs.AttemptBounds.{newest_of, is_halt}
 use Rattle.bg_history.specs.Selections.{active_of, selectors_of}
 use Rattle.bg_history.specs.Sizes.{existing, Ascends}
 use Rattle.bg_history.specs.Deadlines.{deadline, exists_in}
@@ -109,12 +108,11 @@ room-for s past (Deploy r name ports) few both = go (replaces_newest (selectors_
   go true false other = room-one s (newest_of past) past few
   go false true other = room-one s (active_of past) past few
   go false false other = room-left [] (table_of s past).marks (omega arith)
-room-for s past Abort few both = room-for_halt s past few both
-room-for s past (Verdict analysis Failed) few both = room-for_halt s past few both
-room-for s past (Verdict analysis Error) few both = room-for_halt s past few both
-room-for s past (Verdict analysis Successful) few both = room-left [] (table_of s past).marks (omega arith)
 room-for s past (Outcome (Switched r)) few both = room-one s (active_of past) past few
-room-for s past _ few both = room-left [] (table_of s past).marks (omega arith)
+room-for s past e few both = go (is_halt e) where
+  go : (halt : Bool) → has_room_for (cond halt (marked_by_halt (selectors_of past)) []) (table_of s past).marks ≡ true
+  go true = room-for_halt s past few both
+  go false = room-left [] (table_of s past).marks (omega arith)
 
 -- there is room for each revision that the next entry marks
 pub next-has_room : (s : Strategy) (past : List Entry) (next : Entry) → DeadlinesInvariant s past → Ascends (existing past)

@@ -4,9 +4,8 @@ use Rattle.std.specs.List.{list_any}
 use Rattle.std.specs.Option.{option_or, option_map}
 use Rattle.std.proofs.lemmas.Bool.Decides.{nat_tests, eqb_tells}
 use Rattle.bg_history.specs.declared.entry.Entry.{Entry}
-use Rattle.bg_history.specs.declared.entry.Entry.TheVariants.{Deploy, Verdict, Abort, Retry, Outcome}
+use Rattle.bg_history.specs.declared.entry.Entry.TheVariants.{Deploy, Retry, Outcome}
 use Rattle.bg_history.specs.declared.entry.Outcome.TheVariants.{Switched, ScaledDown}
-use Rattle.bg_history.specs.declared.entry.AnalysisResult.TheVariants.{Successful, Failed, Error}
 use Rattle.bg_history.specs.AttemptBounds.{moment}
 use Rattle.bg_history.specs.Marks.{MarkKind, Left, Superseded, Aborted, Cleared, Mark, kind_of, mark}
 use Rattle.bg_history.specs.Deadlines.{deadline_of}
@@ -58,11 +57,7 @@ untouched s r (Deploy q name ports) before out = grind (arith, nat_tests)
 untouched s r Retry before out = grind (arith, nat_tests)
 untouched s r (Outcome (Switched q)) before out = grind (arith, nat_tests)
 untouched s r (Outcome (ScaledDown q)) before out = grind (arith, nat_tests)
-untouched s r Abort before out = grind (arith, nat_tests)
-untouched s r (Verdict analysis Failed) before out = grind (arith, nat_tests)
-untouched s r (Verdict analysis Error) before out = grind (arith, nat_tests)
-untouched s r (Verdict analysis Successful) before out = grind (arith, nat_tests)
-untouched s r _ before out = grind (arith, nat_tests)
+untouched s r e before out = grind (arith, nat_tests)
 
 -- a mark that occurs twice counts once
 after_twice : (s : Strategy) (k : Option MarkKind) (r at position : ℕ) (stamp : Option Stamp) → after s k r at position (after s k r at position stamp) ≡ after s k r at position stamp

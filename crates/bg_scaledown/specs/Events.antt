@@ -1,9 +1,9 @@
 -- The effect of a history's entry on the marks, by the selectors before it.
 use Rattle.std.specs.Prelude.{ℕ, Bool, not, if◌then◌else◌, ◌+◌, ◌==◌, ◌&&◌, ◌||◌, nat_lt, List, [], ◌∷◌, ◌++◌}
 use Rattle.bg_history.specs.declared.entry.Entry.{Entry}
-use Rattle.bg_history.specs.declared.entry.Entry.TheVariants.{Deploy, Verdict, Abort, Outcome}
+use Rattle.bg_history.specs.declared.entry.Entry.TheVariants.{Deploy, Outcome}
 use Rattle.bg_history.specs.declared.entry.Outcome.TheVariants.{Switched}
-use Rattle.bg_history.specs.declared.entry.AnalysisResult.TheVariants.{Failed, Error}
+use Rattle.bg_history.specs.AttemptBounds.{is_halt}
 use Rattle.bg_revisions.specs.declared.revision.Selectors.{Selectors}
 use Rattle.bg_history.specs.declared.mark.RevisionMark.{RevisionMark}
 use Rattle.bg_history.specs.declared.mark.Cause.TheVariants.{Left, Superseded, Aborted}
@@ -103,8 +103,5 @@ marked_by_halt x = only_if (not (x.newest == x.active)) x.newest ++ x.active ∷
 -- the revisions that an entry may mark
 abbrev pub may_mark : Entry → Selectors → List ℕ
 may_mark (Deploy r name ports) x = marked_by_deploy r x
-may_mark Abort x = marked_by_halt x
-may_mark (Verdict analysis Failed) x = marked_by_halt x
-may_mark (Verdict analysis Error) x = marked_by_halt x
 may_mark (Outcome (Switched r)) x = x.active ∷ []
-may_mark _ x = []
+may_mark e x = if is_halt e then marked_by_halt x else []

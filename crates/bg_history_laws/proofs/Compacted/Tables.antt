@@ -1,9 +1,8 @@
 -- A past and the compacted past make the same table of marks.
 use Rattle.std.proofs.Common.{◌≡◌, ℕ, Bool, true, false, not, cond, ◌==◌, List, [], ◌∷◌, length, filter, Option, Some, None, refl, ap, sym, ◌∙◌}
 use Rattle.bg_history.specs.declared.entry.Entry.{Entry}
-use Rattle.bg_history.specs.declared.entry.Entry.TheVariants.{Tick, Deploy, Verdict, Abort, Retry, Enter, Leave, Outcome}
+use Rattle.bg_history.specs.declared.entry.Entry.TheVariants.{Tick, Deploy, Retry, Enter, Leave, Outcome}
 use Rattle.bg_history.specs.declared.entry.Outcome.TheVariants.{Switched, ScaledDown}
-use Rattle.bg_history.specs.declared.entry.AnalysisResult.TheVariants.{Failed, Error}
 use Rattle.bg_strategy.specs.declared.strategy.Strategy.{Strategy}
 use Rattle.bg_history.specs.Kept.{Opening}
 use Rattle.bg_history.specs.AttemptBounds.{moment, stable_of, newest_of}
@@ -48,10 +47,7 @@ touched-both (Deploy r name ports) a b st new act = rw (act, new) refl
 touched-both Retry a b st new act = rw new refl
 touched-both (Outcome (Switched r)) a b st new act = rw act refl
 touched-both (Outcome (ScaledDown r)) a b st new act = refl
-touched-both Abort a b st new act = rw (act, new, st) refl
-touched-both (Verdict analysis Failed) a b st new act = rw (act, new, st) refl
-touched-both (Verdict analysis Error) a b st new act = rw (act, new, st) refl
-touched-both e a b st new act = refl
+touched-both e a b st new act = cc
 
 table-both : {s : Strategy} {o : Opening} {a b : List Entry} → (e : Entry) → Alike s o a b → moment (e ∷ a) ≡ moment (e ∷ b) → marks_of (stamps_of s a) ≡ marks_of (stamps_of s b)
     → marks_of (stamps_of s (e ∷ a)) ≡ marks_of (stamps_of s (e ∷ b))

@@ -4,12 +4,12 @@ use Rattle.std.proofs.lemmas.Bool.Decides.{nat_tests}
 use Rattle.bg_strategy.specs.declared.strategy.Strategy.{Strategy}
 use Rattle.bg_revisions.specs.declared.revision.Service.TheVariants as service
 use Rattle.bg_history.specs.declared.entry.Entry.{Entry}
-use Rattle.bg_history.specs.declared.entry.Entry.TheVariants.{Tick, Deploy, Verdict, Abort, Retry, Enter, Outcome}
+use Rattle.bg_history.specs.declared.entry.Entry.TheVariants.{Tick, Deploy, Verdict, Retry, Enter, Outcome}
 use Rattle.bg_history.specs.declared.entry.Outcome.TheVariants.{Ready, Resumed, Switched, Promoted}
 use Rattle.bg_history.specs.declared.entry.Analysis.TheVariants.{Pre}
-use Rattle.bg_history.specs.declared.entry.AnalysisResult.TheVariants.{Successful, Failed, Error}
+use Rattle.bg_history.specs.declared.entry.AnalysisResult.TheVariants.{Successful}
 use Rattle.bg_history.specs.Kept.{Opening}
-use Rattle.bg_history.specs.AttemptBounds.{moment, stable_of, is_attempt_bound, is_running}
+use Rattle.bg_history.specs.AttemptBounds.{moment, stable_of, is_halt, is_attempt_bound, is_running}
 use Rattle.bg_history.specs.Attempts.{is_ready, has_ready, has_resumed, is_promote, has_promote, is_promote_full, has_promote_full, first_at, passes, pass_moment, is_passed}
 use Rattle.bg_history.specs.Selections.{active_of}
 use Rattle.bg_history.specs.Phases.{needs_pause}
@@ -17,7 +17,7 @@ use Rattle.bg_history.specs.Promotion.{attempts, waited, may_resume, may_switch}
 use Rattle.bg_history.specs.Allowed.{may_enter, is_allowed}
 use Rattle.bg_history.specs.Steps.{all_allowed}
 use Rattle.bg_history_laws.specs.Live.{is_pre_success, has_pre_success, is_pause_over, may_go_live, is_tested, met_tested, switched_tested, OnlyTestedIsLive}
-use Rattle.bg_history_laws.proofs.Tests.{and_parts, and_both, or_left, or_right, both_ways, equal_itself, equal_numbers}
+use Rattle.bg_history_laws.proofs.Tests.{and_parts, and_both, or_left, or_right, not_true, both_ways, equal_itself, equal_numbers}
 use Rattle.bg_history_laws.proofs.Promised.Attempts.{promoted-step}
 use Rattle.bg_history_laws.proofs.Reached.Allowing.{allowed_now, allowed_before, promoted-switched}
 use Rattle.bg_history_laws.proofs.Reached.Running.{in_attempt-running}
@@ -99,11 +99,10 @@ resumed-live s o (Outcome (Resumed r) ∷ before) a h = live-more s (Outcome (Re
 resumed-live s o (Tick m ∷ before) a h = live-more s (Tick m) before refl (tick-later s o m before (allowed_now s o (Tick m) before a)) (resumed-live s o before (allowed_before s o (Tick m) before a) h)
 resumed-live s o (Deploy r name ports ∷ before) a h = absurd (cc)
 resumed-live s o (Retry ∷ before) a h = absurd (cc)
-resumed-live s o (Abort ∷ before) a h = absurd (cc)
-resumed-live s o (Verdict analysis Failed ∷ before) a h = absurd (cc)
-resumed-live s o (Verdict analysis Error ∷ before) a h = absurd (cc)
 resumed-live s o (Outcome (Promoted r) ∷ before) a h = absurd (cc)
-resumed-live s o (e ∷ before) a h = live-more s e before refl (omega arith) (resumed-live s o before (allowed_before s o e before a) h)
+resumed-live s o (e ∷ before) a h =
+    let parts = and_parts (not (is_halt e)) (has_resumed before) h in
+    live-more s e before (not_true (is_halt e) parts.0) (omega arith) (resumed-live s o before (allowed_before s o e before a) parts.1)
 
 -- so a switch comes in an attempt that may go live
 switches-live : (s : Strategy) (o : Opening) (r : ℕ) (past : List Entry) → all_allowed s o past ≡ true → may_switch s r past ≡ true → may_go_live s past ≡ true
@@ -148,9 +147,6 @@ tested-deployed s r name ports before h = go (r == stable_of before) refl where
 are-tested : (s : Strategy) (o : Opening) (past : List Entry) → all_allowed s o past ≡ true → AreTested s past
 are-tested s o [] a = record { active = refl; stable = refl }
 are-tested s o (Deploy r name ports ∷ before) a = tested-deployed s r name ports before (are-tested s o before (allowed_before s o (Deploy r name ports) before a))
-are-tested s o (Abort ∷ before) a = tested-back s Abort before (are-tested s o before (allowed_before s o Abort before a)) refl refl
-are-tested s o (Verdict analysis Failed ∷ before) a = tested-back s (Verdict analysis Failed) before (are-tested s o before (allowed_before s o (Verdict analysis Failed) before a)) refl refl
-are-tested s o (Verdict analysis Error ∷ before) a = tested-back s (Verdict analysis Error) before (are-tested s o before (allowed_before s o (Verdict analysis Error) before a)) refl refl
 are-tested s o (Outcome (Switched r) ∷ before) a =
     let earlier = allowed_before s o (Outcome (Switched r)) before a in
     let h = are-tested s o before earlier in
@@ -167,7 +163,11 @@ are-tested s o (Outcome (Promoted r) ∷ before) a =
       active = h.active;
       stable = subst (λ (k : ℕ). is_tested s k before ≡ true) same h.active;
     }
-are-tested s o (e ∷ before) a = let h = are-tested s o before (allowed_before s o e before a) in record { active = h.active; stable = h.stable }
+are-tested s o (e ∷ before) a =
+    let h = are-tested s o before (allowed_before s o e before a) in record { active = active (is_halt e) h; stable = h.stable } where
+      active : (halt : Bool) → AreTested s before → is_tested s (cond halt (stable_of before) (active_of before)) before ≡ true
+      active true h = h.stable
+      active false h = h.active
 
 -- each switch came in an attempt that might go live
 all-switched : (s : Strategy) (o : Opening) (past : List Entry) → all_allowed s o past ≡ true → switched_tested s past ≡ true

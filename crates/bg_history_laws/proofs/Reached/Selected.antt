@@ -3,11 +3,10 @@ use Rattle.std.proofs.Common.{◌≡◌, ◌≤◌, ℕ, Bool, true, false, not,
 use Rattle.std.proofs.lemmas.Bool.Decides.{nat_tests}
 use Rattle.bg_strategy.specs.declared.strategy.Strategy.{Strategy}
 use Rattle.bg_history.specs.declared.entry.Entry.{Entry}
-use Rattle.bg_history.specs.declared.entry.Entry.TheVariants.{Deploy, Verdict, Abort, Retry, Outcome}
+use Rattle.bg_history.specs.declared.entry.Entry.TheVariants.{Deploy, Retry, Outcome}
 use Rattle.bg_history.specs.declared.entry.Outcome.TheVariants.{Resumed, Switched, Promoted, ScaledDown, Removed}
-use Rattle.bg_history.specs.declared.entry.AnalysisResult.TheVariants.{Failed, Error}
 use Rattle.bg_history.specs.Kept.{Opening}
-use Rattle.bg_history.specs.AttemptBounds.{stable_of, newest_of, is_running}
+use Rattle.bg_history.specs.AttemptBounds.{stable_of, newest_of, is_halt, is_running}
 use Rattle.bg_history.specs.Selections.{active_of, preview_of}
 use Rattle.bg_history.specs.Sizes.{begins, at_least, desired, is_scaled}
 use Rattle.bg_history.specs.Marks.{Left, Superseded, Aborted, Cleared, Mark, MarkKind, mark}
@@ -129,12 +128,6 @@ selected_scaled-Removed s r before unscaled older h = record {
 pub selected_scaled : (s : Strategy) (o : Opening) (past : List Entry) → all_allowed s o past ≡ true → SelectedScaled s past
 selected_scaled s o [] a = selected_scaled-opening s
 selected_scaled s o (Deploy r name ports ∷ before) a = selected_scaled-Deploy s r name ports before (selected_scaled s o before (allowed_before s o (Deploy r name ports) before a))
-selected_scaled s o (Abort ∷ before) a =
-    let h = selected_scaled s o before (allowed_before s o Abort before a) in record { active = h.stable; stable = h.stable; newest = h.newest; running = λ k. absurd (cc) }
-selected_scaled s o (Verdict analysis Failed ∷ before) a =
-    let h = selected_scaled s o before (allowed_before s o (Verdict analysis Failed) before a) in record { active = h.stable; stable = h.stable; newest = h.newest; running = λ k. absurd (cc) }
-selected_scaled s o (Verdict analysis Error ∷ before) a =
-    let h = selected_scaled s o before (allowed_before s o (Verdict analysis Error) before a) in record { active = h.stable; stable = h.stable; newest = h.newest; running = λ k. absurd (cc) }
 selected_scaled s o (Retry ∷ before) a =
     let h = selected_scaled s o before (allowed_before s o Retry before a) in
     record {
@@ -178,7 +171,16 @@ selected_scaled s o (Outcome (Removed r) ∷ before) a =
     let allowed = allowed_now s o (Outcome (Removed r)) before a in
     selected_scaled-Removed s r before (removed s r before allowed) (removed-older s r before allowed) (selected_scaled s o before (allowed_before s o (Outcome (Removed r)) before a))
 selected_scaled s o (e ∷ before) a =
-    let h = selected_scaled s o before (allowed_before s o e before a) in record { active = h.active; stable = h.stable; newest = h.newest; running = h.running }
+    let h = selected_scaled s o before (allowed_before s o e before a) in
+    record {
+      active = active (is_halt e) h;
+      stable = h.stable;
+      newest = h.newest;
+      running = λ k. h.running (and_parts (not (is_halt e)) (is_running before) k).1;
+    } where
+      active : (halt : Bool) → SelectedScaled s before → exists_scaled s (cond halt (stable_of before) (active_of before)) before ≡ true
+      active true h = h.stable
+      active false h = h.active
 
 -- the same holds of the preview revision, which is the newest or the stable one
 pub selected_scaled-preview : (s : Strategy) (past : List Entry) → SelectedScaled s past → exists_scaled s (preview_of past) past ≡ true

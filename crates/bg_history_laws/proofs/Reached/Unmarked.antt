@@ -19,7 +19,7 @@ use Rattle.bg_history.specs.Allowed.{is_template}
 use Rattle.bg_history_laws.proofs.Tests.{not_true, equal_itself}
 use Rattle.bg_history_laws.proofs.Reached.Allowing.{allowed_now, allowed_before, Returns, Begins, deployed, deployed-other, switched-newest}
 use Rattle.bg_history_laws.proofs.Reached.Numbers.{newest-given}
-use Rattle.bg_history_laws.proofs.Reached.Running.{halt-running, newest_not_stable}
+use Rattle.bg_history_laws.proofs.Reached.Running.{halt-running, halt-active, newest_not_stable}
 
 -- the deadline of r after the entry, depending on whether it left, was superseded, aborted or cleared
 abbrev pub deadline_by : Strategy → ℕ → Entry → List Entry → Bool → Bool → Bool → Bool → Option ℕ
@@ -83,10 +83,10 @@ stable_not_aborted s o e before a halt =
     (newest_not_stable s o before (allowed_before s o e before a) (ap (λ b. b || is_halted before) (halt-running s o e before a halt)))
 
 active_not_aborted : (s : Strategy) (o : Opening) (e : Entry) (before : List Entry) → all_allowed s o (e ∷ before) ≡ true → aborts s (active_of (e ∷ before)) e before ≡ false
-active_not_aborted s o Abort before a = stable_not_aborted s o Abort before a refl
-active_not_aborted s o (Verdict analysis Failed) before a = stable_not_aborted s o (Verdict analysis Failed) before a refl
-active_not_aborted s o (Verdict analysis Error) before a = stable_not_aborted s o (Verdict analysis Error) before a refl
-active_not_aborted s o e before a = refl
+active_not_aborted s o e before a = go (is_halt e) refl where
+  go : (halt : Bool) → is_halt e ≡ halt → (halt && (newest_of before == active_of (e ∷ before))) && has_abort_delay s ≡ false
+  go true is = ap (λ r. (newest_of before == r) && has_abort_delay s) (halt-active e before is) ∙ stable_not_aborted s o e before a is
+  go false is = refl
 
 -- so it gets no deadline
 active_given_none : (s : Strategy) (o : Opening) (e : Entry) (before : List Entry) → all_allowed s o (e ∷ before) ≡ true → GivesNone s (active_of (e ∷ before)) e before

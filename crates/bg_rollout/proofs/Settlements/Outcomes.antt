@@ -6,12 +6,11 @@ use Rattle.std.proofs.lemmas.Bool.Decides.{nat_tests}
 use Rattle.std.proofs.lemmas.Option.{same_Some}
 use Rattle.bg_strategy.specs.declared.strategy.Strategy.{Strategy}
 use Rattle.bg_history.specs.declared.entry.Entry.{Entry}
-use Rattle.bg_history.specs.declared.entry.Entry.TheVariants.{Deploy, Verdict, Abort, Retry, Outcome}
-use Rattle.bg_history.specs.declared.entry.AnalysisResult.TheVariants.{Failed, Error}
+use Rattle.bg_history.specs.declared.entry.Entry.TheVariants.{Deploy, Retry, Outcome}
 use Rattle.bg_history.specs.declared.entry.Outcome as outcome
 use Rattle.bg_history.specs.declared.entry.Outcome.TheVariants.{Ready, Resumed, Switched, Promoted, ScaledDown, Removed}
 use Rattle.bg_history.specs.Kept.{Opening}
-use Rattle.bg_history.specs.AttemptBounds.{newest_of, is_running}
+use Rattle.bg_history.specs.AttemptBounds.{newest_of, is_halt, is_running}
 use Rattle.bg_history.specs.Attempts.{has_ready, has_resumed, has_switched}
 use Rattle.bg_history.specs.Sizes.{existing, is_scaled}
 use Rattle.bg_history.specs.Promotion.{attempts, may_be_ready, may_resume, may_switch, may_promote, first_promotion}
@@ -20,7 +19,7 @@ use Rattle.bg_history.specs.Allowed.{is_allowed}
 use Rattle.bg_history.specs.Steps.{first_allowed, all_allowed}
 use Rattle.bg_promotion.specs.Answers.{is_step}
 use Rattle.bg_promotion.specs.Represents.{is_neutral}
-use Rattle.bg_rollout.proofs.OpenRequests.Requests.{and_parts, eq_from}
+use Rattle.bg_rollout.proofs.OpenRequests.Requests.{and_parts, and_both, eq_from}
 
 or_true : (b : Bool) → (b || true) ≡ true
 or_true true = refl
@@ -135,9 +134,6 @@ switches_resumed s r past may = (and_parts (attempts r past) (has_resumed past) 
 was_ready : (s : Strategy) (o : Opening) (past : List Entry) → all_allowed s o past ≡ true → has_resumed past ≡ true → has_ready past ≡ true
 was_ready s o [] a h = absurd (cc)
 was_ready s o (Deploy r name ports ∷ before) a h = absurd (cc)
-was_ready s o (Abort ∷ before) a h = absurd (cc)
-was_ready s o (Verdict analysis Failed ∷ before) a h = absurd (cc)
-was_ready s o (Verdict analysis Error ∷ before) a h = absurd (cc)
 was_ready s o (Retry ∷ before) a h = absurd (cc)
 was_ready s o (Outcome (Promoted r) ∷ before) a h = absurd (cc)
 was_ready s o (Outcome (Resumed r) ∷ before) a h = resumes_ready s r before (and_parts (may_resume s r before) (all_allowed s o before) a).0
@@ -146,15 +142,14 @@ was_ready s o (Outcome (Ready r) ∷ before) a h =
       either_true : (b c : Bool) → c ≡ true → (b || c) ≡ true
       either_true true c h = refl
       either_true false c h = h
-was_ready s o (e ∷ before) a h = was_ready s o before (and_parts (is_allowed s o e before) (all_allowed s o before) a).1 h
+was_ready s o (e ∷ before) a h =
+    let parts = and_parts (not (is_halt e)) (has_resumed before) h in
+    and_both (not (is_halt e)) (has_ready before) parts.0 (was_ready s o before (and_parts (is_allowed s o e before) (all_allowed s o before) a).1 parts.1)
 
 -- an attempt that has switched had resumed before
 had_resumed : (s : Strategy) (o : Opening) (past : List Entry) → all_allowed s o past ≡ true → has_switched past ≡ true → has_resumed past ≡ true
 had_resumed s o [] a h = absurd (cc)
 had_resumed s o (Deploy r name ports ∷ before) a h = absurd (cc)
-had_resumed s o (Abort ∷ before) a h = absurd (cc)
-had_resumed s o (Verdict analysis Failed ∷ before) a h = absurd (cc)
-had_resumed s o (Verdict analysis Error ∷ before) a h = absurd (cc)
 had_resumed s o (Retry ∷ before) a h = absurd (cc)
 had_resumed s o (Outcome (Promoted r) ∷ before) a h = absurd (cc)
 had_resumed s o (Outcome (Switched r) ∷ before) a h = switches_resumed s r before (and_parts (may_switch s r before) (all_allowed s o before) a).0
@@ -163,7 +158,9 @@ had_resumed s o (Outcome (Resumed r) ∷ before) a h =
       either_true : (b c : Bool) → c ≡ true → (b || c) ≡ true
       either_true true c h = refl
       either_true false c h = h
-had_resumed s o (e ∷ before) a h = had_resumed s o before (and_parts (is_allowed s o e before) (all_allowed s o before) a).1 h
+had_resumed s o (e ∷ before) a h =
+    let parts = and_parts (not (is_halt e)) (has_switched before) h in
+    and_both (not (is_halt e)) (has_resumed before) parts.0 (had_resumed s o before (and_parts (is_allowed s o e before) (all_allowed s o before) a).1 parts.1)
 
 -- a step that was made isn't next
 not_next : (made : Bool) (a b : Bool) → made ≡ true → (a && not made && b) ≡ false
