@@ -53,6 +53,7 @@ NO_BOOK = "refused NotOpen"
 UNSAVED, JOURNAL_FAILED = "unsaved 0", "refused JournalFailed"
 LACKS = "it lacks the last order that was carried out"
 KEEPS = "keeps each order again"
+OTHER_STRATEGY = "the journal is one of another strategy"
 # The kills of the drill in the gate and by hand, how many of them one journal takes, how long a
 # switch lives, and the pause after an order: the rule reads the whole journal for each report.
 KILLS, KILLS_BY_HAND, KILLS_EACH = 12, 500, 4
@@ -217,6 +218,8 @@ def what_a_start_finds_before_an_open() -> None:
         check("a journal that is not there", (missing.printed, missing.status), (REFUSED, 1))
         check("it is not made", os.path.exists(path), False)
         with journaled(path) as switch:
+            there = sorted(os.listdir(folder))
+            check("a new journal is at its path", there, ["journal", "journal-wal"])
             check("a new journal has no book", switch.answer_to("report"), NO_BOOK)
             check("a name that is none", switch.answer_to("open A 1"), "refused BadName")
         empty = judged(path)
@@ -262,9 +265,7 @@ def journals_that_are_refused() -> None:
             check("the process goes on", switch.answer_to("available 2 1"), "ok 1")
             was = report_of(switch)
         check("the journal is judged", judged(path), (was, "", 0))
-        told = check_refused(
-            "another strategy", path, "the journal is one of another strategy", OTHER
-        )
+        told = check_refused("another strategy", path, OTHER_STRATEGY, OTHER)
         other = "bg_switch: the journal has replicas 1, and the Rollout replicas 2\n"
         check("what differs is told", other in told, True)
         move_log(path)
@@ -286,14 +287,61 @@ def journals_that_are_refused() -> None:
             connection.execute("CREATE TABLE entries (text TEXT)")
             connection.commit()
         check_refused("another database", path, "the database is no journal")
-        check_refused_folder(folder)
+        check_refused_paths(folder)
 
 
-def check_refused_folder(folder: str) -> None:
-    """A journal in a folder that is not there."""
-    active, control = free_ports(2)
-    run = run_to_end(BY_HAND, active, control, flags=("--journal", f"{folder}/x/journal"))
-    check("a folder that is not there", (run.printed, run.status), (REFUSED, 1))
+def write_journal(path: str, rows: Sequence[str]) -> None:
+    """Has Python's sqlite3 write a journal with these rows."""
+    with contextlib.closing(sqlite3.connect(path)) as connection:
+        for table, texts in (("entries", rows), ("settings", ("1",))):
+            connection.execute(
+                f"CREATE TABLE {table} (number INTEGER PRIMARY KEY, text TEXT NOT NULL) STRICT"
+            )
+            connection.executemany(
+                f"INSERT INTO {table} (text) VALUES (?)", [(text,) for text in texts]
+            )
+        connection.commit()
+
+
+def rows_that_are_refused() -> None:
+    """Journals whose rows name no strategy, another one, no first revision, or a line of no entry."""
+    with a_folder() as folder:
+        path = f"{folder}/journal"
+        was = begun_with(path, ("open one 9001", "tick 5"))
+        begin, *orders = rows_in(path)
+        settings = begin.removesuffix("deploy 1 one 9001\n")
+        bound, bad = f"requests {NUMBERS_OF_RUN}", "no entry\n"
+        no_revision = "the first row of the journal names no first revision"
+        for name, rows, reason in (
+            ("other settings", [begin.replace("replicas 1", "replicas 2")], OTHER_STRATEGY),
+            ("no settings", ["deploy 1 one 9001\n", *orders], OTHER_STRATEGY),
+            ("no revision", [settings, *orders], no_revision),
+            ("a later revision", [f"{settings}deploy 2 one 9001\n", *orders], no_revision),
+            ("two revisions", [f"{begin}deploy 2 two 9002\n", *orders], no_revision),
+            ("a bad line", [begin, bad], "line 1 of order 1 is not that of an entry"),
+            (
+                "a bad line behind a bound",
+                [begin, bound, *orders, bound, f"abort\n{bad}"],
+                "line 2 of order 2 is not that of an entry",
+            ),
+        ):
+            other = f"{folder}/{name}"
+            write_journal(other, rows)
+            check_refused(name, other, reason)
+        unnamed = judged(f"{folder}/no settings")
+        check("it is judged", (unnamed.printed, unnamed.status), (REFUSED, 1))
+        check("why", "the first row of the journal names no strategy" in unnamed.told, True)
+        whole = f"{folder}/whole"
+        write_journal(whole, [begin, bound, *orders])
+        check("the same rows", judged(whole), (was, "", 0))
+
+
+def check_refused_paths(folder: str) -> None:
+    """A journal in a folder that is not there, and one in no file."""
+    for path in (f"{folder}/x/journal", ":memory:"):
+        active, control = free_ports(2)
+        run = run_to_end(BY_HAND, active, control, flags=("--journal", path))
+        check(f"the path {path}", (run.printed, run.status), (REFUSED, 1))
 
 
 def check_failing(disk: FailingDisk, failure: Failure) -> None:
@@ -475,7 +523,7 @@ def other_settings() -> None:
         check("no file is overwritten", content_of(f"{path}.1"), b"a file of somebody else")
         check("its mode", [os.stat(it).st_mode & 0o777 for it in (path, f"{path}.2")], [0o640] * 2)
         check("the copy is judged", judged(f"{path}.2"), (was, "", 0))
-        check_refused("the strategy before", path, "the journal is one of another strategy")
+        check_refused("the strategy before", path, OTHER_STRATEGY)
         with journaled(path, later) as switch:
             check("the report of a start", report_of(switch), new)
             for line in ("available 1 1", "tick 5", "deploy three 9003"):
@@ -747,6 +795,7 @@ if __name__ == "__main__":
             numbers_go_on,
             what_a_start_finds_before_an_open,
             journals_that_are_refused,
+            rows_that_are_refused,
             a_disk_that_fails,
             a_file_that_may_not_grow,
             memory_refused_at_a_start,

@@ -1,16 +1,19 @@
 //! A journal that is open.
-ghost use Rattle.std.specs.Prelude.{◌≡◌, ◌≢◌, ◌⊎◌, ◌↔◌, ◌≤◌, ◌++◌, [], ◌∷◌, None, map, IfOk, IfErr, OnOk, OnErr, IsTrue, string_bytes};
+ghost use Rattle.std.specs.Prelude.{◌≡◌, ◌≢◌, ◌⊎◌, ◌↔◌, ◌≤◌, ◌++◌, [], ◌∷◌, None, codes, map, IfOk, IfErr, OnOk, OnErr, Err, IsTrue, string_bytes};
 ghost use Rattle.sqlite_disk.specs.Disk.{MoreFaults};
-ghost use Rattle.sqlite_trees.specs.View.{doubt, IsShaped};
+ghost use Rattle.sqlite_trees.specs.View.{doubt, IsClean, IsShaped};
 ghost use Rattle.sqlite_trees.specs.declared.store.Shape.TheVariants as shape;
 ghost use Rattle.sqlite_trees.specs.declared.error.StoreError.{StoreError};
+ghost use Rattle.sqlite_store.specs.FileStore.{view};
 ghost use Rattle.sqlite_wal.specs.Files.{image_at};
+ghost use Rattle.sqlite_wal.specs.Reads.{AreClean};
 ghost use Rattle.sqlite_catalog.specs.Listing.{IsSound};
 ghost use Rattle.sqlite.specs.Held.{state};
-ghost use Rattle.sqlite.specs.Files.{file_state};
+ghost use Rattle.sqlite.specs.Closing.{IsCopied};
+ghost use Rattle.sqlite.specs.Files.{FailsToClose, IsClosed, file_state};
 ghost use Rattle.sqlite.specs.Steps.{over_memory};
 ghost use Rattle.sqlite.specs.State.{HasCleanDisk, IsLive, Opens, store_error};
-ghost use Rattle.bg_journal_store.specs.declared.fault.JournalFault.TheVariants.{OtherSchema, OtherVersion};
+ghost use Rattle.bg_journal_store.specs.declared.fault.JournalFault.TheVariants.{CannotOpen, OtherSchema, OtherVersion, OutOfMemory};
 ghost use Rattle.bg_journal_store.specs.Faults.{fault_of as fault_in};
 ghost use Rattle.bg_journal_store.specs.Failures.{FailsToAppend, FailsToRead};
 ghost use Rattle.bg_journal_store.specs.Schema.{journal_schema, version};
@@ -20,7 +23,7 @@ use crate::fault::{JournalFault, fault_of};
 use crate::reading::{SELECT_ENTRIES, SELECT_SETTINGS, read_texts};
 use crate::schema::{is_empty, is_journal};
 use sqlite::{Alter, Connection, Error, ErrorCode, FileFrom, FileStore, MemStore, Start, params};
-use sqlite_disk::Disk;
+use sqlite_disk::{Disk, Files};
 use std::alloc::Global;
 use std::marker::Model;
 
@@ -74,7 +77,8 @@ impl<S: Start> Journal<FileStore<FileFrom<S>>> {
     /// What it opens is a journal, and its texts are those of the journal that the files held, or none. It refuses a
     /// database of another schema ([`OtherSchema`](JournalFault::OtherSchema)) or another version
     /// ([`OtherVersion`](JournalFault::OtherVersion)) and leaves it as it was, one that another process has open
-    /// ([`Busy`](JournalFault::Busy)), and one that is damaged as far as the sums of its pages tell.
+    /// ([`Busy`](JournalFault::Busy)), and one that is damaged as far as the sums of its pages tell. The path `:memory:` is
+    /// that of no file ([`CannotOpen`](JournalFault::CannotOpen)).
     pub fn open(
         rt: &HostRuntime,
         path: &str,
@@ -84,6 +88,7 @@ impl<S: Start> Journal<FileStore<FileFrom<S>>> {
             → IsJournal (file_state journal)) }
         ensures found { IfOk result (λ journal. HasCleanDisk (file_state journal)
             → OpensFrom (image_at S.Start) (texts_in (file_state journal).now.trees)) }
+        ensures memory { path.now ≡ codes ":memory:" → result ≡ Err CannotOpen }
     {
         match Connection::open_from(rt, path, true, start) {
             Ok(mut conn) => {
@@ -97,29 +102,36 @@ impl<S: Start> Journal<FileStore<FileFrom<S>>> {
 
 impl<D: Disk + Drop> Journal<FileStore<D>> {
     /// Closes the journal, and moves what its log still has into the database, whose file then has all texts without the log.
-    /// After an error the two files still have them together.
-    pub fn close(self) -> Result<(), JournalFault>
-        ensures { IfErr result (λ fault. (cause : StoreError) × (fault ≡ fault_in (store_error cause))) }
+    /// Gives the two files, which stay locked until they are dropped. After an error they still have the texts together.
+    pub fn close(self) -> Result<Files<D>, JournalFault>
+        ensures copied { IfOk result (λ files. AreClean D.Disk files.log files.db → IsCopied self files) }
+        ensures named { IfErr result (λ fault. (cause : StoreError) × (fault ≡ fault_in (store_error cause))) }
+        ensures failed { IfErr result (λ fault. (last : _) × IsClosed self last × (IsClean (view last)
+            → (error : _) × (fault ≡ fault_in error) × FailsToClose self last error)) }
     {
         let Journal { conn } = self;
-        match conn.close() {
-            Ok(()) => Ok(()),
-            Err(error) => Err(fault_of(error)),
+        match conn.close_files() {
+            Ok(files) => Ok(files),
+            Err((error, store)) => {
+                drop(store.close());
+                Err(fault_of(error))
+            }
         }
     }
 }
 
 impl Journal<MemStore> {
-    /// A new journal in memory.
+    /// A new journal in memory. The only error is `OutOfMemory`.
     pub fn in_memory(alloc: Global) -> Result<Journal<MemStore>, JournalFault>
         ensures journal { IfOk result (λ journal. IsJournal (state over_memory journal)) }
         ensures empty { IfOk result (λ journal. texts_in (state over_memory journal).now.trees ≡ []) }
+        ensures fault { IfErr result (λ fault. fault ≡ OutOfMemory) }
     {
         match Connection::open_in_memory(alloc) {
-            Ok(mut conn) => {
-                accept(alloc, &mut conn)?;
-                Ok(Journal { conn })
-            }
+            Ok(mut conn) => match accept(alloc, &mut conn) {
+                Ok(()) => Ok(Journal { conn }),
+                Err(_) => Err(JournalFault::OutOfMemory),
+            },
             Err(_) => Err(JournalFault::OutOfMemory),
         }
     }

@@ -1,3 +1,5 @@
+pub mod FirstRows
 pub mod Remembered
 pub mod ReadOrders
+pub mod Refused
 pub mod SameRows

@@ -1,3 +1,4 @@
 pub mod FirstRow
+pub mod Refusals
 pub mod Starts
 pub mod Ties

@@ -1,24 +1,30 @@
 -- What a switch begins with that has a journal.
-use Rattle.std.specs.Prelude.{◌≡◌, ◌⊎◌, ℕ, false, List, [], ◌∷◌, ◌++◌, Option}
+use Rattle.std.specs.Prelude.{◌≡◌, ◌⊎◌, ℕ, false, List, [], ◌∷◌, ◌++◌, Option, is_none, count_by}
 use Rattle.sqlite.specs.Held.{Held}
 use Rattle.bg_history.specs.declared.entry.Entry.{Entry}
-use Rattle.bg_journal.specs.Bounds.{bound_text, last_bound}
+use Rattle.bg_journal.specs.Bounds.{bound_in, bound_text, last_bound}
 use Rattle.bg_script.specs.declared.answering.FirstRevision.{FirstRevision}
 use Rattle.bg_script.specs.declared.numbered_journal.NumberedJournal.{NumberedJournal}
 use Rattle.bg_script.specs.RequestNumbers.{number_behind}
 use Rattle.bg_script.specs.Survival.{AreReadFrom}
 use Rattle.bg_order_journal.specs.FirstRow.{first_row}
 
--- these are the entries of the orders that these texts have, and their last bound of request numbers
-pub record AreSaid (texts : List (List ℕ)) (entries : List Entry) (numbers : ℕ) : Type 0 where
+-- the number of orders that texts have: of those that say no bound of request numbers
+abbrev pub order_count : List (List ℕ) → ℕ
+order_count texts = count_by (λ text. is_none (bound_in text)) texts
+
+-- these are the entries of the orders that these texts have, their last bound of request numbers, and the number of orders
+pub record AreSaid (texts : List (List ℕ)) (entries : List Entry) (numbers count : ℕ) : Type 0 where
   pub entries_are : AreReadFrom texts entries
   pub numbers_are : numbers ≡ last_bound texts
+  pub count_is : count ≡ order_count texts
 
--- these are the first revision, the entries and the last bound of a journal with these rows, and none is in doubt
-pub record AreOf (settings : List ℕ) (rows doubt : List (List ℕ)) (first : FirstRevision) (entries : List Entry) (numbers : ℕ) : Type 0 where
+-- these are the first revision, the entries, the last bound and the number of orders of a journal with these rows, and none is
+-- in doubt
+pub record AreOf (settings : List ℕ) (rows doubt : List (List ℕ)) (first : FirstRevision) (entries : List Entry) (numbers count : ℕ) : Type 0 where
   pub texts : List (List ℕ)
   pub rows_are : rows ≡ first_row settings first.name first.ports ∷ texts
-  pub said : AreSaid texts entries numbers
+  pub said : AreSaid texts entries numbers count
   pub settled : doubt ≡ []
 
 -- more requests than a run gives numbers

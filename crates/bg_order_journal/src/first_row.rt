@@ -1,8 +1,8 @@
 //! The first row of a journal: the strategy, and the first revision.
-ghost use Rattle.std.specs.Prelude.{◌≡◌, ◌≢◌, Err, IfOk, IfSome, string_bytes};
+ghost use Rattle.std.specs.Prelude.{◌≡◌, IfErr, IfOk, IfSome, string_bytes};
 ghost use Rattle.bg_history.specs.declared.entry.Entry.TheVariants.{Deploy};
-ghost use Rattle.bg_order_journal.specs.FirstRow.{HasOtherSettings, first_row as first_row_of};
-ghost use Rattle.bg_order_journal.specs.declared.start_fault.StartFault.TheVariants.{OtherStrategy};
+ghost use Rattle.bg_order_journal.specs.FirstRow.{first_row as first_row_of};
+ghost use Rattle.bg_order_journal.specs.Refusals.{DeployFaultIs, FirstRowFaultIs};
 ghost use Rattle.bg_strategy_text.specs.Texts.{strategy_text};
 
 use crate::start_fault::StartFault;
@@ -51,7 +51,7 @@ pub(crate) fn first_revision(
     row: &str,
 ) -> Result<FirstRevision, StartFault>
     ensures text { IfOk result (λ first. row.now ≡ first_row_of settings.now first.name first.ports) }
-    ensures other { result ≡ Err OtherStrategy → HasOtherSettings settings.now row.now }
+    ensures fault { IfErr result (FirstRowFaultIs settings.now row.now) }
 {
     let Some(rest) = row.strip_prefix(settings) else {
         return Err(StartFault::OtherStrategy);
@@ -62,15 +62,16 @@ pub(crate) fn first_revision(
         Err(TextFault::OutOfMemory) => return Err(StartFault::OutOfMemory),
     };
     match entries.as_slice() {
+        [] => Err(StartFault::NoFirstRevision),
         [entry] => deployed(alloc, entry),
-        _ => Err(StartFault::NoFirstRevision),
+        [_, _, ..] => Err(StartFault::NoFirstRevision),
     }
 }
 
 /// The first revision that an entry deploys.
 fn deployed(alloc: Global, entry: &Entry) -> Result<FirstRevision, StartFault>
     ensures text { IfOk result (λ first. entry.now ≡ Deploy 1 first.name first.ports) }
-    ensures fault { result ≢ Err OtherStrategy }
+    ensures fault { IfErr result (DeployFaultIs entry.now) }
 {
     match entry {
         Entry::Deploy {

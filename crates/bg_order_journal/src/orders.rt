@@ -1,8 +1,8 @@
 //! Reading the orders of a journal.
-ghost use Rattle.std.specs.Prelude.{◌≡◌, ◌≢◌, ◌∷◌, ◌++◌, [], Err, IfOk, List, None, OnOk, ℕ, map, string_bytes};
+ghost use Rattle.std.specs.Prelude.{◌≡◌, ◌∷◌, ◌++◌, ◌+◌, ◌^◌, ◌<◌, [], IfErr, IfOk, List, None, OnOk, ℕ, map, string_bytes};
 ghost use Rattle.bg_journal.specs.Bounds.{bound_in as bound_of};
+ghost use Rattle.bg_order_journal.specs.Refusals.{OrderFaultIs, OrdersFaultIs};
 ghost use Rattle.bg_order_journal.specs.Starts.{AreSaid};
-ghost use Rattle.bg_order_journal.specs.declared.start_fault.StartFault.TheVariants.{OtherStrategy};
 ghost use Rattle.bg_script.specs.Survival.{AreReadFrom};
 
 use crate::start_fault::StartFault;
@@ -24,8 +24,9 @@ pub(crate) struct Said {
 /// What these texts say, of which the oldest is the first. The error names the first line of an order that is that of no entry;
 /// it is `OutOfMemory` if an allocation fails.
 pub(crate) fn read_orders(alloc: Global, texts: &[String]) -> Result<Said, StartFault>
-    ensures said { IfOk result (λ said. AreSaid (map string_bytes texts.now) said.entries.items said.numbers) }
-    ensures fault { result ≢ Err OtherStrategy }
+    ensures said { IfOk result (λ said.
+        AreSaid (map string_bytes texts.now) said.entries.items said.numbers said.count) }
+    ensures fault { IfErr result (OrdersFaultIs (map string_bytes texts.now)) }
 {
     let mut said = Said {
         entries: Vec::new(alloc),
@@ -40,9 +41,12 @@ pub(crate) fn read_orders(alloc: Global, texts: &[String]) -> Result<Said, Start
 
 /// Adds what one more text says.
 fn read_text(alloc: Global, text: &str, said: &mut Said) -> Result<(), StartFault>
-    ensures said { OnOk result ((texts : List (List ℕ)) → AreSaid texts said.old.entries.items said.old.numbers
-        → AreSaid (texts ++ text.now ∷ []) said.new.entries.items said.new.numbers) }
-    ensures fault { result ≢ Err OtherStrategy }
+    requires { said.old.count + 1 < 2 ^ 64 }
+    ensures said { OnOk result ((texts : List (List ℕ))
+        → AreSaid texts said.old.entries.items said.old.numbers said.old.count
+        → AreSaid (texts ++ text.now ∷ []) said.new.entries.items said.new.numbers said.new.count) }
+    ensures order { IfErr result (λ _. bound_of text.now ≡ None) }
+    ensures fault { IfErr result (OrderFaultIs text.now (said.old.count + 1)) }
 {
     match bound_in(text) {
         Some(bound) => {
@@ -50,7 +54,7 @@ fn read_text(alloc: Global, text: &str, said: &mut Said) -> Result<(), StartFaul
             Ok(())
         }
         None => {
-            said.count = said.count.saturating_add(1);
+            said.count += 1;
             read_order(alloc, text, said.count, &mut said.entries)
         }
     }
@@ -66,7 +70,7 @@ fn read_order(
     requires { bound_of text.now ≡ None }
     ensures read { OnOk result ((texts : List (List ℕ)) → AreReadFrom texts entries.old.items
         → AreReadFrom (texts ++ text.now ∷ []) entries.new.items) }
-    ensures fault { result ≢ Err OtherStrategy }
+    ensures fault { IfErr result (OrderFaultIs text.now order) }
 {
     match read_entries(alloc, text) {
         Ok(later) => {

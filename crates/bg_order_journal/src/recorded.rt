@@ -1,4 +1,6 @@
 //! The strategy that a journal names.
+ghost use Rattle.std.specs.Prelude.{◌≡◌, ◌≢◌, [], IfErr, IfNone, IfOk, IfSome};
+ghost use Rattle.bg_order_journal.specs.Refusals.{FailsToName, WasRead};
 
 use crate::opens_journal::OpensJournal;
 use crate::rows::open_rows;
@@ -19,7 +21,11 @@ const MOST_REPLICAS: u32 = 64;
 pub fn recorded_strategy<S: Alter + Drop, O: OpensJournal<S>>(
     alloc: Global,
     opener: &O,
-) -> Result<Option<Strategy>, StartFault> {
+) -> Result<Option<Strategy>, StartFault>
+    ensures some { IfOk result (λ found. IfSome found (λ _. WasRead S.Store (λ rows. rows ≢ []))) }
+    ensures empty { IfOk result (λ found. IfNone found (WasRead S.Store (λ rows. rows ≡ []))) }
+    ensures fault { IfErr result (FailsToName S.Store (O.fails opener.now)) }
+{
     let (_journal, rows) = open_rows(alloc, opener)?;
     let Some(row) = rows.first() else {
         return Ok(None);

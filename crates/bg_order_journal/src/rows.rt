@@ -1,7 +1,8 @@
 //! The rows of the database of a journal, and what a process remembers of them.
-ghost use Rattle.std.specs.Prelude.{◌≡◌, ◌∷◌, ◌++◌, [], List, ℕ, true, false, map, IfOk, OnOk, string_bytes};
+ghost use Rattle.std.specs.Prelude.{◌≡◌, ◌↔◌, ◌∷◌, ◌++◌, [], List, ℕ, true, false, map, IfErr, IfOk, OnOk, string_bytes};
 ghost use Rattle.sqlite.specs.Held.{state};
 ghost use Rattle.sqlite.specs.State.{HasCleanDisk};
+ghost use Rattle.bg_order_journal.specs.Refusals.{FailsBelow, FailsToMove, HasFailed};
 ghost use Rattle.bg_order_journal.specs.Ties.{IsTied, IsTiedAs, Ties};
 
 use crate::opens_journal::OpensJournal;
@@ -15,8 +16,9 @@ pub(crate) fn open_rows<S: Alter + Drop, O: OpensJournal<S>>(
     alloc: Global,
     opener: &O,
 ) -> Result<(Journal<S>, Vec<String>), JournalFault>
-    ensures { IfOk result (λ r. HasCleanDisk (state S.Store r.0)
+    ensures tied { IfOk result (λ r. HasCleanDisk (state S.Store r.0)
         → Ties (state S.Store r.0) (map string_bytes r.1.items) []) }
+    ensures failed { IfErr result (FailsBelow S.Store (O.fails opener.now)) }
 {
     let mut journal = opener.open()?;
     let rows = journal.read_all(alloc)?;
@@ -31,8 +33,9 @@ pub(crate) fn reopened<S: Alter + Drop, O: OpensJournal<S>>(
     journal: Journal<S>,
     rows: &[String],
 ) -> Result<Journal<S>, StartFault>
-    ensures { IfOk result (λ again. HasCleanDisk (state S.Store again)
+    ensures rows { IfOk result (λ again. HasCleanDisk (state S.Store again)
         → Ties (state S.Store again) (map string_bytes rows.now) []) }
+    ensures fault { IfErr result (FailsToMove S.Store (map string_bytes rows.now)) }
 {
     // No other connection may have the database open.
     drop(journal);
@@ -50,9 +53,10 @@ pub(crate) fn append_text<S: Alter>(
     journal: &mut Journal<S>,
     text: &str,
 ) -> Result<(), JournalFault>
-    ensures { OnOk result ((rows : List (List ℕ))
+    ensures tied { OnOk result ((rows : List (List ℕ))
         → (HasCleanDisk (state S.Store journal.old) → Ties (state S.Store journal.old) rows [])
         → HasCleanDisk (state S.Store journal.new) → Ties (state S.Store journal.new) (rows ++ text.now ∷ []) []) }
+    ensures failed { IfErr result (HasFailed S.Store) }
 {
     journal.append(text)
 }
@@ -103,14 +107,14 @@ fn has_one_more(found: &[String], rows: &[String], text: &str) -> bool
 }
 
 pub(crate) fn is_text(row: &String, text: &str) -> bool
-    ensures { result ≡ true → string_bytes row.now ≡ text.now }
+    ensures { (result ≡ true) ↔ (string_bytes row.now ≡ text.now) }
 {
     row.as_str() == text
 }
 
 /// Whether the rows have the same texts.
 fn are_same(found: &[String], rows: &[String]) -> bool
-    ensures { result ≡ true → map string_bytes found.now ≡ map string_bytes rows.now }
+    ensures { (result ≡ true) ↔ (map string_bytes found.now ≡ map string_bytes rows.now) }
 {
     found == rows
 }

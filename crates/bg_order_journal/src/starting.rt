@@ -1,8 +1,9 @@
 //! The start of a switch with a journal.
-ghost use Rattle.std.specs.Prelude.{◌≡◌, ◌∷◌, [], map, reverse, IfOk, IfSome, OnOk, string_bytes};
+ghost use Rattle.std.specs.Prelude.{◌≡◌, ◌∷◌, [], map, reverse, IfErr, IfNone, IfOk, IfSome, OnOk, string_bytes};
 ghost use Rattle.bg_book.specs.OrderEntries.{leading_outcomes};
 ghost use Rattle.bg_order_journal.specs.FirstRow.{first_row as first_row_of};
 ghost use Rattle.bg_journal.specs.Bounds.{bound_text as text_of_bound};
+ghost use Rattle.bg_order_journal.specs.Refusals.{FailsToBegin, FailsToBeginInFile, FailsToMove, FailsToOpen, WasRead};
 ghost use Rattle.bg_order_journal.specs.Starts.{AreOf, GoesOn};
 ghost use Rattle.bg_order_journal.specs.Ties.{Ties};
 ghost use Rattle.sqlite.specs.Held.{state};
@@ -75,6 +76,7 @@ impl<S: Alter + Drop, O: OpensJournal<S>> Resumption<S, O> {
     pub fn into_file(self) -> Result<StoredOrders<S, O>, StartFault>
         ensures rows { IfOk result (λ orders. orders.1.0 ≡ self.orders.1.0) }
         ensures settled { IfOk result (λ orders. orders.1.1 ≡ []) }
+        ensures fault { IfErr result (FailsToMove S.Store self.orders.1.0) }
     {
         let Resumption {
             orders,
@@ -94,8 +96,10 @@ pub fn open_journal<S: Alter + Drop, O: OpensJournal<S>>(
     opener: O,
     strategy: &Strategy,
 ) -> Result<Option<Resumption<S, O>>, StartFault>
-    ensures { IfOk result (λ found. IfSome found (λ r.
-        AreOf (strategy_text strategy.now) r.orders.1.0 r.orders.1.1 r.first r.entries.items r.numbers)) }
+    ensures resumed { IfOk result (λ found. IfSome found (λ r.
+        AreOf (strategy_text strategy.now) r.orders.1.0 r.orders.1.1 r.first r.entries.items r.numbers r.count)) }
+    ensures empty { IfOk result (λ found. IfNone found (WasRead S.Store (λ rows. rows ≡ []))) }
+    ensures fault { IfErr result (FailsToOpen S.Store (O.fails opener) (strategy_text strategy.now)) }
 {
     let settings = settings_of(alloc, strategy)?;
     let (journal, rows) = open_rows(alloc, &opener)?;
@@ -125,8 +129,10 @@ pub fn begin_numbered<S: Alter + Drop, O: OpensJournal<S>>(
     strategy: &Strategy,
     first: &FirstRevision,
 ) -> Result<NumberedJournal<StoredOrders<S, O>>, StartFault>
-    ensures { IfOk result
+    ensures begun { IfOk result
         (GoesOn (first_row_of (strategy_text strategy.now) first.now.name first.now.ports ∷ []) 0 0) }
+    ensures fault { IfErr result (FailsToBegin S.Store (O.fails opener)
+        (first_row_of (strategy_text strategy.now) first.now.name first.now.ports)) }
 {
     let (journal, rows) = begun_rows::<S, O>(alloc, &opener, strategy, first)?;
     let mut orders = StoredOrders::opened(alloc, opener, journal, rows);
@@ -152,6 +158,9 @@ pub fn begin_in_file<S: Alter + Drop, O: OpensJournal<S>>(
     ensures first { IfOk result (λ begun. begun.first ≡ first) }
     ensures none { IfOk result (λ begun. begun.entries.items ≡ []) }
     ensures numbers { IfOk result (λ begun. begun.numbers ≡ numbers) }
+    ensures count { IfOk result (λ begun. begun.count ≡ 0) }
+    ensures fault { IfErr result (FailsToBeginInFile S.Store
+        (first_row_of (strategy_text strategy.now) first.name first.ports) (text_of_bound numbers)) }
 {
     let bound = bound_text(alloc, numbers)?;
     let (mut journal, mut rows) = begun_rows::<S, O>(alloc, &opener, strategy, &first)?;
@@ -178,6 +187,8 @@ fn begun_rows<S: Alter + Drop, O: OpensJournal<S>>(
         ≡ first_row_of (strategy_text strategy.now) first.now.name first.now.ports ∷ []) }
     ensures tied { IfOk result (λ r. HasCleanDisk (state S.Store r.0)
         → Ties (state S.Store r.0) (map string_bytes r.1.items) []) }
+    ensures fault { IfErr result (FailsToBegin S.Store (O.fails opener.now)
+        (first_row_of (strategy_text strategy.now) first.now.name first.now.ports)) }
 {
     let settings = settings_of(alloc, strategy)?;
     let Some(row) = first_row(alloc, settings.as_str(), first) else {
@@ -198,8 +209,9 @@ fn begin_rows<S: Alter>(
 ) -> Result<(), StartFault>
     requires { HasCleanDisk (state S.Store journal.old)
         → Ties (state S.Store journal.old) (map string_bytes rows.now) [] }
-    ensures { HasCleanDisk (state S.Store journal.new)
+    ensures begun { HasCleanDisk (state S.Store journal.new)
         → OnOk result (Ties (state S.Store journal.new) (row.now ∷ []) []) }
+    ensures fault { IfErr result (FailsToBegin S.Store (λ _. ⊥) row.now) }
 {
     match rows {
         [] => {

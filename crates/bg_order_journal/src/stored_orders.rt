@@ -1,7 +1,8 @@
 //! The orders that a database keeps.
-ghost use Rattle.std.specs.Prelude.{IfOk, OnErr, OnOk, ◌≡◌, ◌≢◌, ◌∷◌, ◌++◌, ◌+◌, ◌≤◌, [], drop, true, false, length, map, string_bytes, vec_capacity, vec_len};
+ghost use Rattle.std.specs.Prelude.{IfErr, IfOk, OnErr, OnOk, ◌≡◌, ◌≢◌, ◌∷◌, ◌++◌, ◌+◌, ◌≤◌, [], drop, true, false, length, map, string_bytes, vec_capacity, vec_len};
 ghost use Rattle.sqlite.specs.Held.{state};
 ghost use Rattle.sqlite.specs.State.{HasCleanDisk};
+ghost use Rattle.bg_order_journal.specs.Refusals.{FailsToMove};
 ghost use Rattle.bg_order_journal.specs.Starts.{IsKeptOrInDoubt, run_bound};
 ghost use Rattle.bg_order_journal.specs.Ties.{IsTied, MayFind, Ties, doubt_in};
 
@@ -112,6 +113,7 @@ impl<S: Alter + Drop, O: OpensJournal<S>> StoredOrders<S, O> {
     pub(crate) fn without_log(self) -> Result<StoredOrders<S, O>, StartFault>
         ensures rows { IfOk result (λ orders. orders.1.0 ≡ self.1.0) }
         ensures settled { IfOk result (λ orders. orders.1.1 ≡ []) }
+        ensures fault { IfErr result (FailsToMove S.Store self.1.0) }
     {
         let StoredOrders {
             alloc,

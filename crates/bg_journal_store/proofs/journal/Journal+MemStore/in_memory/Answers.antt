@@ -8,13 +8,13 @@ accept-requires-clause-ordered c clean sound =
     let empty = c.in-Ok.ensures.empty in
     absurd (one_schema _ sound (blank_as empty.0 empty.1 empty.2))
 
-pub returns-in_ok-accept-in-Ok-clause-journal : goal.returns-in_ok-accept-in-Ok-clause-journal
-returns-in_ok-accept-in-Ok-clause-journal c = c.in_ok-accept-in-Ok.ensures.journal (memory_is_clean c.accept.new.conn)
+pub returns-in-Ok-accept-clause-journal : goal.returns-in-Ok-accept-clause-journal
+returns-in-Ok-accept-clause-journal c = c.in-Ok-accept.ensures.journal (memory_is_clean c.accept.new.conn)
 
-pub returns-in_ok-accept-in-Ok-clause-empty : goal.returns-in_ok-accept-in-Ok-clause-empty
-returns-in_ok-accept-in-Ok-clause-empty c =
+pub returns-in-Ok-accept-clause-empty : goal.returns-in-Ok-accept-clause-empty
+returns-in-Ok-accept-clause-empty c =
     let empty = c.in-Ok.ensures.empty in
-    elim (c.in_ok-accept-in-Ok.ensures.comes (memory_is_clean c.accept.new.conn)) [
+    elim (c.in-Ok-accept.ensures.comes (memory_is_clean c.accept.new.conn)) [
       | inl same ↦ absurd (one_schema _ same.0 (blank_as empty.0 empty.1 empty.2))
       | inr none ↦ none.1
     ]
