@@ -366,10 +366,12 @@ def quit_of_the_opener() -> None:
 
 
 def pending_at_the_end() -> None:
-    """Sixty seconds after quit, requests that wait for a seat are dropped: one response's timeout
+    """At the timeout of a shutdown, requests that wait for a seat are dropped: one response's timeout
     later all is over."""
-    timeout = 15
-    switch, operator = opened(Endpoint(lambda *_: time.sleep(150)).port, timeout=timeout)
+    timeout, held = 15, Held(b"held")
+    switch, operator = opened(
+        Endpoint(held).port, timeout=timeout, flags=("--shutdown-timeout", "3")
+    )
     clients = [connect(switch.active) for _ in range(9)]
     for client in clients:
         client.sendall(request()[:-1])
@@ -380,10 +382,11 @@ def pending_at_the_end() -> None:
     operator.send_quit()
     start = time.monotonic()
     switch.wait()
+    held.is_free.set()
     check_soon(
         "a shutdown with requests that wait for a seat",
         time.monotonic() - start,
-        60 + timeout + SOON,
+        3 + timeout + SOON,
     )
 
 
@@ -424,19 +427,27 @@ def late_at_quit() -> None:
         check_ends_soon("a shutdown beside a late request", switch, 2, timeout + SOON)
 
 
-def sixty_seconds() -> None:
-    """A request that still arrives 60 seconds after `quit` is cut, if the timeout is longer."""
-    switch, operator = opened(Endpoint(by_target(b"one")).port, workers=2, timeout=300)
+def cut_after(seconds: int, flags: tuple[str, ...]) -> None:
+    """A request that still arrives so many seconds after `quit` is cut, if its timeout is longer."""
+    switch, operator = opened(Endpoint(by_target(b"one")).port, workers=2, timeout=300, flags=flags)
     with dripping(switch.active, 3, b"GET /"):
         time.sleep(1)
-        operator.send_quit()
         start = time.monotonic()
-        check_ends_soon("a shutdown beside requests that drip", switch, 0, 60 + SOON)
+        operator.send_quit()
+        check_ends_soon("a shutdown beside requests that drip", switch, 0, seconds + SOON)
         check(
-            "requests that drip keep a shutdown for up to 60 seconds",
-            time.monotonic() - start > 50,
+            f"requests that drip keep a shutdown for {seconds} seconds",
+            time.monotonic() - start >= seconds,
             True,
         )
+
+
+def cut_at_its_timeout() -> None:
+    cut_after(7, ("--shutdown-timeout", "7"))
+
+
+def cut_after_sixty_seconds() -> None:
+    cut_after(60, ())
 
 
 def counted() -> None:
@@ -575,6 +586,8 @@ if __name__ == "__main__":
             at_rest,
             before_open,
             late_at_quit,
+            cut_at_its_timeout,
+            pending_at_the_end,
             counted,
             connections_used_up,
             too_few_threads,
@@ -583,5 +596,5 @@ if __name__ == "__main__":
             nothing_to_tell,
         ),
         6,
-        by_hand=(sixty_seconds, pending_at_the_end),
+        by_hand=(cut_after_sixty_seconds,),
     )

@@ -9,7 +9,10 @@ use Rattle.clap.specs.declared.parser.matches.ArgMatches.{ArgMatches}
 use Rattle.clap.proofs.OnLiterals.{clap_on_literals}
 use Rattle.bg_command_line.specs.declared.invocation.Flags.{Flags}
 use Rattle.bg_command_line.specs.declared.invocation.Invocation.{Invocation}
-use Rattle.bg_command_line.specs.CommandLine.{IsInvocationOf, IsIn, is_in_conflict, IsKnown, HasWordsOfServe, program, check_app}
+use Rattle.bg_command_line.specs.AcceptedRows.{IsIn, IsKnown, HasWordsOfServe}
+use Rattle.bg_command_line.specs.GivenWords.{is_in_conflict}
+use Rattle.bg_command_line.specs.Invocations.{IsInvocationOf}
+use Rattle.bg_command_line.specs.Subcommands.{program, check_app}
 use Rattle.bg_command_line.proofs.Entered.{Among, one_entered}
 use Rattle.bg_command_line.proofs.SubcommandRows.{built_sub, journal, journal_known, replay, replay_known, serve, serve_known}
 

@@ -8,7 +8,8 @@ use Rattle.clap.specs.Kinds.{range_kinds}
 use Rattle.clap.specs.Faults.{level_fault, use_fault, walk_fault, repeat_fault}
 use Rattle.clap.specs.declared.builder.value_parser.Reading.TheVariants as reading
 use Rattle.clap.specs.declared.parser.matches.ValueSource.TheVariants as value_source
-use Rattle.bg_command_line.specs.CommandLine.{number_rule, required_rule, count_rule, flag_rule_required_if, rule_required_if, text_rule_required_if, texts_rule_required_if, word_rule_required_if}
+use Rattle.bg_command_line.specs.OptionRules.{number_rule, required_rule, flag_rule_required_if, rule_required_if, text_rule_required_if, texts_rule_required_if, word_rule_required_if}
+use Rattle.bg_command_line.specs.Subcommands.{count_rule}
 use Rattle.bg_command_line.proofs.WordsTaken.{none_else, walk_keeps, settled_keeps}
 use Rattle.bg_command_line.proofs.ValuesAccepted.{AreGood, append_keeps, is_accepted, flag_full, option_full, use_keeps, with_values_keeps}
 

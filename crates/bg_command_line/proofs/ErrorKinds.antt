@@ -12,7 +12,9 @@ use Rattle.clap.specs.declared.error.kind.ErrorKind.{ErrorKind}
 use Rattle.clap.specs.declared.error.kind.ErrorKind.TheVariants as kind
 use Rattle.bg_command_line.specs.declared.invocation.InvocationFault.{InvocationFault}
 use Rattle.bg_command_line.specs.declared.invocation.InvocationFault.TheVariants.{OutOfMemory, Words}
-use Rattle.bg_command_line.specs.CommandLine.{IsAddressFault, IsConflict, IsFaultFrom, IsFaultIn, flags_of, is_in_conflict, kinds_of, program}
+use Rattle.bg_command_line.specs.GivenWords.{flags_of, is_in_conflict, kinds_of}
+use Rattle.bg_command_line.specs.Invocations.{IsAddressFault, IsConflict, IsFaultFrom, IsFaultIn}
+use Rattle.bg_command_line.specs.Subcommands.{program}
 use Rattle.bg_command_line.proofs.AcceptedWords.{is_free_program}
 
 among_first : (k : ErrorKind) (first second : Kinds) → IsAmong k first → IsAmong k (or_else first second)

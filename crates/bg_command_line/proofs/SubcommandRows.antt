@@ -12,7 +12,9 @@ use Rattle.clap.specs.Kinds.{check_kinds}
 use Rattle.clap.specs.Faults.{level_fault, walk_fault, settle_fault, defaults_fault}
 use Rattle.clap.specs.declared.builder.value_parser.ValueParser.TheVariants as value_parser
 use Rattle.clap.proofs.ValueTestLemmas.{accepts-Accepts}
-use Rattle.bg_command_line.specs.CommandLine.{IsIn, HasWordsOfServe, journal_app, program, replay_app, serve_app, number_rule, required_rule, count_rule, flag_rule, forever_rule, rule_required_if, text_rule, text_rule_required_if, texts_rule, word_rule_required_if}
+use Rattle.bg_command_line.specs.AcceptedRows.{IsIn, HasWordsOfServe}
+use Rattle.bg_command_line.specs.OptionRules.{number_rule, required_rule, flag_rule, rule_required_if, text_rule, text_rule_required_if, texts_rule, word_rule_required_if}
+use Rattle.bg_command_line.specs.Subcommands.{journal_app, program, replay_app, serve_app, count_rule, forever_rule}
 use Rattle.bg_command_line.specs.declared.invocation.Flags.{Flags}
 use Rattle.bg_command_line.proofs.WordsTaken.{none_else}
 use Rattle.bg_command_line.proofs.ValuesAccepted.{AreGood, has_none, first_accepted}
@@ -58,7 +60,7 @@ kept_and_count flags =
 abbrev client_and_later : Flags → List Rule
 client_and_later flags =
     held (flag_rule (codes "abort-on-close")) ∷ held (number_rule (codes "shutdown-grace") 60)
-    ∷ held (flag_rule (codes "error-pages")) ∷ kept_and_count flags
+    ∷ held (number_rule (codes "shutdown-timeout") 3600) ∷ held (flag_rule (codes "error-pages")) ∷ kept_and_count flags
 
 abbrev endpoint_and_later : Flags → List Rule
 endpoint_and_later flags =
@@ -96,8 +98,8 @@ client_and_later_keep flags = let c = (serve flags).rules in (
   (
     number_keeps c (codes "shutdown-grace") 60 refl,
     (
-      flag_keeps c false (codes "error-pages") refl,
-      kept_and_count_keep flags,
+      number_keeps c (codes "shutdown-timeout") 3600 refl,
+      (flag_keeps c false (codes "error-pages") refl, kept_and_count_keep flags),
     ),
   ),
 )
@@ -171,8 +173,8 @@ client_and_later_defaults flags = let c = (serve flags).rules in (
   (
     no_default_keeps c (held (number_rule (codes "shutdown-grace") 60)) refl,
     (
-      flag_default_keeps c false (codes "error-pages") refl,
-      kept_and_count_defaults flags,
+      no_default_keeps c (held (number_rule (codes "shutdown-timeout") 3600)) refl,
+      (flag_default_keeps c false (codes "error-pages") refl, kept_and_count_defaults flags),
     ),
   ),
 )
@@ -297,6 +299,7 @@ serve_known flags words e =
       threads = in_range c (held (number_rule (codes "threads") 64)) (codes "threads") 64 rows refl refl refl good;
       endpoint_limit = in_range c (held (number_rule (codes "endpoint-limit") 1023)) (codes "endpoint-limit") 1023 rows refl refl refl good;
       shutdown_grace = in_range c (held (number_rule (codes "shutdown-grace") 60)) (codes "shutdown-grace") 60 rows refl refl refl good;
+      shutdown_timeout = in_range c (held (number_rule (codes "shutdown-timeout") 3600)) (codes "shutdown-timeout") 3600 rows refl refl refl good;
       keep_alive_timeout = in_range c (held (number_rule (codes "keep-alive-timeout") 3600)) (codes "keep-alive-timeout") 3600 rows refl refl refl good;
       keep_alive_requests = in_range c (held (number_rule (codes "keep-alive-requests") 1000000)) (codes "keep-alive-requests") 1000000 rows refl refl refl good;
       endpoint_keep_alive_timeout = in_range c (held (number_rule (codes "endpoint-keep-alive-timeout") 3600)) (codes "endpoint-keep-alive-timeout") 3600 rows refl refl refl good;

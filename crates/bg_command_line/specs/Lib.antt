@@ -1,5 +1,10 @@
+pub mod AcceptedRows
 pub mod Addresses
-pub mod CommandLine
 pub mod GivenAddresses
+pub mod GivenWords
+pub mod Invocations
 pub mod ListenAddresses
 pub mod MessageTimeout
+pub mod OptionRules
+pub mod ServeArguments
+pub mod Subcommands

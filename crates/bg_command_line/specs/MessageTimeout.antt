@@ -1,7 +1,7 @@
 -- The message timeout that the environment sets.
 use Rattle.std.specs.Prelude.{◌≡◌, ℕ}
 use Rattle.clap.specs.Words.{IsUnsignedIn, Text}
-use Rattle.bg_command_line.specs.CommandLine.{number}
+use Rattle.bg_command_line.specs.ServeArguments.{number}
 use Rattle.bg_command_line.specs.declared.message_timeout.MessageTimeout.{MessageTimeout}
 use Rattle.bg_command_line.specs.declared.message_timeout.MessageTimeout.TheVariants.{Default, Given, Unusable}
 

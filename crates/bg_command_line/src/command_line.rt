@@ -2,7 +2,7 @@
 ghost use Rattle.std.specs.Prelude.{◌≡◌, IfOk, false};
 ghost use Rattle.clap.specs.Words.{app_of, kind_of};
 ghost use Rattle.clap.specs.declared.builder.command.Command.TheViews.{out-Command as fields_of};
-ghost use Rattle.bg_command_line.specs.CommandLine.{check_app, journal_app, program, replay_app, serve_app, top_app};
+ghost use Rattle.bg_command_line.specs.Subcommands.{check_app, journal_app, program, replay_app, serve_app, top_app};
 
 use crate::command_option::{CommandOption, OptionValue, with_options};
 use crate::invocation::Flags;
@@ -34,7 +34,8 @@ free. It has no effect without --redispatch.
 With --abort-on-close, a request ends once its client has ended its input. Without it, a client that ends its input
 waits for its response, and its request ends only if it resets the connection.
 At a graceful shutdown, a client that has sent nothing is let go after --shutdown-grace seconds; a request that
-has come by then is answered.
+has come by then is answered. After --shutdown-timeout seconds, requests that still come or wait are dropped, and
+responses that their clients have not taken. A request that is being served keeps its own timeouts.
 With --error-pages, an answer of the switch itself has a short body with its status and reason: HTML if the client
 accepts text/html, else text. Without it, such an answer has no body.
 With --keep-alive, connections of clients and to endpoints are kept for further requests. --keep-alive-timeout,
@@ -92,6 +93,9 @@ serve takes, on ports of 127.0.0.1:
   --shutdown-grace S
                for how many seconds a graceful shutdown keeps clients that have sent nothing, 1 to 60;
                1 where it isn't given
+  --shutdown-timeout S
+               for how many seconds a graceful shutdown waits for requests to come and responses to be taken,
+               1 to 3600; 60 where it isn't given
   --error-pages
                an answer of the switch itself has a short body with its status and reason
   --keep-alive connections of clients and to endpoints are kept for further requests
@@ -175,7 +179,7 @@ fn journal_command<'a>(alloc: Global) -> Result<Command<'a>, AllocError>
 
 /// `serve --active P [--preview P] [--listen ADDRESS].. [--control-socket-mode MODE] [--control-socket-group GROUP]
 /// [--preview-concurrency M] [--threads N] [--redispatch] [--endpoint-limit M] [--endpoint-address ADDRESS] [--abort-on-close]
-/// [--shutdown-grace S] [--error-pages] [--keep-alive] [--keep-alive-timeout S] [--keep-alive-requests N]
+/// [--shutdown-grace S] [--shutdown-timeout S] [--error-pages] [--keep-alive] [--keep-alive-timeout S] [--keep-alive-requests N]
 /// [--endpoint-keep-alive-timeout S] [--journal FILE]`, with `--control P` or `--control-socket PATH` or both, `--workers N` or `--concurrency N`, and `--count K`
 /// or `--forever`. The flags say which of each two is required.
 fn serve_command<'a>(alloc: Global, flags: Flags) -> Result<Command<'a>, AllocError>

@@ -2,7 +2,7 @@
 ghost use Rattle.std.specs.Prelude.{◌≡◌, IfOk, false, fold, map};
 ghost use Rattle.clap.specs.Words.{app_of, rule_of, with_rule};
 ghost use Rattle.clap.specs.declared.builder.command.Command.TheViews.{out-Command as fields_of};
-ghost use Rattle.bg_command_line.specs.CommandLine.{flag_rule, number_rule, option_rule, text_rule, texts_rule, word_rule};
+ghost use Rattle.bg_command_line.specs.OptionRules.{flag_rule, number_rule, option_rule, text_rule, texts_rule, word_rule};
 
 use clap::builder::ValueParser;
 use clap::{Arg, ArgAction, Command};

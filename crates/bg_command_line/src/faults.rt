@@ -1,7 +1,7 @@
 //! The faults for words that are refused.
 ghost use Rattle.std.specs.Prelude.{◌≡◌, IfOk};
 ghost use Rattle.clap.specs.Words.{kind_of};
-ghost use Rattle.bg_command_line.specs.CommandLine.{IsConflict, IsFaultFrom, IsValueFault};
+ghost use Rattle.bg_command_line.specs.Invocations.{IsConflict, IsFaultFrom, IsValueFault};
 
 use crate::arguments::argument_text;
 use crate::command_line::error_of_serve;

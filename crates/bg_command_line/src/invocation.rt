@@ -1,6 +1,6 @@
 //! What the words of the command line ask for.
 ghost use Rattle.std.specs.Prelude.{◌≡◌, ◌↔◌, IsTrue};
-ghost use Rattle.bg_command_line.specs.CommandLine.{AsksForVersion};
+ghost use Rattle.bg_command_line.specs.Invocations.{AsksForVersion};
 ghost use Rattle.bg_command_line.specs.declared.invocation.InvocationFault.TheVariants.{OutOfMemory};
 
 use crate::listen_addresses::ListenAddresses;
@@ -117,6 +117,9 @@ pub struct ServeSettings<'a> {
     pub abort_on_close: bool,
     /// The number of seconds, 1 to 60, for which a graceful shutdown keeps connections that have sent nothing.
     pub shutdown_grace: u8,
+    /// The number of seconds, 1 to 3,600, for which a graceful shutdown waits for requests to come and responses to be taken
+    /// (nginx's `worker_shutdown_timeout`, HAProxy's `hard-stop-after`).
+    pub shutdown_timeout: u16,
     /// Whether an answer of the switch itself has a body with its status and reason (nginx's `error_page`, HAProxy's
     /// `errorfile`).
     pub error_pages: bool,

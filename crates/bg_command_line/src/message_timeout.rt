@@ -1,6 +1,6 @@
 //! The message timeout that the environment sets.
 ghost use Rattle.std.specs.Prelude.{◌≡◌};
-ghost use Rattle.bg_command_line.specs.CommandLine.{IsBetween};
+ghost use Rattle.bg_command_line.specs.ServeArguments.{IsBetween};
 ghost use Rattle.bg_command_line.specs.MessageTimeout.{IsTimeoutIn, seconds_of};
 
 use std::env;

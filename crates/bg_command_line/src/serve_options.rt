@@ -1,7 +1,8 @@
 //! The options of `serve`.
 ghost use Rattle.std.specs.Prelude.{◌≡◌, fold, map};
 ghost use Rattle.clap.specs.Words.{App, with_rule};
-ghost use Rattle.bg_command_line.specs.CommandLine.{option_rule, with_client_rules, with_connection_rules, with_endpoint_rules, with_control_rules, with_journal_rule, with_keep_alive_rules, with_port_rules, with_worker_rules};
+ghost use Rattle.bg_command_line.specs.OptionRules.{option_rule};
+ghost use Rattle.bg_command_line.specs.Subcommands.{with_client_rules, with_connection_rules, with_endpoint_rules, with_control_rules, with_journal_rule, with_keep_alive_rules, with_port_rules, with_worker_rules};
 
 use crate::command_option::{CommandOption, OptionValue};
 use crate::invocation::Flags;
@@ -17,11 +18,11 @@ const MOST_REQUESTS: u64 = 1_023;
 /// How many event loops the active port may have.
 const MOST_THREADS: u64 = 64;
 
-/// For how many seconds a shutdown may keep silent clients: it lasts for no longer itself.
+/// For how many seconds a shutdown may keep silent clients.
 const MOST_GRACE: u64 = 60;
 
-/// For how many seconds an idle connection may be kept.
-const MOST_IDLE_SECONDS: u64 = 3_600;
+/// For how many seconds an idle connection may be kept, and how many a shutdown may take.
+const MOST_SECONDS: u64 = 3_600;
 
 /// How many connections a worker may take, or how many requests a connection may carry.
 const MOST_COUNT: u64 = 1_000_000;
@@ -29,11 +30,11 @@ const MOST_COUNT: u64 = 1_000_000;
 /// The options of `serve`: `--active P [--preview P] [--listen ADDRESS]..`; `--control P`, `--control-socket PATH`,
 /// `[--control-socket-mode MODE]` and `[--control-socket-group GROUP]`; `--workers N`, `--concurrency N`,
 /// `[--preview-concurrency M]` and `[--threads N]`; `[--redispatch] [--endpoint-limit M]
-/// [--endpoint-address ADDRESS]`; `[--abort-on-close] [--shutdown-grace S] [--error-pages]`; `[--keep-alive]
+/// [--endpoint-address ADDRESS]`; `[--abort-on-close] [--shutdown-grace S] [--shutdown-timeout S] [--error-pages]`; `[--keep-alive]
 /// [--keep-alive-timeout S] [--keep-alive-requests N] [--endpoint-keep-alive-timeout S]`; `[--journal FILE]`; `--count K` and
 /// `--forever`. The flags say which of `--control` and `--control-socket` is required, which of `--workers` and
 /// `--concurrency`, and which of `--count` and `--forever`.
-pub(crate) fn serve_options<'a>(flags: Flags) -> [CommandOption<'a>; 24]
+pub(crate) fn serve_options<'a>(flags: Flags) -> [CommandOption<'a>; 25]
     ensures { (before : App) → fold with_rule before (map option_rule result) ≡ with_connection_rules flags.forever
         (with_journal_rule (with_keep_alive_rules (with_client_rules (with_endpoint_rules (with_worker_rules flags.concurrency
         (with_control_rules flags.socket (with_port_rules before))))))) }
@@ -136,6 +137,12 @@ pub(crate) fn serve_options<'a>(flags: Flags) -> [CommandOption<'a>; 24]
             help: "For how many seconds a graceful shutdown keeps clients that have sent nothing, 1 to 60; 1 where it isn't given",
         },
         CommandOption {
+            name: "shutdown-timeout",
+            value: OptionValue::UpTo(MOST_SECONDS),
+            required: false,
+            help: "For how many seconds a graceful shutdown waits for requests to come and responses to be taken, 1 to 3600; 60 where it isn't given",
+        },
+        CommandOption {
             name: "error-pages",
             value: OptionValue::Nothing,
             required: false,
@@ -149,7 +156,7 @@ pub(crate) fn serve_options<'a>(flags: Flags) -> [CommandOption<'a>; 24]
         },
         CommandOption {
             name: "keep-alive-timeout",
-            value: OptionValue::UpTo(MOST_IDLE_SECONDS),
+            value: OptionValue::UpTo(MOST_SECONDS),
             required: false,
             help: "For how many seconds a client's connection is kept while no request comes, 1 to 3600; 75 where it isn't given; has no effect without --keep-alive",
         },
@@ -161,7 +168,7 @@ pub(crate) fn serve_options<'a>(flags: Flags) -> [CommandOption<'a>; 24]
         },
         CommandOption {
             name: "endpoint-keep-alive-timeout",
-            value: OptionValue::UpTo(MOST_IDLE_SECONDS),
+            value: OptionValue::UpTo(MOST_SECONDS),
             required: false,
             help: "For how many seconds a connection to an endpoint is kept while no request needs it, 1 to 3600; 60 where it isn't given; has no effect without --keep-alive",
         },

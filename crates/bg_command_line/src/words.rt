@@ -3,20 +3,20 @@ ghost use Rattle.std.specs.Prelude.{◌≡◌, IfOk, IfErr, IfSome, map, codes, 
 ghost use Rattle.std.specs.List.{list_any};
 ghost use Rattle.clap.specs.Words.{IsUnsignedIn, first_of, found_of, rows_of};
 ghost use Rattle.bg_command_line.specs.Addresses.{IsEndpointAddress};
-ghost use Rattle.bg_command_line.specs.CommandLine.{AreConnections, AreWorkers, IsAddressFault, HasWordsOfServe, IsBetween, IsFaultIn, IsIn, IsKnown, IsInvocationIn, IsInvocationOf, IsControlSocket, IsKeepAlive, IsMode, default_preview_workers, flags_of, has_flag, has_option, has_word, is_in_conflict, is_option, number, number_of};
+ghost use Rattle.bg_command_line.specs.AcceptedRows.{HasWordsOfServe, IsIn, IsKnown};
+ghost use Rattle.bg_command_line.specs.GivenWords.{flags_of, has_option, has_word, is_in_conflict, is_option};
+ghost use Rattle.bg_command_line.specs.Invocations.{IsAddressFault, IsFaultIn, IsInvocationIn, IsInvocationOf};
+ghost use Rattle.bg_command_line.specs.ServeArguments.{AreConnections, AreWorkers, IsBetween, IsControlSocket, IsKeepAlive, IsMode, default_preview_workers, has_flag, number, number_of};
 ghost use Rattle.bg_command_line.specs.ListenAddresses.{AreListenAddresses, listed, listen_texts};
 
-use crate::arguments::{argument_text, has_flag, required_text};
+use crate::arguments::{argument_text, has_flag, required_text, u16_of, u16_or};
 use crate::command_line::program_command;
 use crate::faults::{address_fault, conflict_fault, fault_of};
 use crate::given_addresses::{GivenAddresses, addresses_of};
 use crate::invocation::{
     Connections, ControlSocket, Flags, Invocation, InvocationFault, KeepAlive, ServeSettings,
 };
-use crate::numbers::{
-    count_in, grace_in, idle_seconds_in, mode_in, port_in, requests_in, seats_in, threads_in,
-    workers_in,
-};
+use crate::numbers::{count_in, grace_in, seats_in, u16_in};
 use clap::ArgMatches;
 use std::alloc::Global;
 
@@ -25,6 +25,9 @@ const DEFAULT_SEATS: u8 = 4;
 
 /// The number of seconds for which a shutdown keeps silent clients if `--shutdown-grace` is not given.
 const DEFAULT_GRACE: u8 = 1;
+
+/// The number of seconds for which a shutdown waits for clients if `--shutdown-timeout` is not given.
+const DEFAULT_SHUTDOWN_SECONDS: u16 = 60;
 
 /// The mode of the file of the control socket if `--control-socket-mode` is not given: only its owner may open it.
 const DEFAULT_MODE: u16 = 600;
@@ -44,7 +47,7 @@ const DEFAULT_KEPT_REQUESTS: u32 = 1_000;
 /// with N from 1 to 1023, and either `--count K` with K from 1 to 1,000,000 or `--forever`. `serve` also takes
 /// `--preview-concurrency M` and `--endpoint-limit M` with M from 1 to 1023, `--threads N` with N from 1 to 64,
 /// `--redispatch`, `--endpoint-address ADDRESS`, `--listen ADDRESS` up to eight times, `--abort-on-close`, `--error-pages`,
-/// `--shutdown-grace S` with S from 1 to 60,
+/// `--shutdown-grace S` with S from 1 to 60, `--shutdown-timeout S` with S from 1 to 3,600,
 /// `--control-socket-mode MODE` with MODE from 1 to 777, `--control-socket-group GROUP`, `--keep-alive`,
 /// `--keep-alive-timeout S` and `--endpoint-keep-alive-timeout S` with S from 1 to 3,600, `--keep-alive-requests N` with N from
 /// 1 to 1,000,000, and `--journal FILE`. A value may also follow its option after `=`, in the same word.
@@ -180,38 +183,25 @@ fn serve_of<'a>(flags: Flags, addresses: GivenAddresses, matches: &ArgMatches<'a
 {
     let workers = workers_of(flags.concurrency, matches);
     Invocation::Serve(ServeSettings {
-        active: port_in(required_text(matches, "active")),
-        preview: match argument_text(matches, "preview") {
-            Some(text) => Some(port_in(text)),
-            None => None,
-        },
+        active: u16_in::<65535>(required_text(matches, "active")),
+        preview: u16_of::<65535>(matches, "preview"),
         listen: addresses.listen,
-        control: control_of(matches),
+        control: u16_of::<65535>(matches, "control"),
         control_socket: control_socket_of(matches),
         workers,
         preview_workers: preview_workers_of(flags.concurrency, workers, matches),
-        threads: threads_of(matches),
+        threads: u16_of::<64>(matches, "threads"),
         redispatch: has_flag(matches, "redispatch"),
-        endpoint_limit: endpoint_limit_of(matches),
+        endpoint_limit: u16_of::<1023>(matches, "endpoint-limit"),
         endpoint_address: addresses.endpoint,
         abort_on_close: has_flag(matches, "abort-on-close"),
         shutdown_grace: shutdown_grace_of(matches),
+        shutdown_timeout: u16_or::<3600>(matches, "shutdown-timeout", DEFAULT_SHUTDOWN_SECONDS),
         error_pages: has_flag(matches, "error-pages"),
         keep_alive: keep_alive_of(matches),
         journal: argument_text(matches, "journal"),
         connections: connections_of(flags.forever, matches),
     })
-}
-
-fn control_of(matches: &ArgMatches) -> Option<u16>
-    requires { IsIn 1 65535 (codes "control") (rows_of (found_of matches.now)) }
-    ensures value { result ≡ number_of (codes "control") (rows_of (found_of matches.now)) }
-    ensures range { IfSome result (IsBetween 1 65535) }
-{
-    match argument_text(matches, "control") {
-        Some(text) => Some(port_in(text)),
-        None => None,
-    }
 }
 
 fn control_socket_of<'a>(matches: &ArgMatches<'a>) -> Option<ControlSocket<'a>>
@@ -233,10 +223,7 @@ fn mode_of(matches: &ArgMatches) -> u16
     requires { IsIn 1 777 (codes "control-socket-mode") (rows_of (found_of matches.now)) }
     ensures { IsMode (rows_of (found_of matches.now)) result }
 {
-    match argument_text(matches, "control-socket-mode") {
-        Some(text) => mode_in(text),
-        None => DEFAULT_MODE,
-    }
+    u16_or::<777>(matches, "control-socket-mode", DEFAULT_MODE)
 }
 
 fn workers_of(concurrency: bool, matches: &ArgMatches) -> u16
@@ -248,9 +235,9 @@ fn workers_of(concurrency: bool, matches: &ArgMatches) -> u16
     ensures range { IsBetween 1 1023 result }
 {
     if concurrency {
-        requests_in(required_text(matches, "concurrency"))
+        u16_in::<1023>(required_text(matches, "concurrency"))
     } else {
-        workers_in(required_text(matches, "workers"))
+        u16_in::<7>(required_text(matches, "workers"))
     }
 }
 
@@ -263,7 +250,7 @@ fn preview_workers_of(concurrency: bool, workers: u16, matches: &ArgMatches) -> 
     ensures range { IsBetween 1 1023 result }
 {
     match argument_text(matches, "preview-concurrency") {
-        Some(text) => requests_in(text),
+        Some(text) => u16_in::<1023>(text),
         None => default_preview_workers(concurrency, workers),
     }
 }
@@ -275,28 +262,6 @@ fn default_preview_workers(concurrency: bool, workers: u16) -> u16
     ensures range { IsBetween 1 1023 result }
 {
     if concurrency { (workers / 8).max(1) } else { 1 }
-}
-
-fn threads_of(matches: &ArgMatches) -> Option<u16>
-    requires { IsIn 1 64 (codes "threads") (rows_of (found_of matches.now)) }
-    ensures value { result ≡ number_of (codes "threads") (rows_of (found_of matches.now)) }
-    ensures range { IfSome result (IsBetween 1 64) }
-{
-    match argument_text(matches, "threads") {
-        Some(text) => Some(threads_in(text)),
-        None => None,
-    }
-}
-
-fn endpoint_limit_of(matches: &ArgMatches) -> Option<u16>
-    requires { IsIn 1 1023 (codes "endpoint-limit") (rows_of (found_of matches.now)) }
-    ensures value { result ≡ number_of (codes "endpoint-limit") (rows_of (found_of matches.now)) }
-    ensures range { IfSome result (IsBetween 1 1023) }
-{
-    match argument_text(matches, "endpoint-limit") {
-        Some(text) => Some(requests_in(text)),
-        None => None,
-    }
 }
 
 /// For how many seconds a shutdown keeps silent clients.
@@ -320,24 +285,16 @@ fn keep_alive_of(matches: &ArgMatches) -> Option<KeepAlive>
 {
     if has_flag(matches, "keep-alive") {
         Some(KeepAlive {
-            seconds: kept_seconds_of(matches),
+            seconds: u16_or::<3600>(matches, "keep-alive-timeout", DEFAULT_KEPT_SECONDS),
             requests: kept_requests_of(matches),
-            endpoint_seconds: endpoint_kept_seconds_of(matches),
+            endpoint_seconds: u16_or::<3600>(
+                matches,
+                "endpoint-keep-alive-timeout",
+                DEFAULT_ENDPOINT_KEPT_SECONDS,
+            ),
         })
     } else {
         None
-    }
-}
-
-/// For how many seconds an idle connection of a client is kept.
-fn kept_seconds_of(matches: &ArgMatches) -> u16
-    requires { IsIn 1 3600 (codes "keep-alive-timeout") (rows_of (found_of matches.now)) }
-    ensures value { result ≡ unwrap_or (number_of (codes "keep-alive-timeout") (rows_of (found_of matches.now))) 75 }
-    ensures range { IsBetween 1 3600 result }
-{
-    match argument_text(matches, "keep-alive-timeout") {
-        Some(text) => idle_seconds_in(text),
-        None => DEFAULT_KEPT_SECONDS,
     }
 }
 
@@ -350,18 +307,6 @@ fn kept_requests_of(matches: &ArgMatches) -> u32
     match argument_text(matches, "keep-alive-requests") {
         Some(text) => count_in(text),
         None => DEFAULT_KEPT_REQUESTS,
-    }
-}
-
-/// For how many seconds an idle connection to an endpoint is kept.
-fn endpoint_kept_seconds_of(matches: &ArgMatches) -> u16
-    requires { IsIn 1 3600 (codes "endpoint-keep-alive-timeout") (rows_of (found_of matches.now)) }
-    ensures value { result ≡ unwrap_or (number_of (codes "endpoint-keep-alive-timeout") (rows_of (found_of matches.now))) 60 }
-    ensures range { IsBetween 1 3600 result }
-{
-    match argument_text(matches, "endpoint-keep-alive-timeout") {
-        Some(text) => idle_seconds_in(text),
-        None => DEFAULT_ENDPOINT_KEPT_SECONDS,
     }
 }
 

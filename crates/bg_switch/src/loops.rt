@@ -109,6 +109,8 @@ fn serve_port<'a, N: Names + Send + Sync, R: Threads + Wait + Clock + Sync>(
 fn settings_of<R>(context: &ServeContext<R>, service: Service) -> LoopSettings
     ensures drains { result.limits_drains ≡ is_some context.now.strategy.now.drain_limit }
     ensures address { result.endpoints.address ≡ context.now.words.now.endpoint_address }
+    ensures grace { result.grace_millis ≡ context.now.words.now.shutdown_grace * 1000 }
+    ensures closing { result.closing_millis ≡ context.now.words.now.shutdown_timeout * 1000 }
 {
     let usual = kept_or_closed(context, service).with_refusal_body(context.refusal_body);
     let bounds = bounds_of(context.words, context.loops);
@@ -130,6 +132,7 @@ fn settings_of<R>(context: &ServeContext<R>, service: Service) -> LoopSettings
         aborts_on_close: context.words.abort_on_close,
         limits_drains: context.strategy.drain_limit.is_some(),
         grace_millis: millis(u64::from(context.words.shutdown_grace)),
+        closing_millis: millis(u64::from(context.words.shutdown_timeout)),
         ..usual
     }
 }

@@ -1,7 +1,7 @@
 use Rattle.std.proofs.Common.{◌∙◌, ◌+◌, ◌||◌, List, ap, ap₂, drop, fold, map, refl, sym}
 use Rattle.std.proofs.lemmas.List.{at_drop_more, drop_all}
 use Rattle.clap.specs.Words.{App, app_of, with_rule}
-use Rattle.bg_command_line.specs.CommandLine.{option_rule}
+use Rattle.bg_command_line.specs.OptionRules.{option_rule}
 use Rattle.bg_command_line.specs.declared.command_option.CommandOption.{CommandOption}
 use Rattle.bg_command_line.proofs.Additions.{rule_added}
 use Rattle.bg_command_line.proofs.command_option.with_options.Goals as goal

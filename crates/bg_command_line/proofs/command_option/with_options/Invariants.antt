@@ -1,7 +1,7 @@
 use Rattle.std.proofs.Common.{◌≡◌, false, fold, map, drop}
 use Rattle.clap.specs.Words.{app_of, with_rule}
 use Rattle.clap.specs.declared.builder.command.Command.TheViews.{out-Command as fields_of}
-use Rattle.bg_command_line.specs.CommandLine.{option_rule}
+use Rattle.bg_command_line.specs.OptionRules.{option_rule}
 use Rattle.bg_command_line.proofs.command_option.with_options.Given as goal
 
 abbrev pub invariant-loop-option : goal.invariant-loop-option

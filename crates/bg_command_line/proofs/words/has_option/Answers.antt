@@ -5,7 +5,7 @@ use Rattle.std.specs.List.{list_any}
 use Rattle.std.proofs.lemmas.List.{drop-map, length-drop}
 use Rattle.std.proofs.Math.Seq.{take-length}
 use Rattle.clap.proofs.WalkLemmas.{list_any-map}
-use Rattle.bg_command_line.specs.CommandLine.{is_option}
+use Rattle.bg_command_line.specs.GivenWords.{is_option}
 use Rattle.bg_command_line.proofs.words.has_option.Goals as goal
 
 pub returns-in-Some : goal.returns-in-Some

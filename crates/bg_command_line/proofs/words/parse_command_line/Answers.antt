@@ -1,7 +1,9 @@
 use Rattle.std.proofs.Common.{◌∙◌, List, ap, map, subst}
 use Rattle.std.proofs.lemmas.Result.{IfErr-weaker, IfOk-weaker}
 use Rattle.clap.specs.Words.{Row, app_of, found_of, rows_of}
-use Rattle.bg_command_line.specs.CommandLine.{IsAddressFault, flags_of, program}
+use Rattle.bg_command_line.specs.GivenWords.{flags_of}
+use Rattle.bg_command_line.specs.Invocations.{IsAddressFault}
+use Rattle.bg_command_line.specs.Subcommands.{program}
 use Rattle.bg_command_line.proofs.AcceptedWords.{met, inner_name, inner_rows, known_as, invocation_as, still_in_conflict}
 use Rattle.bg_command_line.proofs.ErrorKinds.{address_as, conflict_as, fault_as, no_kinds}
 use Rattle.bg_command_line.proofs.words.parse_command_line.Goals as goal
