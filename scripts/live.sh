@@ -6,7 +6,7 @@
 #   live_timeouts    slow clients and endpoints, and requests that are given up
 #   live_resources   connections that are used up; descriptors and threads that can't be had
 #   live_concurrency hundreds of requests at a time, and event loops that wait
-#   live_memory      the memory of uploads that come at once, and of messages of mixed sizes
+#   live_memory      the memory of uploads that come at once, and of messages of mixed sizes; responses that are not taken
 #   live_attack      hostile clients, endpoints and operators
 #   live_random      ten thousand exchanges at random
 #   live_operator    the operator's tool

@@ -20,18 +20,26 @@ from support.ports import HOST
 # No wait of a client is longer, in seconds. It is shorter than a script may run.
 LONGEST = 150
 SMALL_BUFFER = 4096
+# The pause, in seconds, below which a client read steadily: below the quarter of a second after
+# which the port may let a silent reader go.
+STEADY = 0.2
 # Where the system tells how many milliseconds ago the last data came: `tcpi_last_data_recv`.
 LAST_DATA = slice(52, 56)
 Body = bytes | Iterable[bytes] | None
 Given = TypeVar("Given")
 
 
-def connect(at: Control, receive_buffer: int | None = None) -> socket.socket:
+def connect(
+    at: Control, receive_buffer: int | None = None, segment: int | None = None
+) -> socket.socket:
     """A connection to a port, or to the Unix socket of a path, whose system takes as many bytes
-    ahead as `receive_buffer` says, or as many as it likes."""
+    ahead as `receive_buffer` says, and in segments of at most `segment` bytes, or as many as it
+    likes."""
     client = socket.socket(socket.AF_INET if isinstance(at, int) else socket.AF_UNIX)
     if receive_buffer is not None:
         client.setsockopt(socket.SOL_SOCKET, socket.SO_RCVBUF, receive_buffer)
+    if segment is not None:
+        client.setsockopt(socket.IPPROTO_TCP, socket.TCP_MAXSEG, segment)
     client.settimeout(LONGEST)
     try:
         client.connect((HOST, at) if isinstance(at, int) else at)
@@ -178,9 +186,14 @@ class Crowd:
     them."""
 
     def __init__(
-        self, port: int, count: int, first: bytes, receive_buffer: int | None = None
+        self,
+        port: int,
+        count: int,
+        first: bytes,
+        receive_buffer: int | None = None,
+        segment: int | None = None,
     ) -> None:
-        self.connections = [connect(port, receive_buffer) for _ in range(count)]
+        self.connections = [connect(port, receive_buffer, segment) for _ in range(count)]
         for connection in self.connections:
             with contextlib.suppress(OSError):
                 connection.sendall(first)
@@ -250,3 +263,32 @@ def upload(port: int, size: int, piece: int = 65536, pause: float = 0.0) -> byte
 def counted(answers: Iterable[bytes]) -> dict[bytes, int]:
     """How often each status came; an answer that isn't there is the empty text."""
     return dict(collections.Counter(answer[9:12] for answer in answers))
+
+
+class SteadyRead(NamedTuple):
+    """How many bytes came to a client, and for how many seconds it took none at most."""
+
+    bytes_read: int
+    pause: float
+
+    def is_steady(self) -> bool:
+        return self.pause < STEADY
+
+
+def read_steadily(port: int, target: bytes) -> SteadyRead:
+    """What comes to a client that reads 64,000 bytes each 40 milliseconds."""
+    count, longest = 0, 0.0
+    with connect(port, 65536) as client:
+        client.sendall(request(target))
+        with contextlib.suppress(ConnectionError):
+            client.recv(1, socket.MSG_PEEK)
+        latest = time.monotonic() - silence(client)
+        has_more = True
+        while has_more:
+            piece = b""
+            with contextlib.suppress(ConnectionError):
+                piece = client.recv(64000, socket.MSG_WAITALL)
+            longest, latest = max(longest, time.monotonic() - latest), time.monotonic()
+            count, has_more = count + len(piece), piece != b""
+            time.sleep(0.04 if has_more else 0)
+    return SteadyRead(count, longest)

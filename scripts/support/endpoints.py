@@ -259,8 +259,8 @@ class EndpointProcess:
         processes.pause(self.process.pid)
 
 
-def held_at(target: bytes, held: Held, others: Answer) -> Answer:
-    """Holds the requests for a target, and answers the others otherwise."""
+def held_at(target: bytes, held: Answer, others: Answer) -> Answer:
+    """Answers the requests for a target, which may be held, and the others otherwise."""
 
     def answer(request: Request, connection: socket.socket) -> None:
         if request.target == target:

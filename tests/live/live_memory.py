@@ -1,7 +1,8 @@
 """The memory of `bg_switch serve`: of uploads that come at once, and of messages of mixed sizes. It
 stays within its bounds only if the C library gives freed memory back, by the variables that
-bin/bg_switch sets: without them these parts fail. By hand: the table of docs/OPERATING.md, and the
-most that the switch of examples/production can take."""
+bin/bg_switch sets: without them these parts fail. And responses that are not taken: they make room
+for other clients at once. By hand: the table of docs/OPERATING.md, and the most that the switch of
+examples/production can take."""
 import concurrent.futures
 import contextlib
 import os
@@ -12,9 +13,10 @@ import socket
 import threading
 import time
 from collections.abc import Iterator
+from functools import partial
 
 from support import TOP, checks, clients
-from support.checks import check, check_within, comes
+from support.checks import check, check_beside, check_within, comes
 from support.endpoints import Endpoint, EndpointProcess, Held, Request, by_target, held_at
 from support.messages import BY_HAND, LARGEST_BODY, answer, request, response
 from support.pace import is_busy
@@ -40,6 +42,12 @@ SEED = 64
 LARGEST_RESPONSE = 4194304
 # For how many seconds the responses go to clients that read nothing.
 DRAINED = 20
+# So many clients take nothing of the largest response, which together are more than a port keeps.
+# Their segments are small, so that the system takes some of a response in a first write and less
+# in a second one: such a client is slow only after two seconds. `POLITE` clients ask at once beside
+# them, and wait for `PROMPT` seconds at most.
+TAKING_NOTHING, SMALL_SEGMENT = 300, 1460
+POLITE, PROMPT = 10, 0.25
 BY_CONCURRENCY = (10, 32, 200, 1000)
 
 
@@ -190,6 +198,73 @@ def memory_of_unit() -> int:
     return int(found[1]) << 10
 
 
+class Stalling:
+    """Reads each request whole, sends all but the last byte of the largest response, and sends that
+    one only once it is let go."""
+
+    WHOLE = memoryview(response(bytes(LARGEST_RESPONSE)))
+
+    def __init__(self) -> None:
+        self.is_free = threading.Event()
+        self.lock = threading.Lock()
+        self.pending = 0
+
+    def __call__(self, _: Request, connection: socket.socket) -> None:
+        connection.sendall(self.WHOLE[:-1])
+        with self.lock:
+            self.pending += 1
+        self.is_free.wait()
+        connection.sendall(self.WHOLE[-1:])
+
+
+def ask_at_once(port: int) -> list[clients.Timed]:
+    """What polite clients are answered that ask at once."""
+    return clients.at_once([partial(clients.timed, port)] * POLITE)
+
+
+def responses_not_taken() -> None:
+    """Clients take nothing of responses that are more than a port keeps. Others are answered as
+    promptly as elsewhere, and one that reads on gets the whole of its response."""
+    limit_descriptors(16000)
+    stalling = Stalling()
+    endpoint = Endpoint(held_at(b"/largest", stalling, answer_ok))
+    with serving(endpoint.port, TAKING_NOTHING + 1 + POLITE) as switch, serving(
+        Endpoint(answer_ok).port, POLITE
+    ) as other, concurrent.futures.ThreadPoolExecutor(1) as reader, clients.Crowd(
+        switch.active, TAKING_NOTHING, request(b"/largest"), clients.SMALL_BUFFER, SMALL_SEGMENT
+    ):
+        steady = reader.submit(clients.read_steadily, switch.active, b"/largest")
+        check(
+            "all large responses are pending",
+            comes(lambda: stalling.pending == TAKING_NOTHING + 1),
+            True,
+        )
+        elsewhere = ask_at_once(other.active)
+        stalling.is_free.set()
+        check("all large responses have come", comes(lambda: switch.open_requests() == [0]), True)
+        beside = ask_at_once(switch.active)
+        elsewhere += ask_at_once(other.active)
+        # they come again and again, also while slow clients are dropped
+        beside += [clients.timed(switch.active) for _ in range(POLITE)]
+        check(
+            "polite clients beside responses that are not taken",
+            {one.answer for one in beside + elsewhere},
+            {answer(b"ok")},
+        )
+        check_beside(
+            "the wait beside responses that are not taken",
+            [one.seconds for one in beside[:POLITE]],
+            [one.seconds for one in elsewhere],
+            PROMPT,
+        )
+        read = steady.result()
+        check(
+            "a client that reads on beside them gets the whole of its response",
+            read.bytes_read == len(answer(bytes(LARGEST_RESPONSE))) or not read.is_steady(),
+            True,
+        )
+
+
 def table() -> None:
     """The memory of docs/OPERATING.md, by the requests at a time."""
     limit_descriptors(16000)
@@ -216,25 +291,6 @@ def table() -> None:
                 f"{concurrency}: {idle:.1f}, {busy:.1f}, {peak(switch):.1f}, {after:.1f}",
                 flush=True,
             )
-
-
-class Stalling:
-    """Reads each request whole, sends all but the last byte of the largest response, and sends that
-    one only once it is let go."""
-
-    WHOLE = memoryview(response(bytes(LARGEST_RESPONSE)))
-
-    def __init__(self) -> None:
-        self.is_free = threading.Event()
-        self.lock = threading.Lock()
-        self.pending = 0
-
-    def __call__(self, _: Request, connection: socket.socket) -> None:
-        connection.sendall(self.WHOLE[:-1])
-        with self.lock:
-            self.pending += 1
-        self.is_free.wait()
-        connection.sendall(self.WHOLE[-1:])
 
 
 def most_of_the_unit() -> None:
@@ -273,4 +329,8 @@ def most_of_the_unit() -> None:
 
 
 if __name__ == "__main__":
-    checks.run("live_memory", [uploads_at_once, mixed_sizes], by_hand=[table, most_of_the_unit])
+    checks.run(
+        "live_memory",
+        [uploads_at_once, mixed_sizes, responses_not_taken],
+        by_hand=[table, most_of_the_unit],
+    )

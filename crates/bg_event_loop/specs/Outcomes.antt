@@ -45,6 +45,7 @@ fault_end is_written None fault = unanswered fault
 abbrev pub cause_end : Bool → Cause → End
 cause_end is_written (cause.Given (given.Response code)) = answered_end is_written code
 cause_end is_written (cause.Given (given.Refusal fault)) = refused_end is_written (fault_reason fault)
+cause_end is_written (cause.Given (given.Cut fault)) = refused_end is_written (fault_reason fault)
 cause_end is_written (cause.Refused why) = refused_end is_written why
 cause_end is_written (cause.Fault fault) = fault_end is_written (request_reason fault) fault
 
@@ -52,6 +53,7 @@ cause_end is_written (cause.Fault fault) = fault_end is_written (request_reason 
 abbrev pub cause_reason : Bool → Cause → Option Reason
 cause_reason is_written (cause.Given (given.Response code)) = answered_reason is_written
 cause_reason is_written (cause.Given (given.Refusal fault)) = Some (fault_reason fault)
+cause_reason is_written (cause.Given (given.Cut fault)) = Some (fault_reason fault)
 cause_reason is_written (cause.Refused why) = Some why
 cause_reason is_written (cause.Fault fault) = request_reason fault
 

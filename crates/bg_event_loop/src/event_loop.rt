@@ -198,8 +198,8 @@ impl<'a, P: EndpointPorts, L: RequestLog> EventLoop<'a, P, L> {
         true
     }
 
-    /// Makes a step of a connection from which a request may come: its client may have sent one meanwhile.
-    pub(crate) fn read_once_more(&mut self, key: usize) {
+    /// Makes a step of a connection of which no event told: its client may have sent a request meanwhile, or taken bytes.
+    pub(crate) fn step_once_more(&mut self, key: usize) {
         if let Some(client) = self.clients.get_mut(key) {
             let fed = client.step(client_piece(self.piece.as_mut_slice()), self.now);
             self.note_fed(key, fed);
@@ -219,7 +219,7 @@ impl<'a, P: EndpointPorts, L: RequestLog> EventLoop<'a, P, L> {
         if !self.is_silent(key) {
             return;
         }
-        self.read_once_more(key);
+        self.step_once_more(key);
         if self.is_silent(key)
             && let Some(client) = self.clients.get_mut(key)
         {

@@ -38,7 +38,9 @@ impl Outcome {
     {
         match cause {
             Cause::Given(Given::Response(code)) => answered(code, is_written),
-            Cause::Given(Given::Refusal(fault)) => refused(reason_of(fault), is_written),
+            Cause::Given(Given::Refusal(fault) | Given::Cut(fault)) => {
+                refused(reason_of(fault), is_written)
+            }
             Cause::Refused(reason) => refused(reason, is_written),
             Cause::Fault(fault) => match Reason::of_request(fault) {
                 Some(reason) => refused(reason, is_written),

@@ -60,22 +60,61 @@ impl<'a, P: EndpointPorts, L: RequestLog> EventLoop<'a, P, L> {
         self.share_loads();
     }
 
-    /// Whether a further connection may be accepted. A full loop makes room: it closes the connection that is idle for the
-    /// longest time, or else one that makes too little progress.
+    /// Whether a further connection may be accepted. A full loop makes room: it closes connections whose clients take too little
+    /// of their responses, if these take too much memory. Otherwise it closes the connection that is idle for the longest time,
+    /// or else one that makes too little progress.
     pub(crate) fn has_room(&mut self) -> bool {
         self.share_loads();
-        if !self.loads.is_full() {
-            return true;
+        if self.loads.is_full_of_responses() {
+            self.drop_responses();
+        } else if self.loads.is_full()
+            && let Some(key) = self.least_needed()
+        {
+            self.close(key);
         }
-        let key = match self.oldest_idle() {
-            Some(key) => key,
-            None => match self.loads.slowest(self.among_whom(), self.now) {
-                Some(key) => key,
-                None => return false,
-            },
-        };
-        self.close(key);
         !self.loads.is_full()
+    }
+
+    /// The connection that is idle for the longest time, or else the one that is slow for the longest time.
+    fn least_needed(&mut self) -> Option<usize> {
+        match self.oldest_idle() {
+            Some(key) => Some(key),
+            None => self.loads.slowest(Among::All, self.now),
+        }
+    }
+
+    /// Closes connections whose responses are to be dropped, until responses leave room for a further connection, or until there
+    /// is no such connection.
+    fn drop_responses(&mut self) {
+        for _ in 0..self.clients.bound() {
+            if !self.loads.is_full_of_responses() {
+                return;
+            }
+            let Some(key) = self.response_to_drop() else {
+                return;
+            };
+            self.serve_once_more(key);
+            if self.response_to_drop() == Some(key) {
+                self.close(key);
+            }
+        }
+    }
+
+    /// The connection whose response is dropped first while responses leave no room: one that is slow, or else the one whose
+    /// client has taken nothing for the longest time, if this loop is to make room.
+    fn response_to_drop(&self) -> Option<usize> {
+        match self.loads.slowest(Among::Responses, self.now) {
+            Some(key) => Some(key),
+            None => self.loads.stillest_response(),
+        }
+    }
+
+    /// Makes a step of a connection that is to be closed, and notes what it does then. Its client may have sent a request
+    /// meanwhile, or have taken bytes: of these an event tells only once the socket has room for many.
+    fn serve_once_more(&mut self, key: usize) {
+        self.step_once_more(key);
+        self.observe(key);
+        self.make_due(key);
     }
 
     /// The connection that is idle for the longest time. Each that it asks for is read once more: one whose client has sent
@@ -83,23 +122,12 @@ impl<'a, P: EndpointPorts, L: RequestLog> EventLoop<'a, P, L> {
     fn oldest_idle(&mut self) -> Option<usize> {
         for _ in 0..self.clients.bound() {
             let key = self.loads.oldest_idle()?;
-            self.read_once_more(key);
+            self.serve_once_more(key);
             if self.is_idle(key) {
                 return Some(key);
             }
-            self.observe(key);
-            self.make_due(key);
         }
         None
-    }
-
-    /// The connections among which a slow one makes room: those that were answered, if responses take too much memory.
-    fn among_whom(&self) -> Among {
-        if self.loads.is_full_of_responses() {
-            Among::Responses
-        } else {
-            Among::All
-        }
     }
 
     /// Closes slow connections while requests or responses take too much memory, and pauses large requests.
@@ -122,9 +150,12 @@ impl<'a, P: EndpointPorts, L: RequestLog> EventLoop<'a, P, L> {
             if !self.loads.responses_take_more_than(most / 4 * 3) {
                 return;
             }
-            match self.loads.slowest(Among::Responses, self.now) {
-                Some(key) => self.close(key),
-                None => return,
+            let Some(key) = self.loads.slowest(Among::Responses, self.now) else {
+                return;
+            };
+            self.serve_once_more(key);
+            if self.loads.slowest(Among::Responses, self.now) == Some(key) {
+                self.close(key);
             }
         }
     }

@@ -43,7 +43,7 @@ impl<'a, P: EndpointPorts, L: RequestLog> EventLoop<'a, P, L> {
         let is_over = has_come(self.closes_at, self.now);
         let is_grace_over = has_come(self.grace_until, self.now);
         if self.has_sent(key) {
-            self.read_once_more(key);
+            self.step_once_more(key);
         }
         let Some(client) = self.clients.get_mut(key) else {
             return;
@@ -72,7 +72,7 @@ impl<'a, P: EndpointPorts, L: RequestLog> EventLoop<'a, P, L> {
         self.closes_at = Some(self.now.saturating_add(self.settings.closing_millis));
         for key in 0..self.clients.bound() {
             if self.is_idle(key) {
-                self.read_once_more(key);
+                self.step_once_more(key);
             }
             if let Some(client) = self.clients.get_mut(key) {
                 client.sides.begin_closing();

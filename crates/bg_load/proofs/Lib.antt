@@ -2,6 +2,7 @@ pub mod Earliest
 pub mod GoingOn
 pub mod Oldest
 pub mod RegisterLemmas
+pub mod RoomLemmas
 pub mod Running
 pub mod Settling
 pub mod Sums

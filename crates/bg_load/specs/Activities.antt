@@ -37,6 +37,15 @@ is_idle activity.Inside = false
 is_idle (activity.Answering weight written) = false
 is_idle (activity.Lingering bytes) = false
 
+-- the response of the connection is written
+abbrev pub is_answering : Activity → Bool
+is_answering activity.Idle = false
+is_answering (activity.Arriving bytes) = false
+is_answering (activity.Waiting bytes) = false
+is_answering activity.Inside = false
+is_answering (activity.Answering weight written) = true
+is_answering (activity.Lingering bytes) = false
+
 -- the connection was answered, and still takes its response or is in its lingering close
 abbrev pub is_answered : Activity → Bool
 is_answered activity.Idle = false

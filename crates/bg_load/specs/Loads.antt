@@ -1,6 +1,6 @@
 -- The load of a connection: what it does, its progress in that, and whether it is paused.
 use Rattle.std.specs.Prelude.{ℕ, ◌-◌, Bool, true, false, ◌&&◌, if◌then◌else◌, nat_lt, not, Option, Some, None}
-use Rattle.bg_load.specs.Activities.{continues, is_answered, is_arriving, is_idle, is_large, moved}
+use Rattle.bg_load.specs.Activities.{continues, is_answered, is_answering, is_arriving, is_idle, is_large, moved}
 use Rattle.bg_load.specs.Paces.{is_slower_by, noted_by, pace_of}
 use Rattle.bg_load.specs.declared.activity.Activity.{Activity}
 use Rattle.bg_load.specs.declared.among.Among.{Among}
@@ -64,6 +64,10 @@ slow_since which now load =
 -- since when a large request has made no progress
 abbrev pub still_load : Load → Option ℕ
 still_load load = if_so (is_large load.activity) load.progress.moment
+
+-- since when it has made no progress, if its response is written
+abbrev pub answering_load : Load → Option ℕ
+answering_load load = if_so (is_answering load.activity) load.progress.moment
 
 -- since when it has been idle
 abbrev pub idle_load : Load → Option ℕ

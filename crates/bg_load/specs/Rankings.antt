@@ -1,7 +1,7 @@
 -- The first of the connections in a ranking.
 use Rattle.std.specs.Prelude.{ℕ, ◌<◌, ◌≤◌, if◌then◌else◌, nat_lt, Option, Some, None, ⊤}
 use Rattle.bg_load.specs.Pauses.{large_from}
-use Rattle.bg_load.specs.Room.{idle_since, slow_at}
+use Rattle.bg_load.specs.Room.{answering_since, idle_since, slow_at}
 use Rattle.bg_load.specs.Stalls.{still_since}
 use Rattle.bg_load.specs.declared.connection.Connection.{Connection}
 use Rattle.bg_load.specs.declared.ranking.Ranking.{Ranking}
@@ -12,6 +12,7 @@ abbrev pub rank_in : Ranking → Option Connection → Option ℕ
 rank_in (ranking.LargeFrom least) p = large_from least p
 rank_in ranking.Still p = still_since p
 rank_in (ranking.Slow which now) p = slow_at which now p
+rank_in ranking.Answering p = answering_since p
 rank_in ranking.Idle p = idle_since p
 
 -- of two moments or numbers, the first is no later, if there is a second

@@ -1,6 +1,6 @@
 //! What a connection does now.
 ghost use Rattle.std.specs.Prelude.{◌≡◌};
-ghost use Rattle.bg_load.specs.Activities.{continues, is_answered, is_arriving, is_idle, is_large, moved};
+ghost use Rattle.bg_load.specs.Activities.{continues, is_answered, is_answering, is_arriving, is_idle, is_large, moved};
 ghost use Rattle.bg_load.specs.Paces.{pace_of};
 
 use crate::progress::{Pace, RESPONSE_PACE, request_pace};
@@ -93,6 +93,13 @@ impl Activity {
             self,
             Activity::Answering { .. } | Activity::Lingering { .. }
         )
+    }
+
+    /// Whether its response is written.
+    pub(crate) fn is_answering(self) -> bool
+        ensures { result ≡ is_answering self }
+    {
+        matches!(self, Activity::Answering { .. })
     }
 
     /// Whether a connection that did this before still does so: it does the same, and moved no fewer bytes. With fewer

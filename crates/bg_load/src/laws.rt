@@ -3,8 +3,10 @@ ghost use Rattle.std.specs.Prelude.{List, ℕ};
 ghost use Rattle.bg_load.specs.Events.{Event, PauseStays, SmallGoOn};
 ghost use Rattle.bg_load.specs.Pauses.{FewGoOn, RegulatingSettles};
 ghost use Rattle.bg_load.specs.Registers.{Register};
+ghost use Rattle.bg_load.specs.Room.{SomeLoopMakesRoom};
 ghost use Rattle.bg_load.specs.declared.connection.Connection.{Connection};
 ghost use Rattle.bg_load.specs.declared.pauses.Pauses.{Pauses};
+ghost use Rattle.bg_load.specs.declared.settings.LoadSettings.{LoadSettings};
 
 /// Once `regulate` finds no request of a loop that is otherwise than the rule says: if no large request is to be paused, none is
 /// paused; and while the younger ones are, at most eight large requests go on, and each large one that is older than one of
@@ -29,4 +31,10 @@ pub fn small_requests_go_on()
 pub fn a_pause_stays()
     ensures { (old : Register) (key : ℕ) (c : Connection) (before bytes now : ℕ)
         → PauseStays old key c before bytes now }
+{}
+
+/// While the responses of all loops of a port take more than twice the memory that the settings give, those of one loop are more
+/// than its part. So this loop has a connection that makes room, by `Loads::stillest_response`.
+pub fn some_loop_makes_room()
+    ensures { (loops : List Register) (settings : LoadSettings) → SomeLoopMakesRoom loops settings }
 {}

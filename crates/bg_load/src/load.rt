@@ -1,6 +1,6 @@
 //! The load of a connection: what it does, its progress in that, and whether it is paused.
 ghost use Rattle.std.specs.Prelude.{◌≡◌};
-ghost use Rattle.bg_load.specs.Loads.{begins, begun, continued, if_so, idle_load, is_moving_load, is_slow};
+ghost use Rattle.bg_load.specs.Loads.{answering_load, begins, begun, continued, if_so, idle_load, is_moving_load, is_slow};
 ghost use Rattle.bg_load.specs.Loads.{is_stuck_load, observed, slow_since, still_load, turned};
 
 use crate::activity::Activity;
@@ -130,6 +130,13 @@ impl Load {
         ensures { result ≡ still_load self }
     {
         if_so(self.activity.is_large(), self.progress.moment)
+    }
+
+    /// Since when it has made no progress, if its response is written.
+    pub(crate) fn answering_since(self) -> Option<u64>
+        ensures { result ≡ answering_load self }
+    {
+        if_so(self.activity.is_answering(), self.progress.moment)
     }
 
     /// Since when it is idle.

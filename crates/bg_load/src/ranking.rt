@@ -15,6 +15,8 @@ pub enum Ranking {
     Still,
     /// Those that are slow at a moment, among these, by the moment since when they have made no progress.
     Slow(Among, u64),
+    /// Those whose responses are written, by the moment since when they have made no progress.
+    Answering,
     /// Those that are idle, by the moment since when they are.
     Idle,
 }
@@ -28,6 +30,7 @@ impl Ranking {
             Ranking::LargeFrom(least) => if_so(connection.is_large_from(least), connection.number),
             Ranking::Still => connection.load.still_since(),
             Ranking::Slow(among, now) => connection.load.slow_since(among, now),
+            Ranking::Answering => connection.load.answering_since(),
             Ranking::Idle => connection.load.idle_since(),
         }
     }

@@ -41,6 +41,7 @@ enum Step {
     Slowest(Among, u64, Option<usize>),
     StuckFrom(usize, u64, Option<usize>),
     Stalled(u64, Option<usize>),
+    StillestResponse(Option<usize>),
     OldestIdle(Option<usize>),
 }
 
@@ -105,6 +106,7 @@ fn holds(loads: &mut Loads, step: &Step) -> bool {
         Step::Slowest(among, now, key) => loads.slowest(*among, *now) == *key,
         Step::StuckFrom(from, now, key) => loads.stuck_from(*from, *now) == *key,
         Step::Stalled(now, key) => loads.stalled(*now) == *key,
+        Step::StillestResponse(key) => loads.stillest_response() == *key,
         Step::OldestIdle(key) => loads.oldest_idle() == *key,
     }
 }
@@ -122,7 +124,7 @@ fn first_wrong(alloc: Global, runs: &[Run]) -> Option<(&'static str, usize)> {
     None
 }
 
-static RUNS: [Run; 16] = [
+static RUNS: [Run; 18] = [
     Run {
         name: "a hundred uploads: eight go on, and once they are inside, the next eight",
         steps: &[
@@ -472,6 +474,102 @@ static RUNS: [Run; 16] = [
             }),
             Step::ResponsesTakeMoreThan(u64::MAX, true),
             Step::IsFullOfResponses(true),
+        ],
+    },
+    Run {
+        name: "the response that has made no progress for the longest time, while responses take too much",
+        steps: &[
+            Step::Others(Totals {
+                response_bytes: 697_154,
+                ..Totals::NONE
+            }),
+            Step::AcceptAll(6),
+            Step::SeeAll(
+                0,
+                3,
+                Activity::Answering {
+                    weight: 400_000,
+                    written: 0,
+                },
+                100,
+            ),
+            Step::See(3, Activity::Lingering { moved: 0 }, 20),
+            Step::See(4, Activity::Idle, 10),
+            // 1,897,154 bytes
+            Step::StillestResponse(None),
+            Step::See(
+                5,
+                Activity::Answering {
+                    weight: 200_000,
+                    written: 0,
+                },
+                90,
+            ),
+            Step::IsFullOfResponses(true),
+            // none is slow
+            Step::Slowest(Among::Responses, 110, None),
+            Step::StillestResponse(Some(5)),
+            Step::See(
+                5,
+                Activity::Answering {
+                    weight: 200_000,
+                    written: 131_072,
+                },
+                110,
+            ),
+            Step::StillestResponse(Some(0)),
+            // fewer bytes are no progress
+            Step::See(
+                0,
+                Activity::Answering {
+                    weight: 400_000,
+                    written: 131_071,
+                },
+                120,
+            ),
+            Step::StillestResponse(Some(0)),
+            Step::Leave(0),
+            Step::IsFullOfResponses(false),
+            Step::StillestResponse(None),
+        ],
+    },
+    Run {
+        name: "a loop drops responses down to its part of what all may take",
+        steps: &[
+            Step::Others(Totals {
+                response_bytes: 4_000_000,
+                ..Totals::NONE
+            }),
+            Step::AcceptAll(2),
+            Step::See(
+                0,
+                Activity::Answering {
+                    weight: 262_145,
+                    written: 0,
+                },
+                100,
+            ),
+            Step::See(
+                1,
+                Activity::Answering {
+                    weight: 262_143,
+                    written: 0,
+                },
+                50,
+            ),
+            Step::IsFullOfResponses(true),
+            Step::StillestResponse(None),
+            Step::See(
+                1,
+                Activity::Answering {
+                    weight: 262_144,
+                    written: 0,
+                },
+                50,
+            ),
+            Step::StillestResponse(Some(1)),
+            Step::Leave(1),
+            Step::StillestResponse(None),
         ],
     },
     Run {
