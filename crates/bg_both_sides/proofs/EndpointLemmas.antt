@@ -108,6 +108,7 @@ goes_back_whole law (comes bytes) old new now ending reply sound is back = go ol
   go (side.Forwarding request f) at_is sound is =
       let to = follows_back request is.0 now old.client (steps.Answered ending) reply new is.2 in
       whole_sent old request f at_is sound.1 (receives_sent law f bytes now is.0 is.1 (sym to ∙ back))
+  go (side.Streaming request s) at_is sound is = absurd is
 goes_back_whole law ends old new now ending reply sound is back = go old.endpoint is where
   go : (e : EndpointSide)
       → AtForwarded (λ f next. Ends f now next × IsOnce f next) e now old.client (steps.Answered ending) reply new
@@ -118,6 +119,7 @@ goes_back_whole law ends old new now ending reply sound is back = go old.endpoin
   go (side.Forwarding request f) is =
       let to = follows_back request is.0 now old.client (steps.Answered ending) reply new is.2 in
       never ending.goes_back back (to ∙ ends_back f now is.0 is.1.0) old
+  go (side.Streaming request s) is = absurd is
 goes_back_whole law breaks old new now ending reply sound is back = go old.endpoint is where
   go : (e : EndpointSide)
       → AtForwarded (λ f next. (next ≡ failed f now) × IsOnce f next) e now old.client (steps.Answered ending) reply new
@@ -128,6 +130,7 @@ goes_back_whole law breaks old new now ending reply sound is back = go old.endpo
   go (side.Forwarding request f) is =
       let to = follows_back request is.0 now old.client (steps.Answered ending) reply new is.2 in
       never ending.goes_back back (to ∙ ap back_by is.1.0 ∙ fails_back f now) old
+  go (side.Streaming request s) is = absurd is
 goes_back_whole law (dial_fails why) old new now ending reply sound is back = go old.endpoint is where
   go : (e : EndpointSide) → Happens (dial_fails why) (record old { endpoint = e }) now (steps.Answered ending) reply new
       → WasWhole old
@@ -135,6 +138,7 @@ goes_back_whole law (dial_fails why) old new now ending reply sound is back = go
   go (side.Entered request) is = absurd (cc)
   go (side.Dialing request dialing) is = never ending.goes_back back (ap back_of is.0) old
   go (side.Forwarding request f) is = absurd (cc)
+  go (side.Streaming request s) is = absurd (cc)
 goes_back_whole law passes old new now ending reply sound is back = go old.endpoint is where
   late : (b : Bool) (request : Request) (dialing : Dialing)
       → LooksDialing b request dialing now old.client (steps.Answered ending) reply new → WasWhole old
@@ -148,6 +152,7 @@ goes_back_whole law passes old new now ending reply sound is back = go old.endpo
   go (side.Forwarding request f) is =
       let to = follows_back request (looked f now) now old.client (steps.Answered ending) reply new is in
       never ending.goes_back back (to ∙ looks_back f now) old
+  go (side.Streaming request s) is = absurd is
 goes_back_whole law (given_up why) old new now ending reply sound is back = go old.endpoint is where
   go : (e : EndpointSide) → Happens (given_up why) (record old { endpoint = e }) now (steps.Answered ending) reply new
       → WasWhole old
@@ -155,6 +160,7 @@ goes_back_whole law (given_up why) old new now ending reply sound is back = go o
   go (side.Entered request) is = absurd (cc)
   go (side.Dialing request dialing) is = never ending.goes_back back (ap back_of is.0) old
   go (side.Forwarding request f) is = never ending.goes_back back (ap back_of is.0) old
+  go (side.Streaming request s) is = absurd is
 
 -- what an event tells: nothing happened, the request goes on, or this follows from a step
 data Led (now : ℕ) (client : Client) (told : EndpointStep) (reply : Option Reply) (new : Sides) : Type 0 where
@@ -169,19 +175,23 @@ led (comes bytes) old side.NoRequest now told reply new is = absent is.0
 led (comes bytes) old (side.Entered request) now told reply new is = absent is.0
 led (comes bytes) old (side.Dialing request dialing) now told reply new is = absent is.0
 led (comes bytes) old (side.Forwarding request f) now told reply new is = follows request is.0 is.2
+led (comes bytes) old (side.Streaming request s) now told reply new is = absurd is
 led ends old side.NoRequest now told reply new is = absent is.0
 led ends old (side.Entered request) now told reply new is = absent is.0
 led ends old (side.Dialing request dialing) now told reply new is = absent is.0
 led ends old (side.Forwarding request f) now told reply new is = follows request is.0 is.2
+led ends old (side.Streaming request s) now told reply new is = absurd is
 led breaks old side.NoRequest now told reply new is = absent is.0
 led breaks old (side.Entered request) now told reply new is = absent is.0
 led breaks old (side.Dialing request dialing) now told reply new is = absent is.0
 led breaks old (side.Forwarding request f) now told reply new is = follows request is.0 is.2
+led breaks old (side.Streaming request s) now told reply new is = absurd is
 led (dial_fails why) old side.NoRequest now told reply new is = absent is.0
 led (dial_fails why) old (side.Entered request) now told reply new is = absent is.0
 led (dial_fails why) old (side.Dialing request dialing) now told reply new is =
     follows request (step.Over (dial_failed why)) is
 led (dial_fails why) old (side.Forwarding request f) now told reply new is = absent is.0
+led (dial_fails why) old (side.Streaming request s) now told reply new is = absent is.0
 led passes old side.NoRequest now told reply new is = absent is.0
 led passes old (side.Entered request) now told reply new is = absent is.0
 led passes old (side.Dialing request dialing) now told reply new is = go (nat_le dialing.deadlines.until now) is where
@@ -189,12 +199,14 @@ led passes old (side.Dialing request dialing) now told reply new is = go (nat_le
   go true is = follows request (step.Over (dial_failed dial.TimedOut)) is
   go false is = stays is.0
 led passes old (side.Forwarding request f) now told reply new is = follows request (looked f now) is
+led passes old (side.Streaming request s) now told reply new is = absurd is
 led (given_up why) old side.NoRequest now told reply new is = absent is.0
 led (given_up why) old (side.Entered request) now told reply new is = absent is.0
 led (given_up why) old (side.Dialing request dialing) now told reply new is =
     follows request (step.Over (refused (of_giving_up why) health.Unknown)) is
 led (given_up why) old (side.Forwarding request f) now told reply new is =
     follows request (step.Over (refused (of_giving_up why) (health_of f.came))) is
+led (given_up why) old (side.Streaming request s) now told reply new is = absurd is
 
 -- a request that is answered has no connection
 pub loses_its_connection : (event : EndpointEvent) (old new : Sides) (now : ℕ) (ending : Ending) (reply : Option Reply)
@@ -266,6 +278,7 @@ repeats_by_rule (comes bytes) old new now reply is = go old.endpoint is where
   go (side.Dialing request dialing) is = absurd (cc)
   go (side.Forwarding request f) is =
       no_again old request is.0 now old.client reply new (receives_no_again f bytes now is.0 is.1) is.2
+  go (side.Streaming request s) is = absurd is
 repeats_by_rule ends old new now reply is = go old.endpoint refl is where
   go : (e : EndpointSide) → old.endpoint ≡ e
       → AtForwarded (λ f next. Ends f now next × IsOnce f next) e now old.client steps.DialsAgain reply new
@@ -275,6 +288,7 @@ repeats_by_rule ends old new now reply is = go old.endpoint refl is where
   go (side.Dialing request dialing) at_is is = absurd (cc)
   go (side.Forwarding request f) at_is is =
       again_of old request f is.0 now old.client reply new at_is (ends_again f now is.0 is.1.0) is.2
+  go (side.Streaming request s) at_is is = absurd is
 repeats_by_rule breaks old new now reply is = go old.endpoint refl is where
   go : (e : EndpointSide) → old.endpoint ≡ e
       → AtForwarded (λ f next. (next ≡ failed f now) × IsOnce f next) e now old.client steps.DialsAgain reply new
@@ -285,6 +299,7 @@ repeats_by_rule breaks old new now reply is = go old.endpoint refl is where
   go (side.Forwarding request f) at_is is =
       again_of old request f is.0 now old.client reply new at_is
       (λ d same. fails_again f now d (sym is.1.0 ∙ same)) is.2
+  go (side.Streaming request s) at_is is = absurd is
 repeats_by_rule (dial_fails why) old new now reply is = go old.endpoint is where
   go : (e : EndpointSide) → Happens (dial_fails why) (record old { endpoint = e }) now steps.DialsAgain reply new
       → RepeatsByRule old now new
@@ -292,6 +307,7 @@ repeats_by_rule (dial_fails why) old new now reply is = go old.endpoint is where
   go (side.Entered request) is = absurd (cc)
   go (side.Dialing request dialing) is = absurd (cc)
   go (side.Forwarding request f) is = absurd (cc)
+  go (side.Streaming request s) is = absurd (cc)
 repeats_by_rule passes old new now reply is = go old.endpoint is where
   late : (b : Bool) (request : Request) (dialing : Dialing)
       → LooksDialing b request dialing now old.client steps.DialsAgain reply new → RepeatsByRule old now new
@@ -304,6 +320,7 @@ repeats_by_rule passes old new now reply is = go old.endpoint is where
   go (side.Dialing request dialing) is = late (nat_le dialing.deadlines.until now) request dialing is
   go (side.Forwarding request f) is =
       no_again old request (looked f now) now old.client reply new (looks_no_again f now) is
+  go (side.Streaming request s) is = absurd is
 repeats_by_rule (given_up why) old new now reply is = go old.endpoint is where
   go : (e : EndpointSide) → Happens (given_up why) (record old { endpoint = e }) now steps.DialsAgain reply new
       → RepeatsByRule old now new
@@ -311,6 +328,7 @@ repeats_by_rule (given_up why) old new now reply is = go old.endpoint is where
   go (side.Entered request) is = absurd (cc)
   go (side.Dialing request dialing) is = absurd (cc)
   go (side.Forwarding request f) is = absurd (cc)
+  go (side.Streaming request s) is = absurd is
 
 -- a response that was read decides the answer
 pub answers_by_its_response : (old new : Sides) (bytes : List ℕ) (now : ℕ) (told : EndpointStep) (reply : Reply)
@@ -335,3 +353,4 @@ answers_by_its_response old new bytes now told reply sound is = go old.endpoint 
       decided = received;
       answer_is = subst (λ r. IsAnswerTo old.client r outcome.answer (given_in told) reply.answer) (sym is.2.0) is.2.1;
     }
+  go (side.Streaming request s) at_is sound is = absurd is

@@ -37,8 +37,9 @@ sound_alike old new side.NoRequest alike sound = alike ∙ sound
 sound_alike old new (side.Entered request) alike sound = alike ∙ sound
 sound_alike old new (side.Dialing request dialing) alike sound = (alike ∙ sound.0, sound.1)
 sound_alike old new (side.Forwarding request forwarded) alike sound = (alike ∙ sound.0, sound.1)
+sound_alike old new (side.Streaming request s) alike sound = (alike ∙ sound.0, sound.1)
 
-renewed_is : (b : Bool) (request : Request) (f : Forwarded) (now : ℕ) → IsForwarded request f → IsForwarded request (renew_if b f now)
+pub renewed_is : (b : Bool) (request : Request) (f : Forwarded) (now : ℕ) → IsForwarded request f → IsForwarded request (renew_if b f now)
 renewed_is true request f now is = record { read_is = is.read_is; text_is = is.text_is; idempotent_is = is.idempotent_is }
 renewed_is false request f now is = is
 
@@ -73,7 +74,7 @@ IsOf request (step.GoesOn forwarded) = IsForwarded request forwarded
 IsOf request (step.Again dialing) = IsDialed request dialing
 IsOf request (step.Over outcome) = ⊤
 
-again_is : (request : Request) (f : Forwarded) (now : ℕ) → IsForwarded request f → IsDialed request (again f now)
+pub again_is : (request : Request) (f : Forwarded) (now : ℕ) → IsForwarded request f → IsDialed request (again f now)
 again_is request f now is = record { read_is = is.read_is; text_is = is.text_is; idempotent_is = is.idempotent_is }
 
 pub receives_is : (request : Request) (f : Forwarded) (bytes : List ℕ) (now : ℕ) (next : Step) → IsForwarded request f
@@ -146,6 +147,7 @@ dials_sound (side.Entered request) route now false client new sound is = subst (
 dials_sound (side.Dialing request dialing) route now does client new sound is =
     elsewhere_sound (may_go_elsewhere dialing now) does request dialing route now client new sound is
 dials_sound (side.Forwarding request f) route now does client new sound is = subst (IsSound client) (sym is.1) sound
+dials_sound (side.Streaming request s) route now does client new sound is = subst (IsSound client) (sym is.1) sound
 
 -- a connection begins with the text of its request
 pub begins_sound : (endpoint : EndpointSide) (taken is_kept : Bool) (now : ℕ) (client : Client) → IsSound client endpoint
@@ -155,6 +157,7 @@ begins_sound (side.Entered request) true is_kept now client sound = sound
 begins_sound (side.Dialing request dialing) true is_kept now client sound =
     (sound.0, record { read_is = sound.1.read_is; text_is = sound.1.text_is; idempotent_is = sound.1.idempotent_is })
 begins_sound (side.Forwarding request f) true is_kept now client sound = sound
+begins_sound (side.Streaming request s) true is_kept now client sound = sound
 begins_sound endpoint false is_kept now client sound = sound
 
 -- a request that is forwarded stays the same
@@ -165,6 +168,7 @@ changed_sound change side.NoRequest client stays sound = sound
 changed_sound change (side.Entered request) client stays sound = sound
 changed_sound change (side.Dialing request dialing) client stays sound = sound
 changed_sound change (side.Forwarding request f) client stays sound = (sound.0, stays request f sound.1)
+changed_sound change (side.Streaming request s) client stays sound = (sound.0, stays request s.forwarded sound.1)
 
 pub unread_is : (now : ℕ) (request : Request) (f : Forwarded) → IsForwarded request f → IsForwarded request (unread f now)
 unread_is now request f is = record { read_is = is.read_is; text_is = is.text_is; idempotent_is = is.idempotent_is }
@@ -172,7 +176,7 @@ unread_is now request f is = record { read_is = is.read_is; text_is = is.text_is
 pub ending_is : (request : Request) (f : Forwarded) → IsForwarded request f → IsForwarded request (with_end f)
 ending_is request f is = record { read_is = is.read_is; text_is = is.text_is; idempotent_is = is.idempotent_is }
 
-stays_sound : (client : Client) (endpoint : EndpointSide) (new : Sides) → IsSound client endpoint
+pub stays_sound : (client : Client) (endpoint : EndpointSide) (new : Sides) → IsSound client endpoint
     → new ≡ record { client = client; endpoint = endpoint } → IsSound new.client new.endpoint
 stays_sound client endpoint new sound is = subst (λ (n : Sides). IsSound n.client n.endpoint) (sym is) sound
 
@@ -187,6 +191,8 @@ refuses_sound (side.Dialing request dialing) now client told reply new sound is 
     stays_sound client (side.Dialing request dialing) new sound is.2
 refuses_sound (side.Forwarding request f) now client told reply new sound is =
     stays_sound client (side.Forwarding request f) new sound is.2
+refuses_sound (side.Streaming request s) now client told reply new sound is =
+    stays_sound client (side.Streaming request s) new sound is.2
 
 -- an event on the connection of a request that is forwarded
 pub forwarded_sound : (Steps : Forwarded → Step → Type 0) (endpoint : EndpointSide) (now : ℕ) (client : Client)
@@ -201,6 +207,7 @@ forwarded_sound Steps (side.Dialing request dialing) now client told reply new s
     stays_sound client (side.Dialing request dialing) new sound is.2
 forwarded_sound Steps (side.Forwarding request f) now client told reply new stays sound is =
     follows_sound request is.0 now client told reply new sound.0 (stays request f is.0 sound.1 is.1) is.2
+forwarded_sound Steps (side.Streaming request s) now client told reply new stays sound is = absurd is
 
 -- a dial ends
 pub dialing_sound : (outcome : Dialing → Outcome) (endpoint : EndpointSide) (now : ℕ) (client : Client)
@@ -214,6 +221,8 @@ dialing_sound outcome (side.Dialing request dialing) now client told reply new s
     follows_sound request (step.Over (outcome dialing)) now client told reply new sound.0 tt is
 dialing_sound outcome (side.Forwarding request f) now client told reply new sound is =
     stays_sound client (side.Forwarding request f) new sound is.2
+dialing_sound outcome (side.Streaming request s) now client told reply new sound is =
+    stays_sound client (side.Streaming request s) new sound is.2
 
 -- a moment
 pub looks_sound : (endpoint : EndpointSide) (now : ℕ) (client : Client) (told : EndpointStep) (reply : Option Reply)
@@ -228,6 +237,7 @@ looks_sound (side.Dialing request dialing) now client told reply new sound is =
       go false is = stays_sound client (side.Dialing request dialing) new sound is.2
 looks_sound (side.Forwarding request f) now client told reply new sound is =
     follows_sound request (looked f now) now client told reply new sound.0 (looks_is request f now sound.1) is
+looks_sound (side.Streaming request s) now client told reply new sound is = absurd is
 
 -- the request is given up
 pub gives_up_sound : (why : GivingUp) (endpoint : EndpointSide) (now : ℕ) (client : Client) (told : EndpointStep)
@@ -240,3 +250,4 @@ gives_up_sound why (side.Dialing request dialing) now client told reply new soun
     follows_sound request (step.Over (refused (of_giving_up why) health.Unknown)) now client told reply new sound.0 tt is
 gives_up_sound why (side.Forwarding request f) now client told reply new sound is =
     follows_sound request (step.Over (refused (of_giving_up why) (health_of f.came))) now client told reply new sound.0 tt is
+gives_up_sound why (side.Streaming request s) now client told reply new sound is = absurd is

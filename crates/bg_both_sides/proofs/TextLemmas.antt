@@ -1,5 +1,5 @@
 -- The texts of the answers that calls give, and the requests that they answer.
-use Rattle.std.proofs.Common.{◌≡◌, ◌∙◌, ℕ, Bool, true, false, List, [], ◌∷◌, ◌++◌, refl, sym, ap, append-nil, append_assoc, Option, Some, None}
+use Rattle.std.proofs.Common.{◌≡◌, ◌∙◌, ℕ, Bool, true, false, List, [], ◌∷◌, ◌++◌, if◌then◌else◌, refl, sym, ap, append-nil, append_assoc, Option, Some, None}
 use Rattle.bg_client_side.specs.Clients.{Client}
 use Rattle.bg_client_side.specs.Laws.{IsWrittenInSequence}
 use Rattle.bg_client_side.specs.Runs.{ClientCall, answers, begins_closing, begins_passing_on, continues, cuts, discards, ends_input, fails, feeds, given_by, given_in, looks, passes_on, takes, writes}
@@ -8,8 +8,10 @@ use Rattle.bg_client_side.specs.declared.reading.Fed.{Fed}
 use Rattle.bg_both_sides.proofs.RunLemmas.{StayLaw, runs_its_client}
 use Rattle.bg_both_sides.specs.Answers.{Answer, Reply, lacks, says}
 use Rattle.bg_both_sides.specs.Laws.{WritesItsAnswers}
-use Rattle.bg_both_sides.specs.Runs.{SidesCall, SidesCalls, SidesRun, IsReading, answer_calls, client_calls, client_calls_in, connects, dials, endpoint_gives, endpoint_is_ending, endpoint_reads_no_more, endpoint_writes, enters, fault_calls, fault_text, is_note, notes, reads, refuses, reply_calls, reply_text, text_of, texts_by, texts_in}
+use Rattle.bg_both_sides.specs.Runs.{SidesCall, SidesCalls, SidesRun, IsReading, answer_calls, client_calls, client_calls_in, client_takes, connects, connects_streamed, dials, endpoint_gives, endpoint_is_ending, endpoint_reads_no_more, endpoint_writes, enters, fault_calls, fault_text, is_note, notes, reads, refuses, reply_calls, reply_text, streams, taken_calls, telling_calls, telling_text, text_of, texts_by, texts_in}
 use Rattle.bg_both_sides.specs.Sides.{Sides}
+use Rattle.bg_both_sides.specs.StreamedEvents as streamed
+use Rattle.bg_both_sides.specs.StreamedEvents.{Telling}
 
 given_append : (xs ys : List ClientCall) → given_in (xs ++ ys) ≡ given_in xs ++ given_in ys
 given_append [] ys = refl
@@ -58,6 +60,22 @@ note_gives fails is = refl
 note_gives (discards count) is = refl
 note_gives (looks at) is = refl
 
+telling_given : (telling : Telling) (now : ℕ) → given_in (telling_calls telling now) ≡ telling_text telling
+telling_given streamed.nothing now = refl
+telling_given (streamed.shows None begins waits false) now = refl
+telling_given (streamed.shows None begins waits true) now = refl
+telling_given (streamed.shows (Some persistence) begins waits false) now = refl
+telling_given (streamed.shows (Some persistence) begins waits true) now = refl
+telling_given (streamed.ends text weight persistence) now = append-nil text
+telling_given (streamed.refuses reply) now = answer_given true reply.answer now
+telling_given streamed.cuts now = refl
+
+taken_given : (passed : Bool) (bytes : List ℕ) (telling : Telling) (now : ℕ)
+    → given_in (taken_calls passed bytes now ++ telling_calls telling now)
+    ≡ (if passed then bytes else []) ++ telling_text telling
+taken_given true bytes telling now = ap (λ t. bytes ++ t) (telling_given telling now)
+taken_given false bytes telling now = telling_given telling now
+
 call_given : (old : Sides) (call : SidesCall) (new : Sides) → SidesCalls old call new
     → given_in (client_calls call) ≡ texts_by call
 call_given old (reads call result now answer) new is =
@@ -71,6 +89,9 @@ call_given old (endpoint_writes bytes now) new is = refl
 call_given old (endpoint_reads_no_more now) new is = refl
 call_given old endpoint_is_ending new is = refl
 call_given old (endpoint_gives event now told reply) new is = reply_given reply now
+call_given old (connects_streamed is_kept limits now taken) new is = refl
+call_given old (streams event now told telling) new is = telling_given telling now
+call_given old (client_takes passed bytes now told telling) new is = taken_given passed bytes telling now
 
 texts_given : (calls : List SidesCall) (old new : Sides) → SidesRun old calls new
     → given_in (client_calls_in calls) ≡ texts_in calls

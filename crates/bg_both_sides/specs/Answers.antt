@@ -54,9 +54,11 @@ IsAnswerTo client request (Ok response) (given.Response code) answer =
     (code ≡ response.code) × IsTextOf request response (stays_after client) answer
 IsAnswerTo client request (Ok response) (given.Refusal named) answer =
     (named ≡ fault.Response response_fault.OutOfMemory) × IsRefusal (page_of client (Ok request)) 503 answer
+IsAnswerTo client request (Ok response) (given.Cut named) answer = ⊥
 IsAnswerTo client request (Err why) (given.Response code) answer = ⊥
 IsAnswerTo client request (Err why) (given.Refusal named) answer =
     (named ≡ why) × IsRefusal (page_of client (Ok request)) (fault_status why) answer
+IsAnswerTo client request (Err why) (given.Cut named) answer = ⊥
 
 -- the client is refused with this page and this status
 abbrev pub RefusesWith : Option RefusalPage → ℕ → ℕ → Client → Option Answer → Client → Type 0

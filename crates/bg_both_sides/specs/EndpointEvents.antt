@@ -90,6 +90,8 @@ connected is_kept now sides =
 -- a request that is forwarded is changed so
 abbrev pub on_forwarded : (Forwarded → Forwarded) → EndpointSide → EndpointSide
 on_forwarded change (side.Forwarding request forwarded) = side.Forwarding request (change forwarded)
+on_forwarded change (side.Streaming request streamed) =
+    side.Streaming request (record streamed { forwarded = change streamed.forwarded })
 on_forwarded change other = other
 
 -- WHAT BECOMES OF IT
@@ -113,10 +115,12 @@ Follows request (step.Over outcome) now client told reply new =
     (told ≡ steps.Answered (ending_of outcome (given_in told))) × (new.endpoint ≡ side.NoRequest)
     × Replies request outcome.answer (given_in told) now client reply new.client
 
--- an event on the connection of a request that is forwarded leads to such a step; without one nothing changes
+-- an event on the connection of a request that is forwarded leads to such a step; without one nothing changes. Nothing is said of a
+-- response that is passed on
 abbrev pub AtForwarded : (Forwarded → Step → Type 0) → EndpointSide → ℕ → Client → EndpointStep → Option Reply → Sides → Type 0
 AtForwarded Steps (side.Forwarding request forwarded) now client told reply new =
     (step : Step) × Steps forwarded step × Follows request step now client told reply new
+AtForwarded Steps (side.Streaming request streamed) now client told reply new = ⊥
 AtForwarded Steps other now client told reply new =
     (told ≡ steps.NotThere) × (reply ≡ None) × (new ≡ record { client = client; endpoint = other })
 
@@ -135,7 +139,7 @@ AtDialing outcome other now client told reply new =
 abbrev pub dial_failed : DialFault → Outcome
 dial_failed why = refused (of_dial why) (health_of_dial why)
 
--- a moment: a dial, or a request that is forwarded, is late, or goes on
+-- a moment: a dial, or a request that is forwarded, is late, or goes on. Nothing is said of a response that is passed on
 abbrev pub LooksDialing : Bool → Request → Dialing → ℕ → Client → EndpointStep → Option Reply → Sides → Type 0
 LooksDialing true request dialing now client told reply new =
     Follows request (step.Over (dial_failed dial.TimedOut)) now client told reply new
@@ -147,14 +151,16 @@ Looks (side.Dialing request dialing) now client told reply new =
     LooksDialing (nat_le dialing.deadlines.until now) request dialing now client told reply new
 Looks (side.Forwarding request forwarded) now client told reply new =
     Follows request (looked forwarded now) now client told reply new
+Looks (side.Streaming request streamed) now client told reply new = ⊥
 Looks other now client told reply new = (told ≡ steps.NotThere) × (reply ≡ None) × (new ≡ record { client = client; endpoint = other })
 
--- the request is given up, if it is on its way
+-- the request is given up, if it is on its way. Nothing is said of a response that is passed on
 abbrev pub GivesUp : GivingUp → EndpointSide → ℕ → Client → EndpointStep → Option Reply → Sides → Type 0
 GivesUp why (side.Dialing request dialing) now client told reply new =
     Follows request (step.Over (refused (of_giving_up why) health.Unknown)) now client told reply new
 GivesUp why (side.Forwarding request forwarded) now client told reply new =
     Follows request (step.Over (refused (of_giving_up why) (health_of forwarded.came))) now client told reply new
+GivesUp why (side.Streaming request streamed) now client told reply new = ⊥
 GivesUp why other now client told reply new = (told ≡ steps.NotThere) × (reply ≡ None) × (new ≡ record { client = client; endpoint = other })
 
 -- the request that entered is refused with 503, if there is one

@@ -9,11 +9,18 @@ use Rattle.bg_client_side.specs.Stages.{has_left, is_inside, to_write}
 use Rattle.bg_client_side.specs.declared.facts.ClientSettings.{ClientSettings}
 use Rattle.bg_endpoint_side.specs.Dialing.{Dialing, Forwarded}
 use Rattle.bg_endpoint_side.specs.Forwarding.{IsDecided, again, may_repeat}
+use Rattle.bg_endpoint_side.specs.Streaming.{Streamed}
 use Rattle.bg_endpoint_side.specs.declared.outcome.Outcome.{Outcome}
+use Rattle.bg_streams.specs.ResponseRelays.{is_whole, passing_of, whole_rest}
+use Rattle.bg_streams.specs.ResponseStreams.{StandsFor, relay_of}
+use Rattle.bg_streams.specs.declared.response_stream.ResponseStream.{ResponseStream}
+use Rattle.bg_http.specs.declared.persistence.Persistence.{Persistence}
 use Rattle.bg_both_sides.specs.Answers.{IsAnswerTo, Reply}
 use Rattle.bg_both_sides.specs.EndpointEvents.{given_in}
-use Rattle.bg_both_sides.specs.Runs.{EndpointEvent, SidesCall, SidesCalls, SidesRun, again_in, came_in, client_calls_in, comes, dials, endpoint_gives, enters_none, sent_in, texts_in, written_of}
+use Rattle.bg_both_sides.specs.Runs.{EndpointEvent, SidesCall, SidesCalls, SidesRun, again_in, came_by, came_in, client_calls_in, client_takes, comes, dials, endpoint_gives, enters_none, passed_in, sent_in, streams, texts_in, written_of}
 use Rattle.bg_both_sides.specs.Sides.{IsForwarded, IsSound, Sides}
+use Rattle.bg_both_sides.specs.StreamedEvents as streamed
+use Rattle.bg_both_sides.specs.StreamedEvents.{Telling}
 use Rattle.bg_both_sides.specs.declared.endpoint_step.Ending.{Ending}
 use Rattle.bg_both_sides.specs.declared.endpoint_step.Given.{Given}
 use Rattle.bg_both_sides.specs.declared.endpoint_step.EndpointStep.{EndpointStep}
@@ -67,6 +74,46 @@ SendsItsRequest settings now calls new request forwarded =
     SidesRun (begun settings now) calls new → new.endpoint ≡ side.Forwarding request forwarded
     → IsOfItsRequest (sent_in [] calls) (came_in [] calls) request forwarded
 
+-- the same, if the response of the request is passed on
+abbrev pub StreamsItsRequest : ClientSettings → ℕ → List SidesCall → Sides → Request → Streamed → Type 0
+StreamsItsRequest settings now calls new request s =
+    SidesRun (begun settings now) calls new → new.endpoint ≡ side.Streaming request s
+    → IsOfItsRequest (sent_in [] calls) (came_in [] calls) request s.forwarded
+
+-- a response that is passed on is that of its request: it stands for the bytes that came on the connection since that became the
+-- request's, and for those that the client took since then
+abbrev pub PassesOnItsResponse : ClientSettings → ℕ → List SidesCall → Sides → Request → Streamed → Type 0
+PassesOnItsResponse settings now calls new request s =
+    SidesRun (begun settings now) calls new → new.endpoint ≡ side.Streaming request s
+    → StandsFor s.stream request (came_in [] calls) (passed_in [] calls)
+
+-- a response that stands for all bytes that came, and for those that the client took, is whole, and the text is what is left of it
+pub record IsRestOf (request : Request) (came passed text : List ℕ) : Type 0 where
+  pub stream : ResponseStream
+  pub stands : StandsFor stream request came passed
+  pub whole : is_whole (passing_of (relay_of stream)) ≡ true
+  pub text_is : text ≡ whole_rest (passing_of (relay_of stream))
+
+-- the request whose response is passed on, and the text that is given as what is left of its response
+abbrev pub EndsItsResponse : Sides → List ℕ → List ℕ → List ℕ → Type 0
+EndsItsResponse old came passed text =
+    (request : Request) × (s : Streamed) × (old.endpoint ≡ side.Streaming request s) × IsRestOf request came passed text
+
+-- so it is if bytes of the endpoint, or its end, make the response whole, and if the client makes room for the last of it
+abbrev pub EndsByItsEndpoint : ClientSettings → ℕ → List SidesCall → Sides → EndpointEvent → ℕ → EndpointStep → List ℕ → ℕ
+    → Persistence → Sides → Type 0
+EndsByItsEndpoint settings now calls old event at told text weight persistence new =
+    SidesRun (begun settings now) calls old → SidesCalls old (streams event at told (streamed.ends text weight persistence)) new
+    → EndsItsResponse old (came_by (came_in [] calls) (streams event at told (streamed.ends text weight persistence)))
+    (passed_in [] calls) text
+
+abbrev pub EndsByItsClient : ClientSettings → ℕ → List SidesCall → Sides → List ℕ → ℕ → EndpointStep → List ℕ → ℕ
+    → Persistence → Sides → Type 0
+EndsByItsClient settings now calls old bytes at told text weight persistence new =
+    SidesRun (begun settings now) calls old
+    → SidesCalls old (client_takes true bytes at told (streamed.ends text weight persistence)) new
+    → EndsItsResponse old (came_in [] calls) (passed_in [] calls ++ bytes) text
+
 -- a connection goes back only after the whole text of its request was written to it
 pub record WasWhole (old : Sides) : Type 0 where
   pub request : Request
@@ -80,6 +127,24 @@ GoesBackWhole old event now ending reply new =
     IsSound old.client old.endpoint → SidesCalls old (endpoint_gives event now (steps.Answered ending) reply) new
     → ending.goes_back ≡ true → WasWhole old
 
+-- the same, if the response of the request is passed on
+pub record WasStreamedWhole (old : Sides) : Type 0 where
+  pub request : Request
+  pub s : Streamed
+  pub is_there : old.endpoint ≡ side.Streaming request s
+  pub text_is : s.forwarded.text.sent
+      ≡ request_text (keeps s.forwarded.state.terms.persistence) request s.forwarded.state.terms.port
+
+abbrev pub StreamGoesBackWhole : Sides → EndpointEvent → ℕ → Ending → Telling → Sides → Type 0
+StreamGoesBackWhole old event now ending telling new =
+    IsSound old.client old.endpoint → SidesCalls old (streams event now (steps.Answered ending) telling) new
+    → ending.goes_back ≡ true → WasStreamedWhole old
+
+abbrev pub TakenGoesBackWhole : Sides → List ℕ → ℕ → Ending → Telling → Sides → Type 0
+TakenGoesBackWhole old bytes now ending telling new =
+    IsSound old.client old.endpoint → SidesCalls old (client_takes true bytes now (steps.Answered ending) telling) new
+    → ending.goes_back ≡ true → WasStreamedWhole old
+
 -- no connection to an endpoint is there unless the client has a request inside: not if the client's connection is idle, and
 -- not if it has left
 abbrev pub HasNoneWithoutRequest : ClientSettings → ℕ → List SidesCall → Sides → Type 0
@@ -90,6 +155,15 @@ HasNoneWithoutRequest settings now calls new =
 abbrev pub LosesItsConnection : Sides → EndpointEvent → ℕ → Ending → Option Reply → Sides → Type 0
 LosesItsConnection old event now ending reply new =
     SidesCalls old (endpoint_gives event now (steps.Answered ending) reply) new → new.endpoint ≡ side.NoRequest
+
+-- the same of a request whose response is passed on, by what happens at its endpoint and by what its client takes
+abbrev pub StreamLosesItsConnection : Sides → EndpointEvent → ℕ → Ending → Telling → Sides → Type 0
+StreamLosesItsConnection old event now ending telling new =
+    SidesCalls old (streams event now (steps.Answered ending) telling) new → new.endpoint ≡ side.NoRequest
+
+abbrev pub TakenLosesItsConnection : Sides → Bool → List ℕ → ℕ → Ending → Telling → Sides → Type 0
+TakenLosesItsConnection old passed bytes now ending telling new =
+    SidesCalls old (client_takes passed bytes now (steps.Answered ending) telling) new → new.endpoint ≡ side.NoRequest
 
 -- none of these calls has a request enter
 abbrev pub none_enters : List SidesCall → Bool
@@ -107,6 +181,18 @@ pub record RepeatsByRule (old : Sides) (now : ℕ) (new : Sides) : Type 0 where
   pub is_there : old.endpoint ≡ side.Forwarding request forwarded
   pub rule : may_repeat forwarded ≡ true
   pub dials : new.endpoint ≡ side.Dialing request (again forwarded now)
+
+-- the same of a request whose response is passed on
+pub record StreamRepeatsByRule (old : Sides) (now : ℕ) (new : Sides) : Type 0 where
+  pub request : Request
+  pub s : Streamed
+  pub is_there : old.endpoint ≡ side.Streaming request s
+  pub rule : may_repeat s.forwarded ≡ true
+  pub dials : new.endpoint ≡ side.Dialing request (again s.forwarded now)
+
+abbrev pub StreamRepeatsOnlyByRule : Sides → EndpointEvent → ℕ → Telling → Sides → Type 0
+StreamRepeatsOnlyByRule old event now telling new =
+    SidesCalls old (streams event now steps.DialsAgain telling) new → StreamRepeatsByRule old now new
 
 abbrev pub RepeatsOnlyByRule : Sides → EndpointEvent → ℕ → Option Reply → Sides → Type 0
 RepeatsOnlyByRule old event now reply new =

@@ -4,3 +4,4 @@ pub mod EndpointEvents
 pub mod Laws
 pub mod Runs
 pub mod Sides
+pub mod StreamedEvents

@@ -1,17 +1,24 @@
 -- The calls on both sides of a client's connection, one after the other.
-use Rattle.std.specs.Prelude.{◌≡◌, ℕ, ◌+◌, Bool, true, false, List, [], ◌∷◌, ◌++◌, length, Option, Some, None}
+use Rattle.std.specs.Prelude.{◌≡◌, ℕ, ◌+◌, Bool, true, false, if◌then◌else◌, List, [], ◌∷◌, ◌++◌, length, Option, Some, None}
 use Rattle.bg_http.specs.declared.persistence.Persistence.TheVariants.{Close}
 use Rattle.bg_http.specs.declared.request.Request.{Request}
-use Rattle.bg_client_side.specs.Runs.{Calls, ClientCall, answers, begins_closing, continues, discards, ends_input, fails, feeds, looks, takes, writes}
+use Rattle.bg_client_side.specs.Runs.{Calls, ClientCall, answers, begins_closing, begins_passing_on, continues, cuts as client_cuts, discards, ends_input, fails, feeds, looks, passes_on, takes, writes}
+use Rattle.bg_client_side.specs.Clients.{stays_after}
 use Rattle.bg_client_side.specs.Stages.{waiting_request}
 use Rattle.bg_client_side.specs.declared.reading.Fed.{Fed}
 use Rattle.bg_endpoint_side.specs.Forwarding.{Ends, Receives, failed, unread, with_end, wrote}
+use Rattle.bg_endpoint_side.specs.StreamedSteps.{EndsStreamed, ReceivesStreamed, failed_streamed, given_up_streamed, looked_streamed}
+use Rattle.bg_endpoint_side.specs.Streaming.{Streamed}
 use Rattle.bg_endpoint_side.specs.declared.outcome.DialFault.{DialFault}
 use Rattle.bg_endpoint_side.specs.declared.outcome.GivingUp.{GivingUp}
+use Rattle.bg_endpoint_side.specs.declared.streamed_step.StreamedStep.{StreamedStep}
 use Rattle.bg_both_sides.specs.Answers.{Answer, Reply, lacks, says}
 use Rattle.bg_both_sides.specs.ClientEvents.{ReadsSide, entered}
 use Rattle.bg_both_sides.specs.EndpointEvents.{AtDialing, AtForwarded, Dials, GivesUp, IsOnce, Looks, RefusesEntered, connected, dial_failed, on_forwarded, takes_connection}
-use Rattle.bg_both_sides.specs.Sides.{Sides, to_endpoint}
+use Rattle.bg_both_sides.specs.Sides.{Sides, to_client, to_endpoint}
+use Rattle.bg_both_sides.specs.StreamedEvents.{AtStreamed, ClientTakes, ConnectsStreamed, IsOnceStreamed, Telling, passes_here}
+use Rattle.bg_both_sides.specs.StreamedEvents as streamed
+use Rattle.bg_both_sides.specs.declared.stream_limits.StreamLimits.{StreamLimits}
 use Rattle.bg_both_sides.specs.declared.endpoint_step.EndpointStep.{EndpointStep}
 use Rattle.bg_both_sides.specs.declared.endpoint_step.EndpointStep.TheVariants as steps
 use Rattle.bg_both_sides.specs.declared.route.Route.{Route}
@@ -45,6 +52,12 @@ pub data SidesCall : Type 0 where
   endpoint_is_ending : SidesCall
   -- what happened to the request at a moment, what this made of it, and the answer to it, if it got one
   endpoint_gives : EndpointEvent → ℕ → EndpointStep → Option Reply → SidesCall
+  -- whether a connection, which was kept or is new, became that of a request whose response is passed on
+  connects_streamed : Bool → StreamLimits → ℕ → Bool → SidesCall
+  -- what happened to such a request, what this made of it, and what the client's connection was told
+  streams : EndpointEvent → ℕ → EndpointStep → Telling → SidesCall
+  -- whether a response is passed on, and the client took these bytes of it; what this made of it, and what its connection was told
+  client_takes : Bool → List ℕ → ℕ → EndpointStep → Telling → SidesCall
 
 -- a call of the client's connection that reads, with this result and at this moment
 abbrev pub IsReading : ClientCall → Fed → ℕ → Type 0
@@ -75,6 +88,15 @@ Happens (dial_fails why) old now told reply new =
 Happens passes old now told reply new = Looks old.endpoint now old.client told reply new
 Happens (given_up why) old now told reply new = GivesUp why old.endpoint now old.client told reply new
 
+-- the steps of a request whose response is passed on, by the contract of the call for it
+abbrev pub StepsBy : EndpointEvent → ℕ → Streamed → StreamedStep → Type 0
+StepsBy (comes bytes) now s next = ReceivesStreamed s bytes now next
+StepsBy ends now s next = EndsStreamed s now next × IsOnceStreamed s next
+StepsBy breaks now s next = (next ≡ failed_streamed s now) × IsOnceStreamed s next
+StepsBy (dial_fails why) now s next = ⊥
+StepsBy passes now s next = next ≡ looked_streamed s now
+StepsBy (given_up why) now s next = next ≡ given_up_streamed s why
+
 -- what the call says of the two sides before and after it, by its contract. The bytes that were written to an endpoint are the
 -- first ones of what is to be written
 abbrev pub SidesCalls : Sides → SidesCall → Sides → Type 0
@@ -97,6 +119,14 @@ SidesCalls old (endpoint_reads_no_more now) new =
 SidesCalls old endpoint_is_ending new =
     (new.client ≡ old.client) × (new.endpoint ≡ on_forwarded with_end old.endpoint)
 SidesCalls old (endpoint_gives event now told reply) new = Happens event old now told reply new
+SidesCalls old (connects_streamed is_kept limits now taken) new =
+    (new.client ≡ old.client)
+    × ConnectsStreamed is_kept limits now (stays_after old.client) taken old.endpoint new.endpoint
+SidesCalls old (streams event now told telling) new =
+    AtStreamed (StepsBy event now) old.endpoint now old.client told telling new
+SidesCalls old (client_takes passed bytes now told telling) new =
+    (passed ≡ passes_here old) × ((rest : List ℕ) × (to_client old.endpoint ≡ bytes ++ rest))
+    × ClientTakes old.endpoint (length bytes) now old.client told telling new
 
 -- these calls, one after the other
 abbrev pub SidesRun : Sides → List SidesCall → Sides → Type 0
@@ -118,6 +148,20 @@ abbrev pub reply_calls : Option Reply → ℕ → List ClientCall
 reply_calls None now = []
 reply_calls (Some reply) now = answer_calls true reply.answer now
 
+-- what its connection is told by a step of a response that is passed on
+abbrev pub telling_calls : Telling → ℕ → List ClientCall
+telling_calls streamed.nothing now = []
+telling_calls (streamed.shows None begins waits passed) now = passes_on [] waits now passed ∷ []
+telling_calls (streamed.shows (Some persistence) begins waits passed) now =
+    begins_passing_on persistence now begins ∷ passes_on [] waits now passed ∷ []
+telling_calls (streamed.ends text weight persistence) now = answers text weight persistence now true ∷ []
+telling_calls (streamed.refuses reply) now = answer_calls true reply.answer now
+telling_calls streamed.cuts now = client_cuts true ∷ []
+
+abbrev pub taken_calls : Bool → List ℕ → ℕ → List ClientCall
+taken_calls true bytes now = passes_on bytes true now true ∷ []
+taken_calls false bytes now = []
+
 -- the calls of the client's connection that a call makes, and that calls make in their sequence
 abbrev pub client_calls : SidesCall → List ClientCall
 client_calls (reads call result now answer) = call ∷ fault_calls answer now
@@ -125,13 +169,15 @@ client_calls (notes call) = call ∷ []
 client_calls (enters request) = takes request ∷ []
 client_calls (refuses now told reply) = reply_calls reply now
 client_calls (endpoint_gives event now told reply) = reply_calls reply now
+client_calls (streams event now told telling) = telling_calls telling now
+client_calls (client_takes passed bytes now told telling) = taken_calls passed bytes now ++ telling_calls telling now
 client_calls other = []
 
 abbrev pub client_calls_in : List SidesCall → List ClientCall
 client_calls_in [] = []
 client_calls_in (call ∷ more) = client_calls call ++ client_calls_in more
 
--- the texts of the answers that were given
+-- the texts of the answers that were given; what the client took of a response that is passed on is of its text
 abbrev pub text_of : Answer → List ℕ
 text_of (says text weight persistence) = text
 text_of (lacks weight) = []
@@ -144,10 +190,17 @@ abbrev pub reply_text : Option Reply → List ℕ
 reply_text None = []
 reply_text (Some reply) = text_of reply.answer
 
+abbrev pub telling_text : Telling → List ℕ
+telling_text (streamed.ends text weight persistence) = text
+telling_text (streamed.refuses reply) = text_of reply.answer
+telling_text other = []
+
 abbrev pub texts_by : SidesCall → List ℕ
 texts_by (reads call result now answer) = fault_text answer
 texts_by (refuses now told reply) = reply_text reply
 texts_by (endpoint_gives event now told reply) = reply_text reply
+texts_by (streams event now told telling) = telling_text telling
+texts_by (client_takes passed bytes now told telling) = (if passed then bytes else []) ++ telling_text telling
 texts_by other = []
 
 abbrev pub texts_in : List SidesCall → List ℕ
@@ -159,6 +212,7 @@ texts_in (call ∷ more) = texts_by call ++ texts_in more
 -- what was written to the connection of the request since the connection became its own
 abbrev pub sent_by : List ℕ → SidesCall → List ℕ
 sent_by before (connects is_kept now true) = []
+sent_by before (connects_streamed is_kept limits now true) = []
 sent_by before (endpoint_writes bytes now) = before ++ bytes
 sent_by before other = before
 
@@ -179,12 +233,24 @@ written_of before (call ∷ more) = written_of (written_by before call) more
 -- the bytes that came on it
 abbrev pub came_by : List ℕ → SidesCall → List ℕ
 came_by before (connects is_kept now true) = []
+came_by before (connects_streamed is_kept limits now true) = []
 came_by before (endpoint_gives (comes bytes) now told reply) = before ++ bytes
+came_by before (streams (comes bytes) now told telling) = before ++ bytes
 came_by before other = before
 
 abbrev pub came_in : List ℕ → List SidesCall → List ℕ
 came_in before [] = before
 came_in before (call ∷ more) = came_in (came_by before call) more
+
+-- what the client took of the response that is passed on since the connection became that of its request
+abbrev pub passed_by : List ℕ → SidesCall → List ℕ
+passed_by before (connects_streamed is_kept limits now true) = []
+passed_by before (client_takes true bytes now told telling) = before ++ bytes
+passed_by before other = before
+
+abbrev pub passed_in : List ℕ → List SidesCall → List ℕ
+passed_in before [] = before
+passed_in before (call ∷ more) = passed_in (passed_by before call) more
 
 abbrev pub one_if : Bool → ℕ
 one_if true = 1
@@ -197,6 +263,8 @@ dials_again other = false
 
 abbrev pub again_by : SidesCall → ℕ
 again_by (endpoint_gives event now told reply) = one_if (dials_again told)
+again_by (streams event now told telling) = one_if (dials_again told)
+again_by (client_takes passed bytes now told telling) = one_if (dials_again told)
 again_by other = 0
 
 abbrev pub again_in : List SidesCall → ℕ

@@ -10,6 +10,8 @@ use Rattle.bg_endpoint_side.specs.Forwarding.{to_write}
 use Rattle.bg_endpoint_side.specs.Methods.{is_idempotent}
 use Rattle.bg_endpoint_side.specs.OutgoingTexts.{whole}
 use Rattle.bg_endpoint_side.specs.declared.terms.Terms.{Terms}
+use Rattle.bg_streams.specs.ResponseRelays.{passing_of, rest_of}
+use Rattle.bg_streams.specs.ResponseStreams.{relay_of, wants_input}
 use Rattle.bg_both_sides.specs.declared.endpoint_side.EndpointSide.{EndpointSide}
 use Rattle.bg_both_sides.specs.declared.endpoint_side.EndpointSide.TheVariants as side
 
@@ -24,6 +26,7 @@ request_of side.NoRequest = None
 request_of (side.Entered request) = Some request
 request_of (side.Dialing request dialing) = Some request
 request_of (side.Forwarding request forwarded) = Some request
+request_of (side.Streaming request streamed) = Some request
 
 -- the request that entered and is not on its way to an endpoint
 abbrev pub as_entered : EndpointSide → Option Request
@@ -38,7 +41,13 @@ as_dialing other = None
 -- a connection to an endpoint belongs to the request
 abbrev pub has_connection : EndpointSide → Bool
 has_connection (side.Forwarding request forwarded) = true
+has_connection (side.Streaming request streamed) = true
 has_connection other = false
+
+-- the response of the request is passed on as it comes
+abbrev pub is_streaming : EndpointSide → Bool
+is_streaming (side.Streaming request streamed) = true
+is_streaming other = false
 
 -- another endpoint may be dialled for the request
 abbrev pub goes_elsewhere : EndpointSide → ℕ → Bool
@@ -53,7 +62,19 @@ is_dial_late other now = false
 -- what is to be written to the endpoint now
 abbrev pub to_endpoint : EndpointSide → List ℕ
 to_endpoint (side.Forwarding request forwarded) = to_write forwarded
+to_endpoint (side.Streaming request streamed) = to_write streamed.forwarded
 to_endpoint other = []
+
+-- what is to be written to the client now of a response that is passed on
+abbrev pub to_client : EndpointSide → List ℕ
+to_client (side.Streaming request streamed) = rest_of (passing_of (relay_of streamed.stream))
+to_client other = []
+
+-- bytes of the endpoint are to be read now
+abbrev pub reads_endpoint : EndpointSide → Bool
+reads_endpoint (side.Forwarding request forwarded) = true
+reads_endpoint (side.Streaming request streamed) = wants_input streamed.stream
+reads_endpoint other = false
 
 -- the text is that of the request as it is forwarded under these terms, and its response is read as the one to it
 pub record IsSentAs (request read : Request) (terms : Terms) (text : List ℕ) : Type 0 where
@@ -73,6 +94,7 @@ IsForwarded request forwarded =
 abbrev pub IsReadAsItself : EndpointSide → Type 0
 IsReadAsItself (side.Dialing request dialing) = request ≡ dialing.request
 IsReadAsItself (side.Forwarding request forwarded) = request ≡ forwarded.request
+IsReadAsItself (side.Streaming request streamed) = request ≡ streamed.forwarded.request
 IsReadAsItself other = ⊤
 
 -- exactly if the client's connection has a request inside, it is there; and it is sent as it is
@@ -81,3 +103,5 @@ IsSound client side.NoRequest = is_inside client.stage ≡ false
 IsSound client (side.Entered request) = is_inside client.stage ≡ true
 IsSound client (side.Dialing request dialing) = (is_inside client.stage ≡ true) × IsDialed request dialing
 IsSound client (side.Forwarding request forwarded) = (is_inside client.stage ≡ true) × IsForwarded request forwarded
+IsSound client (side.Streaming request streamed) =
+    (is_inside client.stage ≡ true) × IsForwarded request streamed.forwarded

@@ -6,10 +6,12 @@ mod endpoints;
 mod kept;
 mod large_bodies;
 mod pages;
+mod streaming;
 
 use crate::both_sides::BothSides;
-use crate::endpoint_step::EndpointStep;
+use crate::endpoint_step::{EndpointStep, Given};
 use crate::route::Route;
+use crate::stream_limits::StreamLimits;
 use bg_client_side::ClientSettings;
 use bg_endpoint_side::{DialFault, GivingUp, Timeouts};
 use bg_http::{Persistence, RefusalBody};
@@ -33,6 +35,12 @@ const ROUTE: Route = Route {
     },
 };
 
+/// Few bytes of a body are held at a time.
+const LIMITS: StreamLimits = StreamLimits {
+    window: 4,
+    most_body: usize::MAX,
+};
+
 /// What happens on the two connections, at a moment in milliseconds.
 enum Event {
     /// Bytes came from the client.
@@ -49,6 +57,8 @@ enum Event {
     DialElsewhere(u16, u64),
     OnNew(u64),
     OnKept(u64),
+    /// A connection, which was kept or is new, takes the request, and its response is passed on.
+    Streamed(bool, u64),
     DialFailed(DialFault, u64),
     /// The endpoint took so many bytes of the request.
     EndpointTook(usize, u64),
@@ -142,6 +152,7 @@ impl World {
         let step = match event {
             Event::OnNew(now) => return self.connect(false, *now, b"[new]"),
             Event::OnKept(now) => return self.connect(true, *now, b"[kept]"),
+            Event::Streamed(is_kept, now) => return self.connect_streamed(*is_kept, *now),
             Event::EndpointTook(count, now) => return self.endpoint_took(*count, *now),
             Event::ReadsNoMore(now) => {
                 self.sides.endpoint_reads_no_more(*now);
@@ -170,13 +181,11 @@ impl World {
         let mark: &[u8] = match step {
             EndpointStep::NotThere | EndpointStep::GoesOn => b"",
             EndpointStep::DialsAgain => b"[again]",
-            EndpointStep::Answered(ending) => {
-                if ending.goes_back {
-                    b"[back]"
-                } else {
-                    b"[closed]"
-                }
-            }
+            EndpointStep::Answered(ending) => match ending.given {
+                Given::Cut(_) => b"[cut]",
+                _ if ending.goes_back => b"[back]",
+                _ => b"[closed]",
+            },
         };
         self.to_endpoint.extend_from_slice(mark)
     }
@@ -188,7 +197,26 @@ impl World {
         Ok(())
     }
 
+    fn connect_streamed(&mut self, is_kept: bool, now: u64) -> Result<(), AllocError> {
+        if self.sides.connect_streamed(is_kept, LIMITS, now) {
+            return self.to_endpoint.extend_from_slice(b"[streamed]");
+        }
+        Ok(())
+    }
+
+    /// The client took so many bytes of a response that is passed on.
+    fn client_took_part(&mut self, count: usize, now: u64) -> Result<(), AllocError> {
+        let rest = self.sides.rest_to_client();
+        let count = count.min(rest.len());
+        self.to_client.extend_from_slice(&rest[..count])?;
+        let step = self.sides.client_took(count, now);
+        self.note(step)
+    }
+
     fn client_took(&mut self, count: usize, now: u64) -> Result<(), AllocError> {
+        if self.sides.client().is_passing_on() {
+            return self.client_took_part(count, now);
+        }
         let rest = self.sides.client().rest();
         let count = count.min(rest.len());
         self.to_client.extend_from_slice(&rest[..count])?;

@@ -1,7 +1,10 @@
 //! What happens to the request at its endpoint.
-ghost use Rattle.std.specs.Prelude.{◌≡◌, Option};
+ghost use Rattle.std.specs.Prelude.{◌≡◌, Option, false, true};
 ghost use Rattle.bg_endpoint_side.specs.Forwarding.{Ends, Receives, failed, unread, with_end, wrote};
+ghost use Rattle.bg_endpoint_side.specs.StreamedSteps.{EndsStreamed, ReceivesStreamed, failed_streamed, given_up_streamed, looked_streamed};
 ghost use Rattle.bg_both_sides.specs.Answers.{Reply};
+ghost use Rattle.bg_both_sides.specs.Sides.{is_streaming};
+ghost use Rattle.bg_both_sides.specs.StreamedEvents.{AtStreamed, IsOnceStreamed, Telling};
 ghost use Rattle.bg_both_sides.specs.EndpointEvents.{AtDialing, AtForwarded, GivesUp, IsOnce, Looks, dial_failed, on_forwarded};
 
 use crate::both_sides::BothSides;
@@ -25,9 +28,7 @@ impl BothSides {
         ensures client { self.new.client ≡ self.old.client }
         ensures endpoint { self.new.endpoint ≡ on_forwarded (λ f. unread f now) self.old.endpoint }
     {
-        if let EndpointSide::Forwarding(_, forwarded) = &mut self.endpoint {
-            forwarded.note_unread(now);
-        }
+        self.endpoint.note_unread(now);
     }
 
     /// Notes that the endpoint has announced the end of its connection: no byte comes behind those that wait.
@@ -35,15 +36,15 @@ impl BothSides {
         ensures client { self.new.client ≡ self.old.client }
         ensures endpoint { self.new.endpoint ≡ on_forwarded with_end self.old.endpoint }
     {
-        if let EndpointSide::Forwarding(_, forwarded) = &mut self.endpoint {
-            forwarded.note_ending();
-        }
+        self.endpoint.note_ending();
     }
 
     /// Adds bytes that came from the endpoint.
     pub fn receive(&mut self, bytes: &[u8], now: u64) -> EndpointStep
-        ensures { (reply : Option Reply) × AtForwarded (λ f step. Receives f bytes.now now step)
-            self.old.endpoint now self.old.client result reply self.new }
+        ensures plain { is_streaming self.old.endpoint ≡ false → (reply : Option Reply)
+            × AtForwarded (λ f step. Receives f bytes.now now step) self.old.endpoint now self.old.client result reply self.new }
+        ensures streamed { is_streaming self.old.endpoint ≡ true → (telling : Telling)
+            × AtStreamed (λ s step. ReceivesStreamed s bytes.now now step) self.old.endpoint now self.old.client result telling self.new }
     {
         let (endpoint, told) = mem::replace(&mut self.endpoint, EndpointSide::NoRequest).receive(
             &mut self.client,
@@ -57,8 +58,11 @@ impl BothSides {
 
     /// Notes that the endpoint ended its connection.
     pub fn endpoint_ended(&mut self, now: u64) -> EndpointStep
-        ensures { (reply : Option Reply) × AtForwarded (λ f step. Ends f now step × IsOnce f step)
-            self.old.endpoint now self.old.client result reply self.new }
+        ensures plain { is_streaming self.old.endpoint ≡ false → (reply : Option Reply)
+            × AtForwarded (λ f step. Ends f now step × IsOnce f step) self.old.endpoint now self.old.client result reply self.new }
+        ensures streamed { is_streaming self.old.endpoint ≡ true → (telling : Telling)
+            × AtStreamed (λ s step. EndsStreamed s now step × IsOnceStreamed s step) self.old.endpoint now self.old.client result
+            telling self.new }
     {
         let (endpoint, told) = mem::replace(&mut self.endpoint, EndpointSide::NoRequest).end(
             &mut self.client,
@@ -71,9 +75,12 @@ impl BothSides {
 
     /// Notes that the connection to the endpoint failed: it was reset, or a read or a write failed.
     pub fn endpoint_failed(&mut self, now: u64) -> EndpointStep
-        ensures { (reply : Option Reply)
+        ensures plain { is_streaming self.old.endpoint ≡ false → (reply : Option Reply)
             × AtForwarded (λ f step. (step ≡ failed f now) × IsOnce f step) self.old.endpoint now
             self.old.client result reply self.new }
+        ensures streamed { is_streaming self.old.endpoint ≡ true → (telling : Telling)
+            × AtStreamed (λ s step. (step ≡ failed_streamed s now) × IsOnceStreamed s step) self.old.endpoint now self.old.client
+            result telling self.new }
     {
         let (endpoint, told) = mem::replace(&mut self.endpoint, EndpointSide::NoRequest).fail(
             &mut self.client,
@@ -100,7 +107,10 @@ impl BothSides {
 
     /// Ends the request if its dial or one of its timeouts at the endpoint has passed.
     pub fn look_at_endpoint(&mut self, now: u64) -> EndpointStep
-        ensures { (reply : Option Reply) × Looks self.old.endpoint now self.old.client result reply self.new }
+        ensures plain { is_streaming self.old.endpoint ≡ false → (reply : Option Reply)
+            × Looks self.old.endpoint now self.old.client result reply self.new }
+        ensures streamed { is_streaming self.old.endpoint ≡ true → (telling : Telling)
+            × AtStreamed (λ s step. step ≡ looked_streamed s now) self.old.endpoint now self.old.client result telling self.new }
     {
         let (endpoint, told) = mem::replace(&mut self.endpoint, EndpointSide::NoRequest).look(
             &mut self.client,
@@ -113,7 +123,10 @@ impl BothSides {
 
     /// Gives the request up, which is dialled for or forwarded.
     pub fn give_up(&mut self, why: GivingUp, now: u64) -> EndpointStep
-        ensures { (reply : Option Reply) × GivesUp why self.old.endpoint now self.old.client result reply self.new }
+        ensures plain { is_streaming self.old.endpoint ≡ false → (reply : Option Reply)
+            × GivesUp why self.old.endpoint now self.old.client result reply self.new }
+        ensures streamed { is_streaming self.old.endpoint ≡ true → (telling : Telling)
+            × AtStreamed (λ s step. step ≡ given_up_streamed s why) self.old.endpoint now self.old.client result telling self.new }
     {
         let (endpoint, told) = mem::replace(&mut self.endpoint, EndpointSide::NoRequest).give_up(
             &mut self.client,

@@ -1,19 +1,25 @@
 //! The request of a client's connection at its endpoint.
-ghost use Rattle.std.specs.Prelude.{◌≡◌, IfErr, IfOk, None, OnErr, Option};
-ghost use Rattle.bg_endpoint_side.specs.Forwarding.{Ends, Receives, failed, wrote};
+ghost use Rattle.std.specs.Prelude.{◌≡◌, IfErr, IfOk, None, OnErr, Option, false, true};
+ghost use Rattle.bg_endpoint_side.specs.Forwarding.{Ends, Receives, failed, unread, with_end, wrote};
+ghost use Rattle.bg_endpoint_side.specs.StreamedSteps.{EndsStreamed, ReceivesStreamed, failed_streamed, given_up_streamed, looked_streamed};
+ghost use Rattle.bg_both_sides.specs.StreamedEvents.{AtStreamed, ClientTakes, ConnectsStreamed, IsOnceStreamed, Telling};
+ghost use Rattle.bg_http.specs.Persistences.{keeps};
 ghost use Rattle.bg_both_sides.specs.Answers.{Reply};
 ghost use Rattle.bg_both_sides.specs.EndpointEvents.{AtDialing, AtForwarded, Dials, GivesUp, IsOnce, Looks, dial_failed, on_forwarded};
 ghost use Rattle.bg_endpoint_side.specs.OutgoingTexts.{IsFirstPiece};
-ghost use Rattle.bg_both_sides.specs.Sides.{IsReadAsItself, as_dialing, as_entered, has_connection, request_of, to_endpoint};
+ghost use Rattle.bg_both_sides.specs.Sides.{IsReadAsItself, as_dialing, as_entered, has_connection, is_streaming};
+ghost use Rattle.bg_both_sides.specs.Sides.{reads_endpoint, request_of, to_client, to_endpoint};
 ghost use Rattle.bg_both_sides.specs.declared.endpoint_side.EndpointSide.TheVariants as side;
 ghost use Rattle.std.specs.Option.{option_copied};
 
 use crate::endpoint_step::{EndpointStep, finish, follow};
 use crate::entering::{dial_elsewhere, dial_for};
 use crate::route::Route;
+use crate::stream_limits::{StreamLimits, terms_for};
+use crate::streamed_step::follow_streamed;
 use bg_client_side::ClientConnection;
-use bg_endpoint_side::{DialFault, DialingRequest, ForwardedRequest, GivingUp};
-use bg_http::Request;
+use bg_endpoint_side::{DialFault, DialingRequest, ForwardedRequest, GivingUp, StreamedRequest};
+use bg_http::{Persistence, Request};
 use std::alloc::Global;
 
 /// The request of a client's connection at its endpoint. A connection to an endpoint belongs to a request that is forwarded,
@@ -27,6 +33,8 @@ pub enum EndpointSide {
     Dialing(Request, DialingRequest),
     /// It is forwarded on a connection.
     Forwarding(Request, ForwardedRequest),
+    /// It is forwarded on a connection, and its response is passed on as it comes.
+    Streaming(Request, StreamedRequest),
 }
 
 impl Drop for EndpointSide {
@@ -36,6 +44,7 @@ impl Drop for EndpointSide {
             EndpointSide::Entered(_)
             | EndpointSide::Dialing(_, _)
             | EndpointSide::Forwarding(_, _)
+            | EndpointSide::Streaming(_, _)
             | EndpointSide::NoRequest => {}
         }
     }
@@ -74,7 +83,8 @@ impl EndpointSide {
             EndpointSide::NoRequest => None,
             EndpointSide::Entered(request)
             | EndpointSide::Dialing(request, _)
-            | EndpointSide::Forwarding(request, _) => Some(request),
+            | EndpointSide::Forwarding(request, _)
+            | EndpointSide::Streaming(request, _) => Some(request),
         }
     }
 
@@ -85,6 +95,7 @@ impl EndpointSide {
     {
         match self {
             EndpointSide::Forwarding(request, forwarded) => forwarded.piece(request),
+            EndpointSide::Streaming(request, streamed) => streamed.piece(request),
             _ => &[],
         }
     }
@@ -93,7 +104,31 @@ impl EndpointSide {
     pub(crate) fn has_connection(&self) -> bool
         ensures { result ≡ has_connection self.now }
     {
-        matches!(self, EndpointSide::Forwarding(_, _))
+        matches!(
+            self,
+            EndpointSide::Forwarding(_, _) | EndpointSide::Streaming(_, _)
+        )
+    }
+
+    /// What is to be written to the client now of a response that is passed on.
+    pub(crate) fn rest_to_client(&self) -> &[u8]
+        ensures { result.now ≡ to_client self.now }
+    {
+        match self {
+            EndpointSide::Streaming(_, streamed) => streamed.rest(),
+            _ => &[],
+        }
+    }
+
+    /// Whether bytes of the endpoint are to be read now.
+    pub(crate) fn reads_endpoint(&self) -> bool
+        ensures { result ≡ reads_endpoint self.now }
+    {
+        match self {
+            EndpointSide::Forwarding(_, _) => true,
+            EndpointSide::Streaming(_, streamed) => streamed.wants_input(),
+            _ => false,
+        }
     }
 
     /// The same after the request is dialled for, and whether it is.
@@ -110,7 +145,34 @@ impl EndpointSide {
                 EndpointSide::Forwarding(request, forwarded),
                 false,
             ),
+            EndpointSide::Streaming(request, streamed) => (
+                EndpointSide::Streaming(request, streamed),
+                false,
+            ),
             EndpointSide::NoRequest => (EndpointSide::NoRequest, false),
+        }
+    }
+
+    /// The same on a connection, with its response passed on to a client of this persistence, within these limits, and whether it is.
+    pub(crate) fn stream(
+        self,
+        alloc: Global,
+        is_kept: bool,
+        client: (Persistence, StreamLimits),
+        now: u64,
+    ) -> (EndpointSide, bool)
+        requires { IsReadAsItself self }
+        ensures { ConnectsStreamed is_kept client.1 now (keeps client.0) result.1 self result.0 }
+    {
+        match self {
+            EndpointSide::Dialing(request, dialing) => {
+                let terms = terms_for(client, &request);
+                match dialing.streamed_on(alloc, is_kept, (&request, terms), now) {
+                    Ok(streamed) => (EndpointSide::Streaming(request, streamed), true),
+                    Err(dialing) => (EndpointSide::Dialing(request, dialing), false),
+                }
+            }
+            other => (other, false),
         }
     }
 
@@ -118,8 +180,32 @@ impl EndpointSide {
     pub(crate) fn wrote(&mut self, count: usize, now: u64)
         ensures { self.new ≡ on_forwarded (λ f. wrote f count now) self.old }
     {
-        if let EndpointSide::Forwarding(_, forwarded) = self {
-            forwarded.wrote(count, now);
+        match self {
+            EndpointSide::Forwarding(_, forwarded) => forwarded.wrote(count, now),
+            EndpointSide::Streaming(_, streamed) => streamed.wrote(count, now),
+            _ => {}
+        }
+    }
+
+    /// The endpoint reads no more of the request.
+    pub(crate) fn note_unread(&mut self, now: u64)
+        ensures { self.new ≡ on_forwarded (λ f. unread f now) self.old }
+    {
+        match self {
+            EndpointSide::Forwarding(_, forwarded) => forwarded.note_unread(now),
+            EndpointSide::Streaming(_, streamed) => streamed.note_unread(now),
+            _ => {}
+        }
+    }
+
+    /// The endpoint has announced the end of its connection.
+    pub(crate) fn note_ending(&mut self)
+        ensures { self.new ≡ on_forwarded with_end self.old }
+    {
+        match self {
+            EndpointSide::Forwarding(_, forwarded) => forwarded.note_ending(),
+            EndpointSide::Streaming(_, streamed) => streamed.note_ending(),
+            _ => {}
         }
     }
 
@@ -131,8 +217,10 @@ impl EndpointSide {
         bytes: &[u8],
         now: u64,
     ) -> (EndpointSide, EndpointStep)
-        ensures { (reply : Option Reply) × AtForwarded (λ f step. Receives f bytes.now now step) self now
+        ensures plain { is_streaming self ≡ false → (reply : Option Reply) × AtForwarded (λ f step. Receives f bytes.now now step) self now
             client.old result.1 reply (record { client = client.new; endpoint = result.0 }) }
+        ensures streamed { is_streaming self ≡ true → (telling : Telling) × AtStreamed (λ s step. ReceivesStreamed s bytes.now now step) self now
+            client.old result.1 telling (record { client = client.new; endpoint = result.0 }) }
     {
         match self {
             EndpointSide::Forwarding(request, forwarded) => {
@@ -143,6 +231,10 @@ impl EndpointSide {
                 EndpointSide::Dialing(request, dialing),
                 EndpointStep::NotThere,
             ),
+            EndpointSide::Streaming(request, streamed) => {
+                let step = streamed.receive(bytes, now);
+                follow_streamed(client, alloc, request, step, now)
+            }
             EndpointSide::Entered(request) => (
                 EndpointSide::Entered(request),
                 EndpointStep::NotThere,
@@ -158,8 +250,10 @@ impl EndpointSide {
         alloc: Global,
         now: u64,
     ) -> (EndpointSide, EndpointStep)
-        ensures { (reply : Option Reply) × AtForwarded (λ f step. Ends f now step × IsOnce f step) self now
+        ensures plain { is_streaming self ≡ false → (reply : Option Reply) × AtForwarded (λ f step. Ends f now step × IsOnce f step) self now
             client.old result.1 reply (record { client = client.new; endpoint = result.0 }) }
+        ensures streamed { is_streaming self ≡ true → (telling : Telling) × AtStreamed (λ s step. EndsStreamed s now step × IsOnceStreamed s step) self now
+            client.old result.1 telling (record { client = client.new; endpoint = result.0 }) }
     {
         match self {
             EndpointSide::Forwarding(request, forwarded) => {
@@ -170,6 +264,10 @@ impl EndpointSide {
                 EndpointSide::Dialing(request, dialing),
                 EndpointStep::NotThere,
             ),
+            EndpointSide::Streaming(request, streamed) => {
+                let step = streamed.end(now);
+                follow_streamed(client, alloc, request, step, now)
+            }
             EndpointSide::Entered(request) => (
                 EndpointSide::Entered(request),
                 EndpointStep::NotThere,
@@ -185,8 +283,10 @@ impl EndpointSide {
         alloc: Global,
         now: u64,
     ) -> (EndpointSide, EndpointStep)
-        ensures { (reply : Option Reply) × AtForwarded (λ f step. (step ≡ failed f now) × IsOnce f step) self now
+        ensures plain { is_streaming self ≡ false → (reply : Option Reply) × AtForwarded (λ f step. (step ≡ failed f now) × IsOnce f step) self now
             client.old result.1 reply (record { client = client.new; endpoint = result.0 }) }
+        ensures streamed { is_streaming self ≡ true → (telling : Telling) × AtStreamed (λ s step. (step ≡ failed_streamed s now) × IsOnceStreamed s step) self now
+            client.old result.1 telling (record { client = client.new; endpoint = result.0 }) }
     {
         match self {
             EndpointSide::Forwarding(request, forwarded) => {
@@ -197,6 +297,10 @@ impl EndpointSide {
                 EndpointSide::Dialing(request, dialing),
                 EndpointStep::NotThere,
             ),
+            EndpointSide::Streaming(request, streamed) => {
+                let step = streamed.fail(now);
+                follow_streamed(client, alloc, request, step, now)
+            }
             EndpointSide::Entered(request) => (
                 EndpointSide::Entered(request),
                 EndpointStep::NotThere,
@@ -225,6 +329,10 @@ impl EndpointSide {
                 EndpointSide::Forwarding(request, forwarded),
                 EndpointStep::NotThere,
             ),
+            EndpointSide::Streaming(request, streamed) => (
+                EndpointSide::Streaming(request, streamed),
+                EndpointStep::NotThere,
+            ),
             EndpointSide::Entered(request) => (
                 EndpointSide::Entered(request),
                 EndpointStep::NotThere,
@@ -240,8 +348,10 @@ impl EndpointSide {
         alloc: Global,
         now: u64,
     ) -> (EndpointSide, EndpointStep)
-        ensures { (reply : Option Reply) × Looks self now client.old result.1 reply
+        ensures plain { is_streaming self ≡ false → (reply : Option Reply) × Looks self now client.old result.1 reply
             (record { client = client.new; endpoint = result.0 }) }
+        ensures streamed { is_streaming self ≡ true → (telling : Telling) × AtStreamed (λ s step. step ≡ looked_streamed s now) self now
+            client.old result.1 telling (record { client = client.new; endpoint = result.0 }) }
     {
         match self {
             EndpointSide::Forwarding(request, forwarded) => {
@@ -259,6 +369,10 @@ impl EndpointSide {
                     )
                 }
             }
+            EndpointSide::Streaming(request, streamed) => {
+                let step = streamed.look(now);
+                follow_streamed(client, alloc, request, step, now)
+            }
             EndpointSide::Entered(request) => (
                 EndpointSide::Entered(request),
                 EndpointStep::NotThere,
@@ -275,8 +389,10 @@ impl EndpointSide {
         why: GivingUp,
         now: u64,
     ) -> (EndpointSide, EndpointStep)
-        ensures { (reply : Option Reply) × GivesUp why self now client.old result.1 reply
+        ensures plain { is_streaming self ≡ false → (reply : Option Reply) × GivesUp why self now client.old result.1 reply
             (record { client = client.new; endpoint = result.0 }) }
+        ensures streamed { is_streaming self ≡ true → (telling : Telling) × AtStreamed (λ s step. step ≡ given_up_streamed s why) self now
+            client.old result.1 telling (record { client = client.new; endpoint = result.0 }) }
     {
         match self {
             EndpointSide::Forwarding(request, forwarded) => {
@@ -287,11 +403,36 @@ impl EndpointSide {
                 let outcome = dialing.give_up(why);
                 finish(client, alloc, &request, outcome, now)
             }
+            EndpointSide::Streaming(request, streamed) => {
+                let step = streamed.give_up(why);
+                follow_streamed(client, alloc, request, step, now)
+            }
             EndpointSide::Entered(request) => (
                 EndpointSide::Entered(request),
                 EndpointStep::NotThere,
             ),
             EndpointSide::NoRequest => (EndpointSide::NoRequest, EndpointStep::NotThere),
+        }
+    }
+
+    /// The same after the client took so many bytes of a response that is passed on, at most all that is to be written.
+    pub(crate) fn take_by_client(
+        self,
+        client: &mut ClientConnection,
+        alloc: Global,
+        count: usize,
+        now: u64,
+    ) -> (EndpointSide, EndpointStep)
+        ensures { (telling : Telling) × ClientTakes self count now client.old
+            result.1 telling (record { client = client.new; endpoint = result.0 }) }
+    {
+        match self {
+            EndpointSide::Streaming(request, streamed) if client.is_passing_on() => {
+                client.passed_on(count, true, now);
+                let step = streamed.took(count, now);
+                follow_streamed(client, alloc, request, step, now)
+            }
+            other => (other, EndpointStep::NotThere),
         }
     }
 }

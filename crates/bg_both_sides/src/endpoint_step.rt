@@ -18,6 +18,9 @@ pub enum Given {
     Response(u16),
     /// A refusal for this fault, or nothing, if there was no memory for a refusal.
     Refusal(ForwardFault),
+    /// A part of the response of its endpoint, which is cut off by this fault. The client's connection has left, and its caller resets
+    /// it, so that the client sees that the response is not whole.
+    Cut(ForwardFault),
 }
 
 /// What the client was given, what becomes of the connection to an endpoint after the answer, and what is told of the

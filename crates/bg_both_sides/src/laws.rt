@@ -1,13 +1,18 @@
 //! The laws of both sides of a client's connection, over all calls.
-ghost use Rattle.std.specs.Prelude.{List, Option, ℕ};
+ghost use Rattle.std.specs.Prelude.{Bool, List, Option, ℕ};
+ghost use Rattle.bg_http.specs.declared.persistence.Persistence.{Persistence};
 ghost use Rattle.bg_http.specs.declared.request.Request.{Request};
 ghost use Rattle.bg_client_side.specs.declared.facts.ClientSettings.{ClientSettings};
 ghost use Rattle.bg_endpoint_side.specs.Dialing.{Dialing, Forwarded};
 ghost use Rattle.bg_both_sides.specs.Answers.{Reply};
+ghost use Rattle.bg_endpoint_side.specs.Streaming.{Streamed};
 ghost use Rattle.bg_both_sides.specs.Laws.{AnswersByItsResponse, GoesBackWhole, GoesElsewhereUnsent, HasNoneWithoutRequest, LosesItsConnection};
+ghost use Rattle.bg_both_sides.specs.Laws.{EndsByItsClient, EndsByItsEndpoint, PassesOnItsResponse, StreamGoesBackWhole};
+ghost use Rattle.bg_both_sides.specs.Laws.{StreamLosesItsConnection, StreamRepeatsOnlyByRule, StreamsItsRequest, TakenGoesBackWhole, TakenLosesItsConnection};
 ghost use Rattle.bg_both_sides.specs.Laws.{RepeatsOnce, RepeatsOnlyByRule, RunsItsClient, SendsItsRequest, WritesItsAnswers};
 ghost use Rattle.bg_both_sides.specs.Runs.{EndpointEvent, SidesCall};
 ghost use Rattle.bg_both_sides.specs.Sides.{Sides};
+ghost use Rattle.bg_both_sides.specs.StreamedEvents.{Telling};
 ghost use Rattle.bg_both_sides.specs.declared.endpoint_step.Ending.{Ending};
 ghost use Rattle.bg_both_sides.specs.declared.endpoint_step.EndpointStep.{EndpointStep};
 ghost use Rattle.bg_both_sides.specs.declared.route.Route.{Route};
@@ -48,6 +53,32 @@ pub fn an_endpoint_gets_its_request()
     bg_endpoint_side::laws::a_connection_goes_back_drained();
 }
 
+/// A response that is passed on is that of its own request: it stands for all bytes that came on the connection since that became the
+/// request's, and for all bytes that the client took of it. So the laws of bg_streams hold of it. The connection got the beginning of
+/// the text of that request. What is given as the rest of a response is what is left of a whole one, behind what the client took.
+pub fn a_response_is_passed_on_to_its_request()
+    ensures text { (settings : ClientSettings) (now : ℕ) (calls : List SidesCall) (new : Sides) (request : Request)
+        (streamed : Streamed) → StreamsItsRequest settings now calls new request streamed }
+    ensures response { (settings : ClientSettings) (now : ℕ) (calls : List SidesCall) (new : Sides) (request : Request)
+        (streamed : Streamed) → PassesOnItsResponse settings now calls new request streamed }
+    ensures endpoint { (settings : ClientSettings) (now : ℕ) (calls : List SidesCall) (old : Sides) (event : EndpointEvent) (at : ℕ)
+        (told : EndpointStep) (text : List ℕ) (weight : ℕ) (persistence : Persistence) (new : Sides)
+        → EndsByItsEndpoint settings now calls old event at told text weight persistence new }
+    ensures client { (settings : ClientSettings) (now : ℕ) (calls : List SidesCall) (old : Sides) (bytes : List ℕ) (at : ℕ)
+        (told : EndpointStep) (text : List ℕ) (weight : ℕ) (persistence : Persistence) (new : Sides)
+        → EndsByItsClient settings now calls old bytes at told text weight persistence new }
+{
+    bg_endpoint_side::laws::a_text_is_written_in_its_order();
+}
+
+/// The connection of a request whose response is passed on goes back only after the whole text of that request was written to it.
+pub fn a_streamed_connection_goes_back_whole()
+    ensures endpoint { (old new : Sides) (event : EndpointEvent) (now : ℕ) (ending : Ending) (telling : Telling)
+        → StreamGoesBackWhole old event now ending telling new }
+    ensures client { (old new : Sides) (bytes : List ℕ) (now : ℕ) (ending : Ending) (telling : Telling)
+        → TakenGoesBackWhole old bytes now ending telling new }
+{}
+
 /// A connection to an endpoint belongs to a request that is inside. A request that is answered has none, and so has a
 /// client's connection that is idle or has left.
 pub fn a_connection_belongs_to_a_request()
@@ -55,6 +86,10 @@ pub fn a_connection_belongs_to_a_request()
         → HasNoneWithoutRequest settings now calls new }
     ensures answered { (old new : Sides) (event : EndpointEvent) (now : ℕ) (ending : Ending) (reply : Option Reply)
         → LosesItsConnection old event now ending reply new }
+    ensures streamed { (old new : Sides) (event : EndpointEvent) (now : ℕ) (ending : Ending) (telling : Telling)
+        → StreamLosesItsConnection old event now ending telling new }
+    ensures taken { (old new : Sides) (passed : Bool) (bytes : List ℕ) (now : ℕ) (ending : Ending) (telling : Telling)
+        → TakenLosesItsConnection old passed bytes now ending telling new }
 {
     bg_endpoint_side::laws::a_text_is_written_in_its_order();
 }
@@ -64,6 +99,8 @@ pub fn a_request_is_sent_again_at_most_once()
     ensures once { (calls : List SidesCall) (old new : Sides) → RepeatsOnce old calls new }
     ensures rule { (old new : Sides) (event : EndpointEvent) (now : ℕ) (reply : Option Reply)
         → RepeatsOnlyByRule old event now reply new }
+    ensures streamed_rule { (old new : Sides) (event : EndpointEvent) (now : ℕ) (telling : Telling)
+        → StreamRepeatsOnlyByRule old event now telling new }
 {}
 
 /// A request is dialled for at another endpoint only if no byte of it was written to any.

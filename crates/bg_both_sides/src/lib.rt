@@ -15,8 +15,12 @@ mod endpoint_step;
 mod entering;
 pub mod laws;
 mod route;
+mod stream_limits;
+mod streamed_events;
+mod streamed_step;
 mod texts;
 
 pub use both_sides::BothSides;
 pub use endpoint_step::{Ending, EndpointStep, Given};
 pub use route::Route;
+pub use stream_limits::StreamLimits;

@@ -5,7 +5,7 @@ ghost use Rattle.bg_http.specs.Persistences.{keeps};
 ghost use Rattle.bg_http_read.specs.ArrivingHeads.{BeginsWith};
 ghost use Rattle.bg_http_read.specs.RefusedHeads.{is_sound_head};
 ghost use Rattle.bg_client_side.specs.Clients.{accepted, stays_after};
-ghost use Rattle.bg_client_side.specs.Stages.{has_left, is_idle, is_inside, owes_continue, reads, takes_bytes, to_write, waiting_request, was_whole};
+ghost use Rattle.bg_client_side.specs.Stages.{has_left, is_idle, is_inside, is_passing_on, owes_continue, reads, takes_bytes, to_write, waiting_request, was_whole};
 
 use crate::facts::{ClientFacts, ClientSettings, later};
 use crate::stage::Stage;
@@ -112,6 +112,13 @@ impl ClientConnection {
         ensures { result ≡ is_inside self.now.stage }
     {
         self.stage.is_inside()
+    }
+
+    /// Whether a response is passed on as it comes.
+    pub fn is_passing_on(&self) -> bool
+        ensures { result ≡ is_passing_on self.now.stage }
+    {
+        self.stage.is_passing_on()
     }
 
     /// The request that waits for a seat, if one does.

@@ -20,7 +20,7 @@ use Rattle.bg_endpoint_side.specs.Laws.{GoesBackDrained, ReadsAlike, RepeatsOnly
 use Rattle.bg_endpoint_side.specs.OutgoingTexts.{Outgoing, whole, with_written}
 use Rattle.bg_endpoint_side.specs.Versions.{begins_with_version}
 
-both : (a b : Bool) → (a && b) ≡ true → (a ≡ true) × (b ≡ true)
+pub both : (a b : Bool) → (a && b) ≡ true → (a ≡ true) × (b ≡ true)
 both true b is = (refl, is)
 both false b is = absurd (cc)
 

@@ -2,5 +2,6 @@ pub mod KeptLemmas
 pub mod KeptRunLemmas
 pub mod LawLemmas
 pub mod ReceivingLemmas
+pub mod StreamingLemmas
 pub mod TextLemmas
 pub mod VersionLemmas

@@ -5,8 +5,8 @@ use Rattle.bg_http.specs.declared.request.Request.{Request}
 use Rattle.bg_http_read.specs.ResponseStates.{IsReceived}
 use Rattle.bg_http_read.specs.declared.received_response.ReceivedResponse.{ReceivedResponse}
 use Rattle.bg_endpoint_side.specs.Dialing.{Forwarded}
-use Rattle.bg_endpoint_side.specs.EndpointRequests.{IsForwardedSoundly, forwarded_of}
-use Rattle.bg_endpoint_side.specs.Forwarding.{IsDecided, may_stay, renew_if}
+use Rattle.bg_endpoint_side.specs.EndpointRequests.{IsForwardedSoundly, IsSoundWith, forwarded_of, forwarded_with}
+use Rattle.bg_endpoint_side.specs.Forwarding.{IsDecided, may_stay, renew_if, with_bytes}
 use Rattle.bg_endpoint_side.specs.Outcomes.{health_of}
 use Rattle.bg_endpoint_side.specs.OutgoingTexts.{Outgoing}
 use Rattle.bg_endpoint_side.specs.declared.connection_state.ConnectionState.{ConnectionState}
@@ -23,15 +23,35 @@ abbrev pub forwarded_as : Request → Outgoing → List ℕ → ConnectionState 
 forwarded_as request text seen state = record { request = request; text = text; came = seen; state = state }
 
 -- something happened, if it did: that renews timeouts alone
-pub still_sound : (before after : EndpointRequest) (happened : Bool) (now : ℕ)
+pub still_sound_with : (before after : EndpointRequest) (came : List ℕ) (happened : Bool) (now : ℕ)
     → after ≡ record before { state = (renew_if happened (forwarded_of before) now).state }
-    → IsForwardedSoundly before → IsForwardedSoundly after
-still_sound before after happened now renewed sound =
-    subst IsForwardedSoundly (sym renewed) (sound.0, sound.1, sound.2, sound.3, once happened ∙ sound.4) where
+    → IsSoundWith before came → IsSoundWith after came
+still_sound_with before after came happened now renewed sound =
+    subst (λ x. IsSoundWith x came) (sym renewed) (sound.0, sound.1, sound.2, sound.3, once happened ∙ sound.4) where
       once : (happened : Bool) → ((renew_if happened (forwarded_of before) now).state.is_kept
           && (renew_if happened (forwarded_of before) now).state.is_again) ≡ (before.state.is_kept && before.state.is_again)
       once true = refl
       once false = refl
+
+pub still_sound : (before after : EndpointRequest) (happened : Bool) (now : ℕ)
+    → after ≡ record before { state = (renew_if happened (forwarded_of before) now).state }
+    → IsForwardedSoundly before → IsForwardedSoundly after
+still_sound before after happened now renewed sound =
+    subst (IsSoundWith after) (ap (λ x. x.parser.seen) (sym renewed))
+    (still_sound_with before after before.parser.seen happened now renewed sound)
+
+-- the same, of the request as definitions see it
+pub bytes_value : (before after : EndpointRequest) (came bytes : List ℕ) (happened : Bool) (now : ℕ)
+    → happened ≡ not (is_empty bytes)
+    → after ≡ record before { state = (renew_if happened (forwarded_of before) now).state }
+    → forwarded_with after (came ++ bytes) ≡ with_bytes (forwarded_with before came) bytes now
+bytes_value before after came bytes happened now is renewed =
+    ap (λ x. forwarded_with x (came ++ bytes)) renewed ∙ by_test happened
+    ∙ ap (λ t. renew_if t (record (forwarded_with before came) { came = came ++ bytes }) now) is where
+      by_test : (t : Bool) → forwarded_with (record before { state = (renew_if t (forwarded_of before) now).state }) (came ++ bytes)
+          ≡ renew_if t (record (forwarded_with before came) { came = came ++ bytes }) now
+      by_test true = refl
+      by_test false = refl
 
 pub answered_now : (request : Request) (text : Outgoing) (seen : List ℕ) (state : ConnectionState) (self : Forwarded)
     (bytes : List ℕ) (received : ReceivedResponse) (stays : Bool) (health : Health) (outcome : Outcome)

@@ -1,5 +1,5 @@
 -- The laws of the endpoints' side.
-use Rattle.std.specs.Prelude.{◌≡◌, ◌⊎◌, ℕ, Bool, true, false, List, [], ◌∷◌, ◌++◌, Ok}
+use Rattle.std.specs.Prelude.{◌≡◌, ◌⊎◌, ℕ, Bool, true, false, List, [], ◌∷◌, ◌++◌, Ok, Some}
 use Rattle.bg_http.specs.Persistences.{keeps}
 use Rattle.bg_http.specs.Removed.{says_close}
 use Rattle.bg_http.specs.ResponseRules.{asks_for_head}
@@ -8,9 +8,14 @@ use Rattle.bg_http.specs.declared.response.Response.{Response}
 use Rattle.bg_http_read.specs.ResponseStates.{IsReadThen}
 use Rattle.bg_http_read.specs.Responses.{ReadsResponseThen}
 use Rattle.bg_http_read.specs.Sequences.{AreResponsesOf}
+use Rattle.bg_streams.specs.Laws.{IsDrainedAnswer}
+use Rattle.bg_streams.specs.ResponseRelays.{is_drained as response_is_drained, passing_of, terms_of}
+use Rattle.bg_streams.specs.ResponseStreams.{StandsFor, relay_of, waiting_of}
+use Rattle.bg_streams.specs.declared.passing.Passing.{Passing}
 use Rattle.bg_endpoint_side.specs.Dialing.{Dialing, Forwarded, begins_on}
 use Rattle.bg_endpoint_side.specs.Forwarding.{again, goes_back, may_repeat, unread, with_bytes, with_end, wrote}
 use Rattle.bg_endpoint_side.specs.OutgoingTexts.{whole}
+use Rattle.bg_endpoint_side.specs.Streaming.{Streamed, goes_back as streamed_goes_back}
 use Rattle.bg_endpoint_side.specs.Versions.{begins_with_version}
 
 -- what was written of the text and what is left of it are the text, whatever happens on the connection
@@ -48,6 +53,20 @@ Continues requests responses before f came left response =
     AreResponsesOf requests responses before [] → IsReadThen f.request response came left
     → goes_back f came left (Ok response) ≡ true
     → AreResponsesOf (requests ++ f.request ∷ []) (responses ++ response ∷ []) (before ++ came) []
+
+-- the connection of a response that is passed on carried that response and nothing behind it, the whole text was written, and
+-- neither side ends the connection
+pub record CarriedOneResponse (s : Streamed) (passed : List ℕ) : Type 0 where
+  pub passing : Passing
+  pub passing_is : passing_of (relay_of s.stream) ≡ Some passing
+  pub drained : IsDrained s.forwarded s.forwarded.came (waiting_of s.stream) passing.response
+  pub whole : response_is_drained (Some passing) [] ≡ true
+  pub answer : IsDrainedAnswer (terms_of (relay_of s.stream)) passing s.forwarded.request s.forwarded.came passed
+
+abbrev pub StreamGoesBackDrained : Streamed → List ℕ → Type 0
+StreamGoesBackDrained s passed =
+    StandsFor s.stream s.forwarded.request s.forwarded.came passed → streamed_goes_back s ≡ true
+    → CarriedOneResponse s passed
 
 -- a request is sent again only after a connection that was kept, on which no byte came, and only if it is idempotent or
 -- nothing of it was written; the request that is sent again is marked

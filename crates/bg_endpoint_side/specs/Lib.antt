@@ -8,4 +8,6 @@ pub mod Laws
 pub mod Methods
 pub mod Outcomes
 pub mod OutgoingTexts
+pub mod StreamedSteps
+pub mod Streaming
 pub mod Versions

@@ -1,21 +1,26 @@
 //! A request that is dialled for.
-ghost use Rattle.std.specs.Prelude.{◌≡◌, ◌&&◌, ◌++◌, IfOk, IsTrue, false, nat_le, not, true};
+ghost use Rattle.std.specs.Prelude.{◌≡◌, ◌&&◌, ◌++◌, [], IfErr, IfOk, IsTrue, false, nat_le, not, true};
 ghost use Rattle.bg_endpoint_side.specs.Deadlines.{deadlines_from};
 ghost use Rattle.bg_endpoint_side.specs.Dialing.{begins_on, elsewhere, may_go_elsewhere};
+ghost use Rattle.bg_endpoint_side.specs.EndpointRequests.{IsForwardedSoundly, forwarded_of};
+ghost use Rattle.bg_endpoint_side.specs.Forwarding.{again};
 ghost use Rattle.bg_endpoint_side.specs.OutgoingTexts.{uncopied_body as uncopied_of};
 ghost use Rattle.bg_endpoint_side.specs.Outcomes.{health_of_dial, of_dial, of_giving_up, refused};
+ghost use Rattle.bg_endpoint_side.specs.Streaming.{IsStreamedOn};
 ghost use Rattle.bg_endpoint_side.specs.declared.outcome.Health.TheVariants as health;
 
 use crate::connection_state::ConnectionState;
-use crate::deadlines::{DIAL_MILLIS, Deadlines, Timeouts, WRITE_MILLIS};
+use crate::deadlines::{DIAL_MILLIS, Deadlines, Timeouts};
 use crate::endpoint_request::EndpointRequest;
 use crate::forwarded_request::ForwardedRequest;
 use crate::outcome::{DialFault, ForwardFault, GivingUp, Health, Outcome};
 use crate::outgoing_text::OutgoingText;
+use crate::streamed_request::{StreamedRequest, Streaming};
 use crate::terms::Terms;
 use crate::version::VersionMatch;
 use bg_http::Request;
 use bg_http_read::ResponseParser;
+use bg_streams::StreamTerms;
 use std::alloc::{AllocError, Global};
 use std::marker::Model;
 
@@ -33,23 +38,14 @@ impl Drop for DialingRequest {
 }
 
 impl Model for DialingRequest {
-    ghost use Rattle.std.specs.Prelude.{◌≡◌, [], IsTrue};
     ghost use Rattle.bg_endpoint_side.specs.Dialing.{Dialing};
-    ghost use Rattle.bg_endpoint_side.specs.OutgoingTexts.{uncopied_body};
+    ghost use Rattle.bg_endpoint_side.specs.EndpointRequests.{IsDialedSoundly, dialing_of};
 
     ghost Value = { Dialing };
 
-    ghost view = { λ r. record {
-      request = r.boxed.value.parser.request;
-      text = r.boxed.value.text.rest;
-      terms = r.boxed.value.state.terms;
-      deadlines = r.boxed.value.state.deadlines;
-      is_again = r.boxed.value.state.is_again;
-    } };
+    ghost view = { λ r. dialing_of r.boxed.value };
 
-    ghost invariant = { λ r. IsTrue r.boxed.value.parser.is_open × (r.boxed.value.parser.seen ≡ [])
-        × (r.boxed.value.text.sent ≡ [])
-        × (r.boxed.value.text.uncopied ≡ uncopied_body r.boxed.value.parser.request) };
+    ghost invariant = { λ r. IsDialedSoundly r.boxed.value };
 }
 
 impl DialingRequest {
@@ -128,22 +124,63 @@ impl DialingRequest {
         self.on(true, now)
     }
 
+    /// A connection was made for it, or one that was kept was taken for it, and its response is passed on as it comes: the response to
+    /// this request, which is the one that is forwarded, for a client under these terms. It comes back as it is if the connection was
+    /// kept and the request is sent again, or if there is no memory.
+    pub fn streamed_on(
+        self,
+        alloc: Global,
+        is_kept: bool,
+        response: (&Request, StreamTerms),
+        now: u64,
+    ) -> Result<StreamedRequest, DialingRequest>
+        requires { response.0.now ≡ self.request }
+        ensures streams { IfOk result (IsStreamedOn is_kept self response.entry.1 now) }
+        ensures same { IfErr result (λ same. same ≡ self) }
+    {
+        if is_kept && self.boxed.state.is_again {
+            return Err(self);
+        }
+        let (request, terms) = response;
+        let DialingRequest { boxed } = self;
+        match Streaming::new(alloc, boxed, request, terms) {
+            Ok(streaming) => Ok(StreamedRequest::begin(streaming, is_kept, now)),
+            Err(boxed) => Err(DialingRequest { boxed }),
+        }
+    }
+
     /// It is sent on a connection from now on.
     fn on(self, is_kept: bool, now: u64) -> ForwardedRequest
         requires { (is_kept && self.is_again) ≡ false }
         ensures { result ≡ begins_on is_kept self now }
     {
+        ForwardedRequest {
+            boxed: self.begin(is_kept, now),
+        }
+    }
+
+    /// What it has at its endpoint once it is sent on a connection from now on.
+    fn begin(self, is_kept: bool, now: u64) -> Box<EndpointRequest>
+        requires { (is_kept && self.is_again) ≡ false }
+        ensures sound { IsForwardedSoundly result.value }
+        ensures value { forwarded_of result.value ≡ begins_on is_kept self now }
+    {
         let DialingRequest { mut boxed } = self;
-        boxed.version = VersionMatch::new();
-        boxed.has_come = false;
-        boxed.state = ConnectionState {
-            deadlines: boxed.state.deadlines.renewed(WRITE_MILLIS, now),
-            is_kept,
-            is_unread: false,
-            is_ending: false,
-            ..boxed.state
-        };
-        ForwardedRequest { boxed }
+        boxed.begin(is_kept, now);
+        boxed
+    }
+
+    /// A request that is sent again on a new connection. No byte of its response came, and its parser was fed nothing.
+    pub(crate) fn again(boxed: Box<EndpointRequest>, now: u64) -> DialingRequest
+        requires sound { IsTrue boxed.value.parser.is_open × (boxed.value.text.uncopied ≡ uncopied_of boxed.value.parser.request) }
+        requires none { boxed.value.parser.seen ≡ [] }
+        ensures { result ≡ again (forwarded_of boxed.value) now }
+    {
+        let mut boxed = boxed;
+        boxed.text.restart();
+        boxed.state.deadlines = boxed.state.deadlines.renewed(DIAL_MILLIS, now);
+        boxed.state.is_again = true;
+        DialingRequest { boxed }
     }
 
     /// Whether another endpoint may be dialled for it: it was sent on no connection before, and the timeout of its response

@@ -1,16 +1,20 @@
 //! What a request has at its endpoint.
-ghost use Rattle.std.specs.Prelude.{◌≡◌, ◌++◌, IfNone, IfSome, not};
+ghost use Rattle.std.specs.Prelude.{◌≡◌, ◌&&◌, ◌++◌, IfNone, IfSome, List, ℕ, false, not};
 ghost use Rattle.bg_http.specs.Codings.{is_empty};
 ghost use Rattle.bg_http_read.specs.ResponseStates.{NeedsMore};
-ghost use Rattle.bg_endpoint_side.specs.EndpointRequests.{IsForwardedSoundly, forwarded_of};
-ghost use Rattle.bg_endpoint_side.specs.Forwarding.{IsDecided, patience, renew_if, to_write, with_bytes};
+ghost use Rattle.bg_endpoint_side.specs.Dialing.{begins_on};
+ghost use Rattle.bg_endpoint_side.specs.EndpointRequests.{IsDialedSoundly, IsForwardedSoundly, IsSoundWith, dialing_of, forwarded_of, forwarded_with};
+ghost use Rattle.bg_endpoint_side.specs.Forwarding.{IsDecided, late_health, may_repeat, patience, renew_if, to_write, with_bytes};
+ghost use Rattle.bg_endpoint_side.specs.OutgoingTexts.{IsFirstPiece, uncopied_body as uncopied_of};
 
 use crate::answering::{answered, has_bytes, has_come_with, health_of, may_stay};
 use crate::connection_state::ConnectionState;
 use crate::deadlines::WRITE_MILLIS;
-use crate::outcome::{ForwardFault, Outcome};
+use crate::outcome::{ForwardFault, Health, Outcome};
 use crate::outgoing_text::OutgoingText;
+use crate::uncopied::uncopied_body;
 use crate::version::VersionMatch;
+use bg_http::Request;
 use bg_http_read::ResponseParser;
 
 /// What a request has at its endpoint. It is large, and each event moves a request from one value into the next one. So both kinds of
@@ -53,6 +57,25 @@ impl EndpointRequest {
         parser
     }
 
+    /// A request that was dialled for is sent on a connection from now on.
+    pub(crate) fn begin(&mut self, is_kept: bool, now: u64)
+        requires dialed { IsDialedSoundly self.old }
+        requires once { (is_kept && self.old.state.is_again) ≡ false }
+        ensures sound { IsForwardedSoundly self.new }
+        ensures value { forwarded_of self.new ≡ begins_on is_kept (dialing_of self.old) now }
+        ensures parser { self.new.parser ≡ self.old.parser }
+    {
+        self.version = VersionMatch::new();
+        self.has_come = false;
+        self.state = ConnectionState {
+            deadlines: self.state.deadlines.renewed(WRITE_MILLIS, now),
+            is_kept,
+            is_unread: false,
+            is_ending: false,
+            ..self.state
+        };
+    }
+
     /// Bytes came of the response. Gives what the request comes to, if it is over.
     pub(crate) fn receive(&mut self, bytes: &[u8], now: u64) -> Option<Outcome>
         requires { IsForwardedSoundly self.old }
@@ -77,6 +100,53 @@ impl EndpointRequest {
                 ForwardFault::Response(fault),
                 health_of(self.has_come),
             )),
+        }
+    }
+
+    /// Notes that bytes came, which its parser is not fed.
+    pub(crate) fn note_bytes(&mut self, bytes: &[u8], now: u64)
+        ensures sound { (came : List ℕ) → IsSoundWith self.old came → IsSoundWith self.new (came ++ bytes.now) }
+        ensures value { (came : List ℕ) → forwarded_with self.new (came ++ bytes.now)
+            ≡ with_bytes (forwarded_with self.old came) bytes.now now }
+        ensures parser { self.new.parser ≡ self.old.parser }
+    {
+        self.has_come = has_come_with(self.has_come, bytes);
+        self.version = self.version.after(bytes);
+        self.renew_if(has_bytes(bytes), now);
+    }
+
+    /// A piece of what is to be written now: of what is left of the text, or of nothing, if the endpoint reads no more of it.
+    pub(crate) fn piece<'a>(&'a self, request: &'a Request) -> &'a [u8]
+        requires { uncopied_of request.now ≡ self.now.text.uncopied }
+        ensures { IsFirstPiece (to_write (forwarded_of self.now)) result.now }
+    {
+        if self.state.is_unread {
+            &[]
+        } else {
+            self.text.piece(uncopied_body(request))
+        }
+    }
+
+    /// Whether it may be sent again after its connection was closed.
+    pub(crate) fn may_repeat(&self) -> bool
+        ensures { (came : List ℕ) → self.now.has_come ≡ not (is_empty came)
+            → result ≡ may_repeat (forwarded_with self.now came) }
+    {
+        self.state.is_kept
+            && !self.has_come
+            && (self.state.terms.is_idempotent || self.text.is_unsent())
+    }
+
+    /// What a timeout tells of the endpoint.
+    pub(crate) fn late_health(&self, now: u64) -> Health
+        ensures { (came : List ℕ) → self.now.has_come ≡ not (is_empty came)
+            → result ≡ late_health (forwarded_with self.now came) now }
+    {
+        let is_silent = now < self.state.deadlines.last && self.writes_nothing();
+        if is_silent || !self.has_come {
+            Health::Fails
+        } else {
+            Health::Answers
         }
     }
 

@@ -5,15 +5,13 @@ ghost use Rattle.bg_endpoint_side.specs.Forwarding.{AnswersAtEnd, Ends, Receives
 ghost use Rattle.bg_endpoint_side.specs.Forwarding.{late_health, looked, may_repeat, to_write};
 ghost use Rattle.bg_endpoint_side.specs.Forwarding.{unread, with_end, wrote};
 ghost use Rattle.bg_endpoint_side.specs.Outcomes.{health_of, of_giving_up, refused};
-ghost use Rattle.bg_endpoint_side.specs.OutgoingTexts.{IsFirstPiece, uncopied_body as uncopied_of};
+ghost use Rattle.bg_endpoint_side.specs.OutgoingTexts.{IsFirstPiece};
 
 use crate::answering::health_of;
-use crate::deadlines::DIAL_MILLIS;
 use crate::dialing_request::DialingRequest;
 use crate::endpoint_request::EndpointRequest;
 use crate::outcome::{ForwardFault, GivingUp, Health, Outcome};
 use crate::terms::Terms;
-use crate::uncopied::uncopied_body;
 use bg_http::Request;
 use std::marker::Model;
 
@@ -65,11 +63,7 @@ impl ForwardedRequest {
         requires { request.now ≡ self.now.request }
         ensures { IsFirstPiece (to_write self.now) result.now }
     {
-        if self.boxed.state.is_unread {
-            &[]
-        } else {
-            self.boxed.text.piece(uncopied_body(request))
-        }
+        self.boxed.piece(request)
     }
 
     /// Whether the whole text was written.
@@ -163,9 +157,7 @@ impl ForwardedRequest {
     fn may_repeat(&self) -> bool
         ensures { result ≡ may_repeat self.now }
     {
-        self.boxed.state.is_kept
-            && !self.boxed.has_come
-            && (self.boxed.state.terms.is_idempotent || self.boxed.text.is_unsent())
+        self.boxed.may_repeat()
     }
 
     /// The request is sent again on a new connection. No byte came, so the parser was fed nothing.
@@ -173,11 +165,8 @@ impl ForwardedRequest {
         requires none { self.came ≡ [] }
         ensures { result ≡ again self now }
     {
-        let ForwardedRequest { mut boxed } = self;
-        boxed.text.restart();
-        boxed.state.deadlines = boxed.state.deadlines.renewed(DIAL_MILLIS, now);
-        boxed.state.is_again = true;
-        DialingRequest { boxed }
+        let ForwardedRequest { boxed } = self;
+        DialingRequest::again(boxed, now)
     }
 
     /// What the bytes that came tell of the endpoint.
@@ -191,12 +180,7 @@ impl ForwardedRequest {
     fn late_health(&self, now: u64) -> Health
         ensures { result ≡ late_health self.now now }
     {
-        let is_silent = now < self.boxed.state.deadlines.last && self.boxed.writes_nothing();
-        if is_silent || !self.boxed.has_come {
-            Health::Fails
-        } else {
-            Health::Answers
-        }
+        self.boxed.late_health(now)
     }
 
     /// There is no response.

@@ -6,7 +6,8 @@ ghost use Rattle.bg_endpoint_side.specs.Dialing.{Dialing, Forwarded};
 ghost use Rattle.bg_endpoint_side.specs.KeptLists.{Kept};
 ghost use Rattle.bg_endpoint_side.specs.KeptRuns.{KeptCall, LosesNone};
 ghost use Rattle.bg_endpoint_side.specs.Laws.{Continues, GoesBackDrained, ReadsAlike, RepeatsOnlySafely};
-ghost use Rattle.bg_endpoint_side.specs.Laws.{StaysOnNew, TextBegins, TextStays};
+ghost use Rattle.bg_endpoint_side.specs.Laws.{StaysOnNew, StreamGoesBackDrained, TextBegins, TextStays};
+ghost use Rattle.bg_endpoint_side.specs.Streaming.{Streamed};
 
 /// What was written of a text and what is left of it are the text, in its order, whatever happens on the connection. A new
 /// connection, and one that was kept, begins with nothing written and no byte that came; a request that is sent again has
@@ -21,6 +22,14 @@ pub fn a_text_is_written_in_its_order()
 pub fn a_connection_goes_back_drained()
     ensures { (f : Forwarded) (came left : List ℕ) (response : Response) → GoesBackDrained f came left response }
 {}
+
+/// A connection whose response is passed on goes back only if the same holds. All bytes that came on it are that response, as the
+/// parser of `bg_http_read` reads it, if its body is within the limit of that parser.
+pub fn a_streamed_connection_goes_back_drained()
+    ensures { (s : Streamed) (passed : List ℕ) → StreamGoesBackDrained s passed }
+{
+    bg_streams::stream_laws::a_drained_stream_carried_the_response();
+}
 
 /// The responses on a connection that goes back are those to its requests, one for each, in their order: no byte of one
 /// response is read as a part of another one.

@@ -4,7 +4,7 @@ use Rattle.std.specs.Fmt.{digits}
 use Rattle.std.specs.Prelude.{Some, None, Result, Ok, Err, codes}
 use Rattle.bg_http.specs.Elements.{Field}
 use Rattle.bg_http.specs.RequestRules.{request_framing, owes_continue}
-use Rattle.bg_http.specs.ResponseRules.{response_framing, length_told}
+use Rattle.bg_http.specs.ResponseRules.{response_framing, response_framing_within, length_told}
 use Rattle.bg_http.specs.Texts.{request_text, response_text, refusal_text}
 use Rattle.bg_http.specs.declared.request.RequestHead.{RequestHead}
 use Rattle.bg_http.specs.declared.request.Request.{Request}
@@ -275,6 +275,19 @@ answer_by_length = refl
 
 answer_too_large : got 1 500 (length_field (codes "4194305") ∷ []) ≡ Err wrong.TooLarge
 answer_too_large = refl
+
+-- another limit, of which only a length takes notice
+abbrev within : ℕ → List Field → Result ResponseFraming ResponseFault
+within most fields = response_framing_within most get_request (answer 1 200 fields)
+
+answer_within_more : within 5000000000 (length_field (codes "5000000000") ∷ []) ≡ Ok (ending.Length 5000000000)
+answer_within_more = refl
+
+answer_beyond_more : within 4999999999 (length_field (codes "5000000000") ∷ []) ≡ Err wrong.TooLarge
+answer_beyond_more = refl
+
+answer_within_none : within 0 (coding_field (codes "chunked") ∷ []) ≡ Ok ending.Chunks
+answer_within_none = refl
 
 answer_of_two_lengths : got 1 200 (length_field (codes "1, 2") ∷ []) ≡ Err wrong.Bad
 answer_of_two_lengths = refl

@@ -51,25 +51,36 @@ abbrev pub or_too_large : Option ℕ → Result ResponseFraming ResponseFault
 or_too_large None = Err fault.TooLarge
 or_too_large (Some size) = Ok (framing.Length size)
 
--- a body of the given length, at most `MOST_RESPONSE_BODY`; if no length is given, the body ends
--- with the input (RFC 9112 section 6.3)
-abbrev pub framing_by_length : Length → Result ResponseFraming ResponseFault
-framing_by_length absent = Ok framing.ToTheEnd
-framing_by_length (is digits) = or_too_large (number_within MOST_RESPONSE_BODY digits)
-framing_by_length wrong = Err fault.Bad
+-- a body of the given length, at most `most`; if no length is given, the body ends with the input
+-- (RFC 9112 section 6.3)
+abbrev pub framing_by_length_within : ℕ → Length → Result ResponseFraming ResponseFault
+framing_by_length_within most absent = Ok framing.ToTheEnd
+framing_by_length_within most (is digits) = or_too_large (number_within most digits)
+framing_by_length_within most wrong = Err fault.Bad
 
--- the judgement of a response's head: the first rule that applies decides
-abbrev pub framing_for : Bool → ResponseHead → Result ResponseFraming ResponseFault
-framing_for to_head head =
+-- the judgement of a response's head, whose body may have a length of at most `most`: the first rule
+-- that applies decides
+abbrev pub framing_within : ℕ → Bool → ResponseHead → Result ResponseFraming ResponseFault
+framing_within most to_head head =
     if is_bad_code head.code then Err fault.Bad
     else (if is_interim head.code then Ok framing.Interim
     else (if lacks_body to_head head.code then Ok framing.NoBody
     else (if has_field (codes "transfer-encoding") head.fields then framing_by_codings head
-    else framing_by_length (content_length head.fields))))
+    else framing_by_length_within most (content_length head.fields))))
 
 -- the judgement of the head of a response to the request
+abbrev pub response_framing_within : ℕ → Request → ResponseHead → Result ResponseFraming ResponseFault
+response_framing_within most request head = framing_within most (asks_for_head request) head
+
+-- the same for a response that is read as a whole: its length is at most `MOST_RESPONSE_BODY`
+abbrev pub framing_by_length : Length → Result ResponseFraming ResponseFault
+framing_by_length given = framing_by_length_within MOST_RESPONSE_BODY given
+
+abbrev pub framing_for : Bool → ResponseHead → Result ResponseFraming ResponseFault
+framing_for to_head head = framing_within MOST_RESPONSE_BODY to_head head
+
 abbrev pub response_framing : Request → ResponseHead → Result ResponseFraming ResponseFault
-response_framing request head = framing_for (asks_for_head request) head
+response_framing request head = response_framing_within MOST_RESPONSE_BODY request head
 
 -- the digits of a number; `0` for zero, which has no digits without its leading zeros
 abbrev pub digits_or_zero : List ℕ → List ℕ

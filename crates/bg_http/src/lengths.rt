@@ -1,5 +1,5 @@
 //! The length that Content-Length fields give.
-ghost use Rattle.std.specs.Prelude.{◌≡◌, ◌≤◌, ◌^◌, ◌&&◌, IsTrue};
+ghost use Rattle.std.specs.Prelude.{◌≡◌, ◌&&◌, IsTrue};
 ghost use Rattle.std.specs.Char.{is_ascii_digit};
 ghost use Rattle.std.specs.List.{list_all};
 ghost use Rattle.bg_http.specs.Held.{elements_left, length_held};
@@ -73,13 +73,13 @@ pub(crate) fn content_length(fields: &Fields) -> OneLength<'_>
 
 /// The number that the digits stand for, if it is at most `most`.
 pub(crate) fn value_within(digits: &[u8], most: usize) -> Option<usize>
-    requires digits { IsTrue (list_all is_ascii_digit digits.now) }
-    requires most { most ≤ 2 ^ 32 }
+    requires { IsTrue (list_all is_ascii_digit digits.now) }
     ensures { result ≡ number_within most digits.now }
 {
     let mut number = 0usize;
     for digit in digits {
-        number = number * 10 + usize::from(*digit - b'0');
+        let value = usize::from(*digit - b'0');
+        number = number.checked_mul(10)?.checked_add(value)?;
         if number > most {
             return None;
         }

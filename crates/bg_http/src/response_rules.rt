@@ -26,11 +26,13 @@ pub enum ResponseFraming {
     ToTheEnd,
 }
 
-/// The most bytes that a response's body may have.
+/// The most bytes that the body of a response may have that is read as a whole.
 pub const MOST_RESPONSE_BODY: usize = 4_194_304;
 
 /// Judges the head of a response. `to_head` says whether the method of the request is HEAD
-/// (`asks_for_head`). The first of these rules that applies decides.
+/// (`asks_for_head`), and `most` is the most bytes that its Content-Length may name. A body of chunks,
+/// or one that goes to the end of the input, has no limit here. The first of these rules that applies
+/// decides.
 ///
 /// - A code below 100, and 101: Bad. The request asked for no other protocol (RFC 9110 section
 ///   15.2.2).
@@ -39,10 +41,14 @@ pub const MOST_RESPONSE_BODY: usize = 4_194_304;
 /// - Transfer-Encoding: chunked, if version 1.1 names `chunked` and no other coding; otherwise Bad.
 ///   A Content-Length that comes with it is ignored (RFC 9112 section 6.3).
 /// - Content-Length: this length, if its elements are all digits and equal without their leading
-///   zeros; otherwise Bad. TooLarge if it is above 4,194,304.
+///   zeros; otherwise Bad. TooLarge if it is above `most`.
 /// - Otherwise the body goes to the end of the input.
-pub fn judge_response(to_head: bool, head: &ResponseHead) -> Result<ResponseFraming, ResponseFault>
-    ensures { result ≡ spec.framing_for to_head head.now }
+pub fn judge_response(
+    to_head: bool,
+    most: usize,
+    head: &ResponseHead,
+) -> Result<ResponseFraming, ResponseFault>
+    ensures { result ≡ spec.framing_within most to_head head.now }
 {
     if is_bad_code(head.code) {
         return Err(ResponseFault::Bad);
@@ -56,7 +62,7 @@ pub fn judge_response(to_head: bool, head: &ResponseHead) -> Result<ResponseFram
     if has_field(&head.fields, RuledName::TransferEncoding) {
         return framing_by_codings(head);
     }
-    framing_by_length(head)
+    framing_by_length(most, head)
 }
 
 /// For a response without a body, the digits of the length that its head gives for the body. For
@@ -116,12 +122,12 @@ fn framing_by_codings(head: &ResponseHead) -> Result<ResponseFraming, ResponseFa
     }
 }
 
-fn framing_by_length(head: &ResponseHead) -> Result<ResponseFraming, ResponseFault>
-    ensures { result ≡ spec.framing_by_length (content_length_of head.now.fields) }
+fn framing_by_length(most: usize, head: &ResponseHead) -> Result<ResponseFraming, ResponseFault>
+    ensures { result ≡ spec.framing_by_length_within most (content_length_of head.now.fields) }
 {
     match content_length(&head.fields) {
         OneLength::Absent => Ok(ResponseFraming::ToTheEnd),
-        OneLength::Is(digits) => match value_within(digits, MOST_RESPONSE_BODY) {
+        OneLength::Is(digits) => match value_within(digits, most) {
             Some(size) => Ok(ResponseFraming::Length(size)),
             None => Err(ResponseFault::TooLarge),
         },

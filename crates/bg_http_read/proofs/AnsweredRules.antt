@@ -10,7 +10,7 @@ use Rattle.std.proofs.lemmas.List.Folds.{list_any-append}
 use Rattle.bg_http.specs.Elements.{Field, elements, elements_named, has_field, is_named}
 use Rattle.bg_http.specs.Lengths.{content_length, length_of}
 use Rattle.bg_http.specs.Removed.{kept_in_response}
-use Rattle.bg_http.specs.ResponseRules.{framing_by_codings, framing_by_length, has_no_body, is_interim, length_told, or_too_large, response_framing, valid_length}
+use Rattle.bg_http.specs.ResponseRules.{framing_by_codings, framing_by_length, framing_by_length_within, has_no_body, is_interim, length_told, or_too_large, response_framing, valid_length}
 use Rattle.bg_http.specs.Texts.{body_sent}
 use Rattle.bg_http.specs.declared.request.Request.{Request}
 use Rattle.bg_http.specs.declared.response.Response.{Response}
@@ -77,11 +77,14 @@ length_read body fits =
     ∙ ap or_too_large (length_within_is most_response_body n small fits)
 
 -- the framing of a head whose code is sound and final
-abbrev pub framing_behind : ResponseHead → Bool → Result ResponseFraming ResponseFault
-framing_behind head empty =
+abbrev pub framing_behind_within : ℕ → ResponseHead → Bool → Result ResponseFraming ResponseFault
+framing_behind_within most head empty =
     if empty then Ok framing.NoBody
     else (if has_field (codes "transfer-encoding") head.fields then framing_by_codings head
-    else framing_by_length (content_length head.fields))
+    else framing_by_length_within most (content_length head.fields))
+
+abbrev pub framing_behind : ResponseHead → Bool → Result ResponseFraming ResponseFault
+framing_behind head empty = framing_behind_within most_response_body head empty
 
 pub answer_passes : NoneGoesOn (codes "transfer-encoding") → NoneGoesOn (codes "content-length") → (keeps : Bool)
     (request : Request) (response : Response) → IsWritable request response

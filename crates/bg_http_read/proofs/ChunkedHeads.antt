@@ -63,5 +63,5 @@ chunks_passes codings keeps request response sound final some =
 pub judged_in_chunks : NoneGoesOn (codes "transfer-encoding") → (keeps : Bool) (request : Request) (response : Response)
     → IsJudgedInChunks keeps request response
 judged_in_chunks codings keeps request response h some =
-    let judged = judged_code request h.head h.named h.came.holds.0.judged h.came.holds.1 in
+    let judged = judged_code h.most request h.head h.named h.came.holds.0.judged h.came.holds.1 in
     chunks_passes codings keeps request response (ap is_bad_code h.code_is ∙ judged.0) (ap is_interim h.code_is ∙ judged.1) some

@@ -38,7 +38,7 @@ fed_behind : (request : Request) (s : ResponseStage) (waits seen more : List ℕ
 fed_behind request (part.Heads search) waits seen more h =
     skips_behind request search.interim seen waits more h
 fed_behind request (part.Body p) waits seen more h =
-    fed_longer (responses request) (final_behind request) p waits seen more h
+    fed_longer (responses request) (final_behind most_response_body request) p waits seen more h
 fed_behind request part.Done waits seen more h = h
 
 pub fed_added : (request : Request) (s : ResponseStage) (waits now seen bytes : List ℕ)
@@ -93,7 +93,7 @@ reads_fed request p waits seen more rest response h within parts reads = record 
 }
   where
     found : AfterInterim request (seen ++ more) (IsFinalHead request p.head p.framing (h.after ++ more))
-    found = final_behind request seen more p.head p.framing h.after h.found
+    found = final_behind most_response_body request seen more p.head p.framing h.after h.found
 
     body : ReadsResponseBody p.framing (h.after ++ more) p.body.bytes.items rest
     body =
@@ -126,7 +126,7 @@ fed_fails : (request : Request) (p : ResponseBody) (waits seen more : List ℕ) 
     → (h : FedBody (responses request) p waits seen) → ResponseBodyFails p.framing (h.after ++ more) e
     → ResponseFails request (seen ++ more) e
 fed_fails request p waits seen more e h fails =
-    let found = final_behind request seen more p.head p.framing h.after h.found in
+    let found = final_behind most_response_body request seen more p.head p.framing h.after h.found in
     no_body (record {
       count = found.count;
       few = found.few;

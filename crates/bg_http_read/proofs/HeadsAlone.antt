@@ -6,7 +6,7 @@ use Rattle.bg_http.specs.declared.response.ResponseHead.{ResponseHead}
 use Rattle.bg_http.specs.declared.response_rules.ResponseFraming.{ResponseFraming}
 use Rattle.bg_http_read.specs.Heads.{ReadsResponseHead, response_heads}
 use Rattle.bg_http_read.specs.ResponseHeads.{AreHeads}
-use Rattle.bg_http_read.specs.Responses.{AfterInterim, IsFinalHead, SkipsInterim}
+use Rattle.bg_http_read.specs.Responses.{AfterInterim, IsFinalHeadWithin, SkipsInterim}
 use Rattle.bg_http_read.proofs.HeadsFound.{response_laws}
 
 -- the bytes of a head
@@ -44,10 +44,10 @@ skips_alone request (suc count) input after (before, head, skips, judged) =
     )
 
 -- the bytes of all heads
-heads_alone : (request : Request) (input after : List ℕ) (head : ResponseHead) (named : ResponseFraming)
-    → AfterInterim request input (IsFinalHead request head named after)
-    → (front : List ℕ) × (input ≡ front ++ after) × AreHeads request front head named
-heads_alone request input after head named h =
+heads_alone : (most : ℕ) (request : Request) (input after : List ℕ) (head : ResponseHead) (named : ResponseFraming)
+    → AfterInterim request input (IsFinalHeadWithin most request head named after)
+    → (front : List ℕ) × (input ≡ front ++ after) × AreHeads most request front head named
+heads_alone most request input after head named h =
     let earlier = skips_alone request h.count input h.after h.skips in
     let last = head_alone h.after after head h.holds.0.reads in (
       earlier.0 ++ last.0,
@@ -77,12 +77,12 @@ interim_taken request many count input bytes h more =
     let alone = skips_alone request many (input ++ bytes) (drop count bytes) h in
     subst (λ l. SkipsInterim request many (l ++ more) more) (front_is input bytes alone.0 count alone.1) (alone.2 more)
 
-pub heads_taken : (request : Request) (count : ℕ) (input bytes : List ℕ) (head : ResponseHead) (named : ResponseFraming)
-    → AfterInterim request (input ++ bytes) (IsFinalHead request head named (drop count bytes))
-    → AreHeads request (input ++ take count bytes) head named
-heads_taken request count input bytes head named h =
-    let alone = heads_alone request (input ++ bytes) (drop count bytes) head named h in
-    subst (λ l. AreHeads request l head named) (front_is input bytes alone.0 count alone.1) alone.2
+pub heads_taken : (most : ℕ) (request : Request) (count : ℕ) (input bytes : List ℕ) (head : ResponseHead) (named : ResponseFraming)
+    → AfterInterim request (input ++ bytes) (IsFinalHeadWithin most request head named (drop count bytes))
+    → AreHeads most request (input ++ take count bytes) head named
+heads_taken most request count input bytes head named h =
+    let alone = heads_alone most request (input ++ bytes) (drop count bytes) head named h in
+    subst (λ l. AreHeads most request l head named) (front_is input bytes alone.0 count alone.1) alone.2
 
 -- what holds of a head that may have been found
 pub some_so : {A : Type 0} (P Q : A → Type 0) (found : Option A) → ((at : A) → P at → Q at) → IfSome found P → IfSome found Q

@@ -8,6 +8,7 @@ pub mod ChunkLines
 pub mod ChunkedHeads
 pub mod CopiedHeads
 pub mod DataSteps
+pub mod DecimalTexts
 pub mod FaultStays
 pub mod FedBodies
 pub mod FedRequests
@@ -33,6 +34,7 @@ pub mod OneRequest
 pub mod OneResponse
 pub mod OneResponseFault
 pub mod OneSequence
+pub mod OtherLimits
 pub mod Pieces
 pub mod RefusedHeads
 pub mod RequestOrFault

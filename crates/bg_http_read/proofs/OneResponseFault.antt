@@ -11,7 +11,7 @@ use Rattle.bg_http_read.specs.BodyFaults.{Failure, malformed, large, cut}
 use Rattle.bg_http_read.specs.HeadFaults.{ResponseHeadFails}
 use Rattle.bg_http_read.specs.Laws.{is_of_reading, EndsInManyTrailers, IsUndecidedResponse}
 use Rattle.bg_http_read.specs.Heads.{response_heads}
-use Rattle.bg_http_read.specs.Responses.{FramedResponseBodyFails, ResponseBodyFails, AfterInterim, HasManyInterim, BreaksResponseRule, FinalHeadThen, ResponseFails, body_of_response, breaks_rule, no_head, many_interim, no_body}
+use Rattle.bg_http_read.specs.Responses.{FramedResponseBodyFails, ResponseBodyFails, AfterInterim, HasManyInterim, BreaksResponseRule, FinalHeadThen, ResponseFails, body_of_response, breaks_rule, no_head, no_heads, many_interim, no_body}
 use Rattle.bg_http_read.proofs.HeadsFound.{large_or_cut, large_or_malformed, malformed_or_cut, one_head, response_laws}
 use Rattle.bg_http_read.proofs.InterimOrder.{IsInterim, in_order, interim_earlier, final_or_interim}
 use Rattle.bg_http_read.proofs.ResponseOrFault.{head_or_fault}
@@ -179,11 +179,11 @@ one_stop_of_two request input one other h k isnt neither =
 -- a fault is at a place after interim responses, or there are too many of them
 stopped : (request : Request) (input : List ℕ) (e : ResponseFault) → ResponseFails request input e
     → AfterInterim request input (Stops request e) ⊎ ((e ≡ fault.Bad) × HasManyInterim request input)
-stopped request input e (breaks_rule f) =
+stopped request input e (no_heads (breaks_rule f)) =
     inl (record { count = f.count; few = f.few; after = f.after; skips = f.skips; holds = by_rule f.holds })
-stopped request input e (no_head f) =
+stopped request input e (no_heads (no_head f)) =
     inl (record { count = f.count; few = f.few; after = f.after; skips = f.skips; holds = by_head f.holds })
-stopped request input e (many_interim is many) = inr (is, many)
+stopped request input e (no_heads (many_interim is many)) = inr (is, many)
 stopped request input e (no_body f) =
     inl (record { count = f.count; few = f.few; after = f.after; skips = f.skips; holds = by_body f.holds })
 

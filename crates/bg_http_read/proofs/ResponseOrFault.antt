@@ -12,7 +12,7 @@ use Rattle.bg_http_read.specs.BodyFaults.{Failure, malformed, large, cut}
 use Rattle.bg_http_read.specs.HeadFaults.{ResponseHeadFails}
 use Rattle.bg_http_read.specs.Laws.{is_of_reading}
 use Rattle.bg_http_read.specs.Heads.{ReadsResponseHead, response_heads}
-use Rattle.bg_http_read.specs.Responses.{ReadsResponseBody, FramedResponseBodyFails, ResponseBodyFails, BreaksResponseRule, FinalHeadThen, ReadsResponse, ResponseFails, body_of_response, breaks_rule, no_head, many_interim, no_body}
+use Rattle.bg_http_read.specs.Responses.{ReadsResponseBody, FramedResponseBodyFails, ResponseBodyFails, BreaksResponseRule, FinalHeadThen, ReadsResponse, ResponseFails, body_of_response, breaks_rule, no_head, no_heads, many_interim, no_body}
 use Rattle.bg_http_read.proofs.FramedBodies.{framed_or_fault}
 use Rattle.bg_http_read.proofs.HeadsFound.{not_cut, not_large, not_malformed, one_head, response_laws}
 use Rattle.bg_http_read.proofs.OneResponse.{named_body}
@@ -108,11 +108,11 @@ response_or_fault request input response e (end, h) fails = by_fault fails
         absurd (final_or_interim request b other second rest final.0 final.1 interim)
 
     by_fault : ResponseFails request input e → is_of_reading e ≡ true
-    by_fault (breaks_rule f) =
+    by_fault (no_heads (breaks_rule f)) =
         breaks f.after f.holds (in_order request h.count f.count input a f.after h.skips f.skips)
-    by_fault (no_head f) =
+    by_fault (no_heads (no_head f)) =
         lacks f.after f.holds (in_order request h.count f.count input a f.after h.skips f.skips)
-    by_fault (many_interim is (next, skips)) =
+    by_fault (no_heads (many_interim is (next, skips))) =
         absurd (not_interim (interim_earlier request h.count 17 input a next (omega (arith, h.few)) h.skips skips))
     by_fault (no_body f) =
         body f.after f.holds (in_order request h.count f.count input a f.after h.skips f.skips)

@@ -4,7 +4,7 @@ use Rattle.std.specs.Result.{IsErrAnd}
 use Rattle.bg_http.specs.Codings.{codings}
 use Rattle.bg_http.specs.Elements.{has_field}
 use Rattle.bg_http.specs.Lengths.{Length, absent, is, wrong, content_length, number_within}
-use Rattle.bg_http.specs.ResponseRules.{framing_for, framing_by_codings, framing_by_length, or_too_large, is_bad_code, is_interim, lacks_body, is_chunked_only}
+use Rattle.bg_http.specs.ResponseRules.{framing_within, framing_by_codings, framing_by_length_within, or_too_large, is_bad_code, is_interim, lacks_body, is_chunked_only}
 use Rattle.bg_http.specs.declared.response.ResponseHead.{ResponseHead}
 use Rattle.bg_http.specs.declared.response_fault.ResponseFault.{ResponseFault}
 use Rattle.bg_http.specs.declared.response_fault.ResponseFault.TheVariants as fault
@@ -39,20 +39,20 @@ by_size : (size : Option ℕ) → IsOfBytes (or_too_large size)
 by_size None = refl
 by_size (Some size) = tt
 
-by_length : (length : Length) → IsOfBytes (framing_by_length length)
-by_length absent = tt
-by_length (is digits) = by_size (number_within 4194304 digits)
-by_length wrong = refl
+by_length : (most : ℕ) (length : Length) → IsOfBytes (framing_by_length_within most length)
+by_length most absent = tt
+by_length most (is digits) = by_size (number_within most digits)
+by_length most wrong = refl
 
-judged : (to_head : Bool) (head : ResponseHead) → IsOfBytes (framing_for to_head head)
-judged to_head head =
+judged : (most : ℕ) (to_head : Bool) (head : ResponseHead) → IsOfBytes (framing_within most to_head head)
+judged most to_head head =
     of_rules (is_bad_code head.code) (is_interim head.code) (lacks_body to_head head.code)
     (has_field (codes "transfer-encoding") head.fields) (framing_by_codings head)
-    (framing_by_length (content_length head.fields))
+    (framing_by_length_within most (content_length head.fields))
     (by_coding (not (head.minor == 0) && is_chunked_only (codings head.fields)))
-    (by_length (content_length head.fields))
+    (by_length most (content_length head.fields))
 
 -- the rules of heads give no fault of the stream
-pub judged_of_bytes : (to_head : Bool) (head : ResponseHead) (e : ResponseFault)
-    → framing_for to_head head ≡ Err e → IsFalse (is_of_stream e)
-judged_of_bytes to_head head e h = subst IsOfBytes h (judged to_head head)
+pub judged_of_bytes : (most : ℕ) (to_head : Bool) (head : ResponseHead) (e : ResponseFault)
+    → framing_within most to_head head ≡ Err e → IsFalse (is_of_stream e)
+judged_of_bytes most to_head head e h = subst IsOfBytes h (judged most to_head head)

@@ -15,7 +15,7 @@ use Rattle.httparse.specs.Grammar.{AllPass, is_value_byte}
 use Rattle.bg_http.specs.Codings.{codings}
 use Rattle.bg_http.specs.Elements.{elements_named, has_field}
 use Rattle.bg_http.specs.Lengths.{Length, absent, content_length, has_digits, is, is_digits, length_of, number_within, without_zeros, wrong}
-use Rattle.bg_http.specs.ResponseRules.{digits_or_zero, framing_by_codings, framing_by_length, has_no_body, is_bad_code, is_chunked_only, is_interim, length_told, or_too_large, response_framing, valid_length}
+use Rattle.bg_http.specs.ResponseRules.{digits_or_zero, framing_by_codings, framing_by_length, has_no_body, is_bad_code, is_chunked_only, is_interim, length_told, or_too_large, response_framing_within, valid_length}
 use Rattle.bg_http.specs.Statuses.{is_refusal}
 use Rattle.bg_http.specs.Texts.{reason_of}
 use Rattle.bg_http.specs.declared.request.Request.{Request}
@@ -29,7 +29,8 @@ use Rattle.bg_http_read.specs.Heads.{ReadsResponseHead}
 use Rattle.bg_http_read.specs.Responses.{IsResponse, ReadsResponse, ReadsResponseBody, length_of_response, most_response_body, names_another}
 use Rattle.bg_http_read.specs.WrittenHeads.{HasHeadOf, IsLengthOf}
 use Rattle.bg_http_read.proofs.AnsweredHeads.{IsHeadWritable, IsNumber, IsTold, IsWritable}
-use Rattle.bg_http_read.proofs.AnsweredRules.{framing_behind}
+use Rattle.bg_http_read.proofs.AnsweredRules.{framing_behind, framing_behind_within}
+use Rattle.bg_http_read.proofs.DecimalTexts.{decimal_has_digits}
 use Rattle.bg_http_read.proofs.FieldTexts.{IsGood, nothing_good, reads_are_good}
 
 -- ---- digits
@@ -112,20 +113,20 @@ told_canonical head = by_test ((head.code == 204) || has_field (codes "transfer-
 
 -- ---- how a response was judged
 
-pub judged_code : (request : Request) (head : ResponseHead) (named : ResponseFraming)
-    → response_framing request head ≡ Ok named → IsFalse (names_another named)
+pub judged_code : (most : ℕ) (request : Request) (head : ResponseHead) (named : ResponseFraming)
+    → response_framing_within most request head ≡ Ok named → IsFalse (names_another named)
     → (is_bad_code head.code ≡ false) × (is_interim head.code ≡ false)
-    × (framing_behind head (has_no_body request head.code) ≡ Ok named)
-judged_code request head named judged last = by_tests (is_bad_code head.code) refl (is_interim head.code) refl judged
+    × (framing_behind_within most head (has_no_body request head.code) ≡ Ok named)
+judged_code most request head named judged last = by_tests (is_bad_code head.code) refl (is_interim head.code) refl judged
   where
     another : IsFalse true → ⊥
     another e = cc
 
     by_tests : (bad : Bool) → is_bad_code head.code ≡ bad → (interim : Bool) → is_interim head.code ≡ interim
         → (if bad then Err fault.Bad else (if interim then Ok framing.Interim
-        else framing_behind head (has_no_body request head.code))) ≡ Ok named
+        else framing_behind_within most head (has_no_body request head.code))) ≡ Ok named
         → (is_bad_code head.code ≡ false) × (is_interim head.code ≡ false)
-        × (framing_behind head (has_no_body request head.code) ≡ Ok named)
+        × (framing_behind_within most head (has_no_body request head.code) ≡ Ok named)
     by_tests true b interim i e = cc
     by_tests false b true i e =
         let same : named ≡ framing.Interim = cc in
@@ -214,8 +215,8 @@ came_is_writable request response h number = record {
     reads = h.came.holds.0.reads
 
     judged : (is_bad_code h.head.code ≡ false) × (is_interim h.head.code ≡ false)
-        × (framing_behind h.head (has_no_body request h.head.code) ≡ Ok h.named)
-    judged = judged_code request h.head h.named h.came.holds.0.judged h.came.holds.1
+        × (framing_behind_within h.most h.head (has_no_body request h.head.code) ≡ Ok h.named)
+    judged = judged_code h.most request h.head h.named h.came.holds.0.judged h.came.holds.1
 
     code : response.code ≡ digits_value 10 reads.tree.digits
     code = h.code_is ∙ ap (λ t. t.code) reads.head_is
@@ -232,34 +233,17 @@ came_is_writable request response h number = record {
         ∙ three_digits reads.tree.digits reads.reads.0.digits.0 (passed_digits reads.tree.digits reads.reads.0.digits.1) high
 
 -- the length that is told is a number
-size_is_number : (request : Request) (head : ResponseHead) (size : ℕ)
-    → framing_behind head (has_no_body request head.code) ≡ Ok (framing.Length size) → IsNumber (Some (decimal size))
-size_is_number request head size behind = by_test (has_no_body request head.code) behind
-  where
-    by_test : (t : Bool) → framing_behind head t ≡ Ok (framing.Length size) → IsNumber (Some (decimal size))
-    by_test true e = cc
-    by_test false e =
-        let fits = sized_size head size e in
-        (decimal_is_IsNumeral size (omega (arith, fits))).0
-
 none_or : (given other : Option (List ℕ)) → (given ≡ None) ⊎ (given ≡ other) → IsNumber other → IsNumber given
 none_or given other (inl none) number = subst IsNumber (sym none) tt
 none_or given other (inr same) number = subst IsNumber (sym same) number
 
-told_is_number : (request : Request) (head : ResponseHead) (named : ResponseFraming) (given : Option (List ℕ))
-    → framing_behind head (has_no_body request head.code) ≡ Ok named → IsLengthOf named head given → IsNumber given
-told_is_number request head (framing.Length size) given behind told =
-    none_or given (Some (decimal size)) told (size_is_number request head size behind)
-told_is_number request head framing.Interim given behind told = none_or given (length_told head) told (told_canonical head).0
-told_is_number request head framing.NoBody given behind told = none_or given (length_told head) told (told_canonical head).0
-told_is_number request head framing.Chunks given behind told = none_or given (length_told head) told (told_canonical head).0
-told_is_number request head framing.ToTheEnd given behind told = none_or given (length_told head) told (told_canonical head).0
-
-pub length_is_number : (request : Request) (response : Response) → (h : HasHeadOf request response)
-    → IsLengthOf h.named h.head response.length → IsNumber response.length
-length_is_number request response h told =
-    told_is_number request h.head h.named response.length
-    (judged_code request h.head h.named h.came.holds.0.judged h.came.holds.1).2 told
+pub length_is_number : (named : ResponseFraming) (head : ResponseHead) (given : Option (List ℕ))
+    → IsLengthOf named head given → IsNumber given
+length_is_number (framing.Length size) head given told = none_or given (Some (decimal size)) told (decimal_has_digits size)
+length_is_number framing.Interim head given told = none_or given (length_told head) told (told_canonical head).0
+length_is_number framing.NoBody head given told = none_or given (length_told head) told (told_canonical head).0
+length_is_number framing.Chunks head given told = none_or given (length_told head) told (told_canonical head).0
+length_is_number framing.ToTheEnd head given told = none_or given (length_told head) told (told_canonical head).0
 
 pub received_is_writable : (request : Request) (response : Response) (input : List ℕ)
     → ReadsResponse request response input → IsWritable request response
@@ -293,7 +277,7 @@ received_is_writable request response input (rest, h) = record {
 
     judged : (is_bad_code head.code ≡ false) × (is_interim head.code ≡ false)
         × (framing_behind head (has_no_body request head.code) ≡ Ok named)
-    judged = judged_code request head named h.holds.3.0.judged h.holds.3.1
+    judged = judged_code most_response_body request head named h.holds.3.0.judged h.holds.3.1
 
     behind : framing_behind head (has_no_body request response.code) ≡ Ok named
     behind = subst (λ c. framing_behind head (has_no_body request c) ≡ Ok named) (sym of.code_is) judged.2
@@ -321,6 +305,7 @@ received_is_writable request response input (rest, h) = record {
     written : IsHeadWritable response
     written =
         came_is_writable request response (record {
+          most = most_response_body;
           input = input;
           head = head;
           named = named;

@@ -6,7 +6,7 @@ use Rattle.bg_http.specs.declared.response.Response.{Response}
 use Rattle.bg_http.specs.declared.response_fault.ResponseFault.{ResponseFault}
 use Rattle.bg_http.specs.declared.response_fault.ResponseFault.TheVariants as fault
 use Rattle.bg_http.specs.declared.response_rules.ResponseFraming.TheVariants as framing
-use Rattle.bg_http_read.specs.Responses.{AfterInterim, FinalHeadThen, ReadsResponse, ReadsResponseThen, ResponseFails, most_response_body}
+use Rattle.bg_http_read.specs.Responses.{AfterInterim, FinalHeadThen, HeadsFail, ReadsResponse, ReadsResponseThen, ResponseFails, most_response_body}
 use Rattle.bg_http_read.specs.declared.received_response.ReceivedResponse.{ReceivedResponse}
 
 -- the request whose response is read, all bytes that came, and whether more of the input, or its
@@ -36,6 +36,12 @@ IsReceived request received seen =
 -- every continuation of the bytes has this fault
 abbrev pub IsRefused : Request → ResponseFault → List ℕ → Type 0
 IsRefused request named seen = (more : List ℕ) → ResponseFails request (seen ++ more) named
+
+-- the heads of every continuation of the bytes have this fault, within a limit on the length of the
+-- body
+abbrev pub HeadsAreRefused : ℕ → Request → ResponseFault → List ℕ → Type 0
+HeadsAreRefused most request named seen =
+    (more : List ℕ) → HeadsFail most request (seen ++ more) named
 
 -- the bytes are a response whose body goes to the end of the input
 abbrev pub GoesToTheEnd : Request → List ℕ → Type 0

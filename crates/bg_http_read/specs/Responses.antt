@@ -1,7 +1,7 @@
 -- A complete response.
 use Rattle.std.specs.Prelude.{◌≡◌, Bool, true, false, IsFalse, ℕ, zero, suc, ◌≤◌, List, [], ◌++◌, length, Option, Some, None, Ok, Err, ⊤}
 use Rattle.std.specs.Fmt.{decimal}
-use Rattle.bg_http.specs.ResponseRules.{response_framing, length_told}
+use Rattle.bg_http.specs.ResponseRules.{response_framing_within, length_told}
 use Rattle.bg_http.specs.declared.request.Request.{Request}
 use Rattle.bg_http.specs.declared.response.Response.{Response}
 use Rattle.bg_http.specs.declared.response.ResponseHead.{ResponseHead}
@@ -19,7 +19,7 @@ use Rattle.bg_http_read.specs.declared.body.BodyFraming.{BodyFraming}
 use Rattle.bg_http_read.specs.declared.body.BodyFraming.TheVariants as ends
 use Rattle.bg_http_read.specs.declared.final_head.TheConstants.{MOST_INTERIM}
 
--- the most bytes that a response's body may have
+-- the most bytes that the body of a response may have that is read as a whole
 abbrev pub most_response_body : ℕ
 most_response_body = MOST_RESPONSE_BODY
 
@@ -55,12 +55,18 @@ ResponseBodyFails named input fault.TooLarge = FramedResponseBodyFails large nam
 ResponseBodyFails named input fault.Closed = FramedResponseBodyFails cut named input
 ResponseBodyFails named input fault.OutOfMemory = ⊤
 
--- the input begins with a head that is judged to have this framing
-pub record JudgedResponse
-    (request : Request) (input : List ℕ) (head : ResponseHead) (named : ResponseFraming)
+-- the input begins with a head that is judged to have this framing, within a limit on its length
+pub record JudgedWithin
+    (most : ℕ) (request : Request) (input : List ℕ) (head : ResponseHead) (named : ResponseFraming)
     (after : List ℕ) : Type 0 where
   pub reads : ReadsResponseHead input head after
-  pub judged : response_framing request head ≡ Ok named
+  pub judged : response_framing_within most request head ≡ Ok named
+
+-- the same for a response that is read as a whole
+abbrev pub JudgedResponse
+    : Request → List ℕ → ResponseHead → ResponseFraming → List ℕ → Type 0
+JudgedResponse request input head named after =
+    JudgedWithin most_response_body request input head named after
 
 -- the response is interim: another one comes after it
 abbrev pub names_another : ResponseFraming → Bool
@@ -70,7 +76,8 @@ names_another framing.Chunks = false
 names_another (framing.Length size) = false
 names_another framing.ToTheEnd = false
 
--- the input begins with this many interim responses
+-- the input begins with this many interim responses. Whether a response is interim depends on no
+-- limit
 abbrev pub SkipsInterim : Request → ℕ → List ℕ → List ℕ → Type 0
 SkipsInterim request zero input after = input ≡ after
 SkipsInterim request (suc count) input after =
@@ -89,35 +96,55 @@ pub record AfterInterim (request : Request) (input : List ℕ) (P : List ℕ →
 abbrev pub HasManyInterim : Request → List ℕ → Type 0
 HasManyInterim request input = (after : List ℕ) × SkipsInterim request (suc MOST_INTERIM) input after
 
--- the input is the head of a final response, and then the rest
+-- the input is the head of a final response, judged within a limit, and then the rest
+abbrev pub IsFinalHeadWithin
+    : ℕ → Request → ResponseHead → ResponseFraming → List ℕ → List ℕ → Type 0
+IsFinalHeadWithin most request head named rest input =
+    JudgedWithin most request input head named rest × IsFalse (names_another named)
+
 abbrev pub IsFinalHead
     : Request → ResponseHead → ResponseFraming → List ℕ → List ℕ → Type 0
 IsFinalHead request head named rest input =
-    JudgedResponse request input head named rest × IsFalse (names_another named)
+    IsFinalHeadWithin most_response_body request head named rest input
 
 -- the input begins with a head that breaks a rule, and this is the fault of the first rule that it
 -- breaks
-abbrev pub BreaksResponseRule : Request → ResponseFault → List ℕ → Type 0
-BreaksResponseRule request fault input =
+abbrev pub BreaksRuleWithin : ℕ → Request → ResponseFault → List ℕ → Type 0
+BreaksRuleWithin most request fault input =
     (head : ResponseHead) × (after : List ℕ) × ReadsResponseHead input head after
-    × (response_framing request head ≡ Err fault)
+    × (response_framing_within most request head ≡ Err fault)
 
--- the input begins with the head of a final response, and this holds for the bytes after it
-abbrev pub FinalHeadThen : Request → (ResponseFraming → List ℕ → Type 0) → List ℕ → Type 0
-FinalHeadThen request P input =
+abbrev pub BreaksResponseRule : Request → ResponseFault → List ℕ → Type 0
+BreaksResponseRule request fault input = BreaksRuleWithin most_response_body request fault input
+
+-- the input begins with the head of a final response, judged within a limit, and this holds for the
+-- bytes after it
+abbrev pub FinalHeadThenWithin
+    : ℕ → Request → (ResponseFraming → List ℕ → Type 0) → List ℕ → Type 0
+FinalHeadThenWithin most request P input =
     (head : ResponseHead) × (named : ResponseFraming) × (after : List ℕ)
-    × IsFinalHead request head named after input × P named after
+    × IsFinalHeadWithin most request head named after input × P named after
 
--- what a fault says about the input: after interim responses, a head breaks a rule, and this is the
--- fault of the first rule that it breaks; or there is no head; or there is another interim response
--- after `MOST_INTERIM`; or the body fails. Nothing is said about the faults of the machine
-pub data ResponseFails (request : Request) (input : List ℕ) (named : ResponseFault) : Type 0 where
-  breaks_rule : AfterInterim request input (BreaksResponseRule request named)
-      → ResponseFails request input named
+abbrev pub FinalHeadThen : Request → (ResponseFraming → List ℕ → Type 0) → List ℕ → Type 0
+FinalHeadThen request P input = FinalHeadThenWithin most_response_body request P input
+
+-- what a fault says about an input that has no heads of a response within a limit: after interim
+-- responses, a head breaks a rule, and this is the fault of the first rule that it breaks; or there
+-- is no head; or there is another interim response after `MOST_INTERIM`. Nothing is said about the
+-- faults of the machine
+pub data HeadsFail
+    (most : ℕ) (request : Request) (input : List ℕ) (named : ResponseFault) : Type 0 where
+  breaks_rule : AfterInterim request input (BreaksRuleWithin most request named)
+      → HeadsFail most request input named
   no_head : AfterInterim request input (λ before. ResponseHeadFails before named)
-      → ResponseFails request input named
+      → HeadsFail most request input named
   many_interim : named ≡ fault.Bad → HasManyInterim request input
-      → ResponseFails request input named
+      → HeadsFail most request input named
+
+-- what a fault says about the input of a response that is read as a whole: its heads fail, or its
+-- body
+pub data ResponseFails (request : Request) (input : List ℕ) (named : ResponseFault) : Type 0 where
+  no_heads : HeadsFail most_response_body request input named → ResponseFails request input named
   no_body : AfterInterim request input
       (FinalHeadThen request (λ framing after. ResponseBodyFails framing after named))
       → ResponseFails request input named

@@ -16,7 +16,7 @@ use Rattle.bg_http.specs.declared.response_rules.ResponseFraming.TheVariants as 
 use Rattle.bg_http_read.specs.AnsweredRequests.{length_fields}
 use Rattle.bg_http_read.specs.ForwardedRequests.{closing_fields}
 use Rattle.bg_http_read.specs.Heads.{response_parts}
-use Rattle.bg_http_read.specs.Responses.{AfterInterim, IsFinalHead}
+use Rattle.bg_http_read.specs.Responses.{AfterInterim, IsFinalHeadWithin}
 
 -- the field that tells how the body ends, if there is one
 abbrev pub end_fields : BodyEnd → Option (List ℕ) → List Field
@@ -37,13 +37,15 @@ written_head keeps named response = record {
   fields = written_fields keeps named response;
 }
 
--- the response has the code, the reason and the fields of a head that was read as the one of the response to the request
+-- the response has the code, the reason and the fields of a head that was read as the one of the response to the request, within any
+-- limit
 pub record HasHeadOf (request : Request) (response : Response) : Type 0 where
+  pub most : ℕ
   pub input : List ℕ
   pub head : ResponseHead
   pub named : ResponseFraming
   pub after : List ℕ
-  pub came : AfterInterim request input (IsFinalHead request head named after)
+  pub came : AfterInterim request input (IsFinalHeadWithin most request head named after)
   pub code_is : response.code ≡ head.code
   pub reason_is : response.reason ≡ head.reason
   pub fields_are : response.fields ≡ head.fields

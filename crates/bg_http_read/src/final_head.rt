@@ -5,9 +5,9 @@ ghost use Rattle.bg_http.specs.ResponseRules.{asks_for_head};
 ghost use Rattle.bg_http.specs.declared.request.Request.{Request as RequestValue};
 ghost use Rattle.bg_http_read.specs.HeadEnds.{after_bytes, is_over};
 ghost use Rattle.bg_http_read.specs.Heads.{HeadIsCut, response_heads};
-ghost use Rattle.bg_http_read.specs.Responses.{AfterInterim, IsFinalHead, SkipsInterim, names_another};
+ghost use Rattle.bg_http_read.specs.Responses.{AfterInterim, IsFinalHeadWithin, SkipsInterim, names_another};
 ghost use Rattle.bg_http_read.specs.ResponsesFed.{IsReady};
-ghost use Rattle.bg_http_read.specs.ResponseStates.{IsRefused, is_of_stream};
+ghost use Rattle.bg_http_read.specs.ResponseStates.{HeadsAreRefused, is_of_stream};
 ghost use Rattle.bg_http_read.specs.declared.head_end.HeadEnd.TheVariants as head_end;
 
 use crate::head_end::HeadEnd;
@@ -85,11 +85,13 @@ impl HeadSearch {
     }
 
     /// Takes interim responses and the head after them from the front of the bytes, and judges it.
-    /// `to_head` says whether the method of the request is HEAD.
+    /// `to_head` says whether the method of the request is HEAD, and `most` is the most bytes that a
+    /// Content-Length may name.
     pub(crate) fn take_from(
         &mut self,
         alloc: Global,
         to_head: bool,
+        most: usize,
         bytes: &[u8],
     ) -> Result<HeadFound, ResponseFault>
         requires { IsReady self.old }
@@ -98,7 +100,7 @@ impl HeadSearch {
             → to_head ≡ asks_for_head request
             → SkipsInterim request self.old.interim seen bytes.now
             → IfOk result (λ found. IfSome found.head (λ at. AfterInterim request seen
-            (IsFinalHead request at.0 at.1 (drop found.taken bytes.now)))) }
+            (IsFinalHeadWithin most request at.0 at.1 (drop found.taken bytes.now)))) }
         ensures none_yet { (request : RequestValue) (seen : List ℕ)
             → to_head ≡ asks_for_head request
             → SkipsInterim request self.old.interim seen bytes.now
@@ -112,7 +114,7 @@ impl HeadSearch {
         ensures refused { (request : RequestValue) (seen : List ℕ)
             → to_head ≡ asks_for_head request
             → SkipsInterim request self.old.interim seen bytes.now
-            → IfErr result (λ fault. IsRefused request fault seen) }
+            → IfErr result (λ fault. HeadsAreRefused most request fault seen) }
         ensures fault { IfErr result (λ fault. IsFalse (is_of_stream fault)) }
     {
         let mut taken = 0;
@@ -124,7 +126,7 @@ impl HeadSearch {
                 return Ok(HeadFound { head: None, taken });
             };
             taken += count;
-            let framing = judge_response(to_head, &head)?;
+            let framing = judge_response(to_head, most, &head)?;
             if !names_another(framing) {
                 return Ok(HeadFound {
                     head: Some((head, framing)),

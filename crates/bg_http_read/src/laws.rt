@@ -5,13 +5,16 @@ ghost use Rattle.bg_http.specs.declared.body_end.BodyEnd.{BodyEnd};
 ghost use Rattle.bg_http.specs.declared.request.Request.{Request};
 ghost use Rattle.bg_http.specs.declared.request_fault.RequestFault.{RequestFault};
 ghost use Rattle.bg_http.specs.declared.response.Response.{Response};
+ghost use Rattle.bg_http.specs.declared.response.ResponseHead.{ResponseHead};
 ghost use Rattle.bg_http.specs.declared.response_fault.ResponseFault.{ResponseFault};
+ghost use Rattle.bg_http.specs.declared.response_rules.ResponseFraming.{ResponseFraming};
 ghost use Rattle.bg_http_read.specs.AnsweredRequests.{Answering, AreReadAsAnswered};
 ghost use Rattle.bg_http_read.specs.ForwardedRequests.{AreReadAsForwarded, Forwarding};
 ghost use Rattle.bg_http_read.specs.Laws.{HasOneFault, HasOneResponseFault, StaysAtFault};
 ghost use Rattle.bg_http_read.specs.Laws.{RequestExcludesFaults, ResponseExcludesFaults};
 ghost use Rattle.bg_http_read.specs.RequestStates.{FailsAsked};
 ghost use Rattle.bg_http_read.specs.Requests.{ReadsRequest, RequestFails};
+ghost use Rattle.bg_http_read.specs.ResponseHeads.{AreHeadsAlso};
 ghost use Rattle.bg_http_read.specs.Responses.{ReadsResponseThen};
 ghost use Rattle.bg_http_read.specs.Sequences.{AddsRequest, AddsResponse, AreRequestsOf, AreResponsesOf};
 ghost use Rattle.bg_http_read.specs.Sequences.{HasOneEnd, HasOneSequence, HasOneSequenceOfAnswers};
@@ -131,6 +134,14 @@ pub fn an_endpoint_reads_the_requests_that_were_forwarded()
 {
     bg_http::laws::only_one_length_goes_on();
 }
+
+/// Heads that are judged within one limit on the length of the body are judged so within every other
+/// one that their length keeps. So a response that was passed on under any limit is one that the
+/// parser of whole responses reads, if its body is within the limit of that parser.
+pub fn a_limit_refuses_only_a_longer_body()
+    ensures { (most other : ℕ) (request : Request) (input : List ℕ) (head : ResponseHead)
+        (named : ResponseFraming) → AreHeadsAlso most other request input head named }
+{}
 
 /// What is written of the head of a response before its body is whole (`write_response_head` of bg_http) is read, whatever
 /// follows, as exactly this head, and then what follows: with the fields that are kept, and with the field that tells how the body

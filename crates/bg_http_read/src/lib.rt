@@ -49,5 +49,6 @@ pub use request_step::RequestStep;
 pub use request_stream::RequestStream;
 pub use response_parser::ResponseParser;
 pub use response_read::read_response;
+pub use seen::Seen;
 pub use taken_heads::ResponseHeads;
 pub use trailers::{NoTrailers, find_trailers};

@@ -19,7 +19,7 @@ use crate::intake::behind;
 use crate::message_body::MessageBody;
 use crate::response_body::{ResponseBody, body_of_response};
 use crate::seen::Seen;
-use bg_http::{Duplex, Response, ResponseFault};
+use bg_http::{Duplex, MOST_RESPONSE_BODY, Response, ResponseFault};
 use std::alloc::Global;
 use std::mem;
 
@@ -151,7 +151,12 @@ impl ResponseProgress {
             (IsSeen self.new.stage (drop advance.taken bytes.now))) }
         ensures to_head { self.new.to_head ≡ self.old.to_head }
     {
-        let HeadFound { head, taken } = search.take_from(self.alloc, self.to_head, bytes)?;
+        let HeadFound { head, taken } = search.take_from(
+            self.alloc,
+            self.to_head,
+            MOST_RESPONSE_BODY,
+            bytes,
+        )?;
         let Some((head, framing)) = head else {
             self.stage = ResponseStage::Heads(search);
             return Ok(Advance {

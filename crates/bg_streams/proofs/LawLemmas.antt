@@ -8,8 +8,9 @@ use Rattle.bg_http.specs.declared.response.ResponseHead.{ResponseHead}
 use Rattle.bg_http.specs.declared.response_rules.ResponseFraming.{ResponseFraming}
 use Rattle.bg_http.specs.declared.response_rules.ResponseFraming.TheVariants as framing
 use Rattle.bg_http_read.specs.Bodies.{is_whole as whole_at}
+use Rattle.bg_http_read.specs.ResponseHeads.{AreHeadsAlso, FitsWithin}
 use Rattle.bg_http_read.specs.ResponseStates.{IsReadThen}
-use Rattle.bg_http_read.specs.Responses.{ReadsResponseBody, ReadsResponseThen, most_response_body, names_another, no_head}
+use Rattle.bg_http_read.specs.Responses.{ReadsResponseBody, ReadsResponseThen, most_response_body, names_another, no_head, no_heads}
 use Rattle.bg_http_read.specs.WrittenHeads.{HasHeadOf, IsJudgedInChunks, IsLengthOf, IsReadAsWritten}
 use Rattle.bg_http_read.specs.declared.body.BodyStage.{BodyStage}
 use Rattle.bg_relay.specs.Framings.{ReadsBody}
@@ -93,6 +94,7 @@ gives_no_body law = always GivesNoBody (λ terms passing request input written h
 head_of : (terms : StreamTerms) (passing : Passing) (request : Request) (input written : List ℕ)
     → Answers terms passing request input written → HasHeadOf request passing.response
 head_of terms passing request input written h = record {
+  most = terms.most_body;
   input = h.heads ++ h.came;
   head = h.head;
   named = passing.framing;
@@ -145,14 +147,31 @@ body_is_read framing.Chunks came more body last tells fits h = (h.0, fits)
 body_is_read (framing.Length size) came more body last tells fits h = h
 body_is_read framing.ToTheEnd came more body last tells fits h = cc
 
+-- a length that is the one of the body
+length_fits : (named : ResponseFraming) (came body : List ℕ) → length body ≤ most_response_body
+    → IfItEnds (incoming named) (ReadsBody (incoming named) (came ++ []) body []) → FitsWithin most_response_body named
+length_fits framing.Interim came body fits h = tt
+length_fits framing.NoBody came body fits h = tt
+length_fits framing.Chunks came body fits h = tt
+length_fits (framing.Length size) came body fits h = omega (arith, fits, h.0)
+length_fits framing.ToTheEnd came body fits h = tt
+
+-- what is said of heads within two limits
+abbrev HeadsLaw : Type 0
+HeadsLaw =
+    (most other : ℕ) (request : Request) (input : List ℕ) (head : ResponseHead) (named : ResponseFraming)
+    → AreHeadsAlso most other request input head named
+
 -- a response is read as its whole, whatever follows
-is_read : (terms : StreamTerms) (passing : Passing) (request : Request) (input written body : List ℕ)
+is_read : HeadsLaw → (terms : StreamTerms) (passing : Passing) (request : Request) (input written body : List ℕ)
     → (h : Answers terms passing request input written) → tells_end passing.framing ≡ true
     → IsBody passing.relay.incoming h.came body → length body ≤ most_response_body
     → IsReadThen request (whole_response passing.framing h.head body) input []
-is_read terms passing request input written body h tells is fits more =
-    let begins = h.are_heads (h.came ++ more) in
-    let whole = subst (λ named. IfItEnds named (ReadsBody named (h.came ++ more) body more)) h.incoming_is (is.ends more) in
+is_read also terms passing request input written body h tells is fits more =
+    let whole : (more : List ℕ) → IfItEnds (incoming passing.framing) (ReadsBody (incoming passing.framing) (h.came ++ more) body more) =
+    λ more. subst (λ named. IfItEnds named (ReadsBody named (h.came ++ more) body more)) h.incoming_is (is.ends more) in
+    let begins = also terms.most_body most_response_body request h.heads h.head passing.framing h.are_heads
+    (length_fits passing.framing h.came body fits (whole [])) (h.came ++ more) in
     let same : input ++ more ≡ h.heads ++ (h.came ++ more) =
     ap (λ l. l ++ more) h.input_is ∙ append_assoc h.heads h.came more in
     subst (λ l. ReadsResponseThen request l (whole_response passing.framing h.head body) more) (sym same) (record {
@@ -166,7 +185,7 @@ is_read terms passing request input written body h tells is fits more =
         h.came ++ more,
         begins.holds,
         record {
-          body = body_is_read passing.framing h.came more body begins.holds.1 tells fits whole;
+          body = body_is_read passing.framing h.came more body begins.holds.1 tells fits (whole more);
           code_is = refl;
           reason_is = refl;
           fields_are = refl;
@@ -182,14 +201,14 @@ drained_parts true false e = cc
 drained_parts false whole e = cc
 
 pub is_drained_answer : ((relay : RelayState) (input written : List ℕ) → PassesWhole relay input written)
-    → Always IsDrainedAnswer
-is_drained_answer law = always IsDrainedAnswer (λ terms passing request input written h drained.
+    → HeadsLaw → Always IsDrainedAnswer
+is_drained_answer law also = always IsDrainedAnswer (λ terms passing request input written h drained.
     let parts = drained_parts (tells_end passing.framing) (whole_at passing.relay.stage) drained in
     let bodies = law passing.relay h.came h.delivers.output h.delivers.stands parts.1 in (
       h.head,
       bodies.0,
       h.said,
-      λ fits. is_read terms passing request input written bodies.0 h parts.0 bodies.1 fits,
+      λ fits. is_read also terms passing request input written bodies.0 h parts.0 bodies.1 fits,
     ))
 
 -- ---- what waits, and an input that ends too early
@@ -203,10 +222,10 @@ pub closed_in_head : (relay : ResponseRelay) (request : Request) (input written 
     → IsClosedInHead relay request input written bytes
 closed_in_head relay request input written bytes stands none cut =
     let taken = subst (λ p. StandsWith relay.terms relay.heads p request input written) none stands in
-    no_head (record {
+    no_heads (no_head (record {
       count = relay.heads.interim;
-      few = taken.0.few;
+      few = taken.1.few;
       after = bytes;
-      skips = taken.0.skips bytes;
+      skips = taken.1.skips bytes;
       holds = cut;
-    })
+    }))

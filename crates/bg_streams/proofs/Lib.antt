@@ -1,3 +1,4 @@
 pub mod LawLemmas
 pub mod PassingLemmas
 pub mod ResponseLemmas
+pub mod StreamLemmas

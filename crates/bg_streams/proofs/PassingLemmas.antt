@@ -1,5 +1,5 @@
 -- A response whose head came, as it is passed on.
-use Rattle.std.proofs.Common.{◌≡◌, ℕ, ◌+◌, ◌<◌, Bool, true, false, IsFalse, IsTrue, List, [], ◌∷◌, ◌++◌, length, take, drop, refl, ap, ap₂, sym, ◌∙◌, append_assoc, arith, subst, if◌then◌else◌, take-append-drop, Some, Result, Err}
+use Rattle.std.proofs.Common.{◌≡◌, ℕ, ◌+◌, ◌<◌, zero, suc, Bool, true, false, IsFalse, IsTrue, List, [], ◌∷◌, ◌++◌, length, take, drop, refl, ap, ap₂, sym, ◌∙◌, append_assoc, arith, subst, if◌then◌else◌, take-append-drop, Some, Result, Err}
 use Rattle.std.proofs.lemmas.List.{append-nil, drop-drop}
 use Rattle.bg_http.specs.Codings.{is_empty}
 use Rattle.bg_http_read.specs.Bodies.{can_end}
@@ -22,6 +22,7 @@ starts passing kept none text stands = record {
   text_is = ap (λ n. drop n passing.head.items) none ∙ text ∙ sym (append-nil _);
   stands = stands;
   begins = λ sent. refl;
+  begun = λ empty. none;
 }
 
 -- ---- bytes were written
@@ -30,6 +31,21 @@ starts passing kept none text stands = record {
 no_rest : (bytes : List ℕ) → length bytes ≡ 0 → bytes ≡ []
 no_rest [] none = refl
 no_rest (byte ∷ bytes) none = absurd (omega (arith, none))
+
+-- a front of no bytes has none
+pub no_front : (front behind : List ℕ) → front ++ behind ≡ [] → front ≡ []
+no_front [] behind none = refl
+no_front (byte ∷ front) behind none = cc
+
+pub no_behind : (front behind : List ℕ) → front ++ behind ≡ [] → behind ≡ []
+no_behind [] behind none = none
+no_behind (byte ∷ front) behind none = cc
+
+-- no bytes are taken of some
+none_taken : (count : ℕ) (bytes : List ℕ) → 0 < length bytes → take count bytes ≡ [] → count ≡ 0
+none_taken count [] some none = absurd (omega (arith, some))
+none_taken zero (byte ∷ bytes) some none = refl
+none_taken (suc count) (byte ∷ bytes) some none = cc
 
 -- the text of a head has a first byte
 has_text : (kept : Bool) (named : Framing) (response : Response) (output : List ℕ)
@@ -69,15 +85,16 @@ body_written old relay count none outgoing stands kept came written d =
           (sym outgoing) whole;
       stands = stands came d.output d.stands;
       begins = λ sent. absurd (has_text kept old.relay.outgoing old.response d.output (sym (d.begins sent) ∙ all));
+      begun = λ none. d.begun (no_front written more none);
     })
 
 -- bytes of the head were written
 head_written : (old : Passing) (sent count : ℕ) → 0 < length (head_rest old)
-    → (sent ≡ 0 → (old.sent ≡ 0) × (count ≡ 0))
+    → (sent ≡ 0 → (old.sent ≡ 0) × (count ≡ 0)) → (old.sent ≡ 0 → count ≡ 0 → sent ≡ 0)
     → take count (head_rest old) ++ drop sent old.head.items ≡ head_rest old
     → (kept : Bool) (came written : List ℕ) → Delivers old kept came written
     → Delivers (record old { sent = sent }) kept came (written ++ take count (rest_of old))
-head_written old sent count some first whole kept came written d =
+head_written old sent count some first last whole kept came written d =
     subst (λ l. Delivers (record old { sent = sent }) kept came (written ++ take count l)) (sym (rest_of_head old some))
     (record {
       output = d.output;
@@ -85,6 +102,9 @@ head_written old sent count some first whole kept came written d =
           ∙ ap (λ l. written ++ l) whole ∙ d.text_is;
       stands = d.stands;
       begins = λ none. nothing (first none);
+      begun = λ none.
+          last (d.begun (no_front written (take count (head_rest old)) none))
+          (none_taken count (head_rest old) some (no_behind written (take count (head_rest old)) none));
     })
   where
     nothing : (old.sent ≡ 0) × (count ≡ 0) → written ++ take count (head_rest old) ≡ []
@@ -96,6 +116,7 @@ pub part_written : (old : Passing) (sent count : ℕ) → 0 < length (head_rest 
     → Delivers (record old { sent = sent }) kept came (written ++ take count (rest_of old))
 part_written old sent count some moved =
     head_written old sent count some (λ none. (omega (arith, none, moved), omega (arith, none, moved)))
+    (λ start none. moved ∙ omega (arith, start, none))
     (ap (λ n. take count (head_rest old) ++ drop n old.head.items) moved
     ∙ ap (λ l. take count (head_rest old) ++ l) (sym (drop-drop count old.sent old.head.items))
     ∙ take-append-drop count (head_rest old))

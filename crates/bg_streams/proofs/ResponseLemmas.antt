@@ -13,7 +13,7 @@ use Rattle.bg_http_read.specs.BodyFaults.{Failure, malformed}
 use Rattle.bg_http_read.specs.Heads.{HeadIsCut, response_heads}
 use Rattle.bg_http_read.specs.ResponseHeads.{AreHeads, HasTaken, HeadsState}
 use Rattle.bg_http_read.specs.Responses.{no_head}
-use Rattle.bg_http_read.specs.ResponseStates.{IsRefused}
+use Rattle.bg_http_read.specs.ResponseStates.{HeadsAreRefused}
 use Rattle.bg_relay.specs.Laws.{FailsBody, FailsWhole}
 use Rattle.bg_relay.specs.Relays.{IsFaultAt, RelayState}
 use Rattle.bg_relay.specs.declared.relay_fault.RelayFault.{RelayFault}
@@ -33,14 +33,14 @@ use Rattle.bg_streams.specs.declared.stream_terms.StreamTerms.{StreamTerms}
 
 -- the head of the response came
 head_came : (terms : StreamTerms) (passing : Passing) (head : ResponseHead) (named : ResponseFraming) (request : Request)
-    (input written : List ℕ) → Starts terms head named passing → AreHeads request input head named → written ≡ []
+    (input written : List ℕ) → Starts terms head named passing → AreHeads terms.most_body request input head named → written ≡ []
     → Answers terms passing request input written
 head_came terms passing head named request input written starts heads none = record {
   head = head;
   heads = input;
   came = [];
   input_is = sym (append-nil input);
-  are_heads = subst (AreHeads request input head) (sym starts.framing_is) heads;
+  are_heads = subst (AreHeads terms.most_body request input head) (sym starts.framing_is) heads;
   said = subst (λ n. IsStreamed n head passing.response) (sym starts.framing_is) starts.said;
   incoming_is = starts.incoming_is ∙ ap incoming (sym starts.framing_is);
   outgoing_is = starts.outgoing_is ∙ ap (outgoing terms.reads_chunks) (sym starts.framing_is);
@@ -57,7 +57,7 @@ body_came terms old new taken same delivers request input written h = record {
   heads = h.heads;
   came = h.came ++ taken;
   input_is = ap (λ l. l ++ taken) h.input_is ∙ append_assoc h.heads h.came taken;
-  are_heads = subst (AreHeads request h.heads h.head) (sym same.framing) h.are_heads;
+  are_heads = subst (AreHeads terms.most_body request h.heads h.head) (sym same.framing) h.are_heads;
   said = subst (λ n. IsStreamed n h.head new.response) (sym same.framing)
       (subst (IsStreamed old.framing h.head) (sym same.response) h.said);
   incoming_is = same.sides.incoming ∙ h.incoming_is ∙ ap incoming (sym same.framing);
@@ -69,26 +69,30 @@ body_came terms old new taken same delivers request input written h = record {
 -- ---- the heads
 
 in_heads : (old : ResponseRelay) (request : Request) (input written : List ℕ) → old.passing ≡ None
-    → StandsFor old request input written → HasTaken old.heads request input × (written ≡ [])
+    → StandsFor old request input written
+    → (old.heads.most ≡ old.terms.most_body) × HasTaken old.heads request input × (written ≡ [])
 in_heads old request input written is stands =
     subst (λ p. StandsWith old.terms old.heads p request input written) is stands
 
 -- the head of the response was taken
 pub head_passes : (old : ResponseRelay) (heads : HeadsState) (passing : Passing) (head : ResponseHead) (named : ResponseFraming)
     (taken : List ℕ) → old.passing ≡ None → Starts old.terms head named passing
-    → ((request : Request) (input : List ℕ) → HasTaken old.heads request input → AreHeads request (input ++ taken) head named)
+    → ((request : Request) (input : List ℕ) → HasTaken old.heads request input
+    → AreHeads old.heads.most request (input ++ taken) head named)
     → PassesOn old (record old { heads = heads; passing = Some passing }) taken
 head_passes old heads passing head named taken is starts found request input written stands =
     let before = in_heads old request input written is stands in
-    head_came old.terms passing head named request (input ++ taken) written starts (found request input before.0) before.1
+    head_came old.terms passing head named request (input ++ taken) written starts
+    (subst (λ most. AreHeads most request (input ++ taken) head named) before.0 (found request input before.1)) before.2
 
 -- the client is refused for a head
 pub head_refuses : (old : ResponseRelay) (bytes : List ℕ) (fault : ResponseFault) → old.passing ≡ None
-    → ((request : Request) (input : List ℕ) → HasTaken old.heads request input → IsRefused request fault (input ++ bytes))
+    → ((request : Request) (input : List ℕ) → HasTaken old.heads request input
+    → HeadsAreRefused old.heads.most request fault (input ++ bytes))
     → Refuses old bytes fault
 head_refuses old bytes fault is refused request input written stands =
     let before = in_heads old request input written is stands in
-    (inl (refused request input before.0), before.1)
+    (inl (subst (λ most. HeadsAreRefused most request fault (input ++ bytes)) before.0 (refused request input before.1)), before.2)
 
 -- ---- bytes that were taken
 
@@ -162,17 +166,20 @@ all_bytes input bytes count =
     append_assoc input (take count bytes) (drop count bytes) ∙ ap (λ l. input ++ l) (take-append-drop count bytes)
 
 -- nothing is said of an allocation
-memory_refuses : (request : Request) (input : List ℕ) → IsRefused request response.OutOfMemory input
-memory_refuses request input more =
+pub memory_refuses : (most : ℕ) (request : Request) (input : List ℕ) → HeadsAreRefused most request response.OutOfMemory input
+memory_refuses most request input more =
     no_head (record { count = 0; few = omega arith; after = input ++ more; skips = refl; holds = tt })
 
 -- the bytes behind those that were taken have this fault
 pub fails_behind : (old mid new : ResponseRelay) (bytes : List ℕ) (first : ℕ) (named : StreamFault) → first ≤ length bytes
-    → PassesOn old mid (take first bytes) → FailsBy mid new (drop first bytes) named → FailsBy old new bytes named
-fails_behind old mid new bytes first (stream.Refused fault) fits passes fails = λ request input written stands.
+    → mid.terms ≡ old.terms → PassesOn old mid (take first bytes) → FailsBy mid new (drop first bytes) named → FailsBy old new bytes named
+fails_behind old mid new bytes first (stream.Refused fault) fits same passes fails = λ request input written stands.
     let refused = fails request (input ++ take first bytes) written (passes request input written stands) in
-    (subst (λ l. IsRefusedFor request l fault) (all_bytes input bytes first) refused.0, refused.1)
-fails_behind old mid new bytes first (stream.Cut fault) fits passes fails = record {
+    let here = subst (λ terms. IsRefusedFor terms.most_body request ((input ++ take first bytes) ++ drop first bytes) fault) same refused.0 in
+    (subst (λ l. IsRefusedFor old.terms.most_body request l fault) (all_bytes input bytes first) here, refused.1)
+fails_behind old mid new bytes first (stream.Cut fault) fits same passes fails = record {
+  begun = λ request input written stands.
+      fails.begun request (input ++ take first bytes) written (passes request input written stands);
   taken = first + fails.taken;
   fits = omega (arith, fits, fails.fits, length-drop first bytes);
   stands = passes_both old mid new bytes first fails.taken passes fails.stands;
@@ -185,7 +192,7 @@ body_refused : ((relay : RelayState) (input written bytes : List ℕ) (failure :
     → (terms : StreamTerms) (old new : Passing) (bytes : List ℕ) (taken : ℕ) (fault : RelayFault) → KeepsHead old new
     → DeliversOn old new (take taken bytes) → IsFaultAt fault new.relay.stage (drop taken bytes)
     → (request : Request) (input written : List ℕ) → Answers terms old request input written
-    → IsRefusedFor request (input ++ bytes) (refusal fault)
+    → IsRefusedFor terms.most_body request (input ++ bytes) (refusal fault)
 body_refused law terms old new bytes taken relay_fault.Malformed same delivers fails request input written h =
     let begins = h.are_heads (h.came ++ bytes) in
     let after = delivers (keeps terms.persistence) h.came written h.delivers in
@@ -196,7 +203,7 @@ body_refused law terms old new bytes taken relay_fault.Malformed same delivers f
     (subst (λ n. FailsBody malformed n ((h.came ++ take taken bytes) ++ drop taken bytes)) side whole) in
     let input_is : input ++ bytes ≡ h.heads ++ (h.came ++ bytes) =
     ap (λ l. l ++ bytes) h.input_is ∙ append_assoc h.heads h.came bytes in
-    inr (subst (λ l. IsRefusedAtBody request l response.Bad) (sym input_is) (record {
+    inr (subst (λ l. IsRefusedAtBody terms.most_body request l response.Bad) (sym input_is) (record {
       count = begins.count;
       few = begins.few;
       after = begins.after;
@@ -205,7 +212,7 @@ body_refused law terms old new bytes taken relay_fault.Malformed same delivers f
     }))
 body_refused law terms old new bytes taken relay_fault.Cut same delivers fails request input written h = absurd fails
 body_refused law terms old new bytes taken relay_fault.OutOfMemory same delivers fails request input written h =
-    inl (memory_refuses request (input ++ bytes))
+    inl (memory_refuses terms.most_body request (input ++ bytes))
 
 -- a relay that was broken off
 broken_off : ((relay : RelayState) (input written bytes : List ℕ) (failure : Failure) → FailsWhole relay input written bytes failure)
@@ -219,9 +226,14 @@ broken_off law old passing new bytes named is none same broken =
     unsent : nat_lt 0 passing.sent ≡ false → passing.sent ≡ 0
     unsent e = grind (arith, nat_tests)
 
+    some_sent : nat_lt 0 passing.sent ≡ true → passing.sent ≡ 0 → ⊥
+    some_sent e none = grind (arith, nat_tests)
+
     by_test : (t : Bool) → nat_lt 0 passing.sent ≡ t
         → FailsBy old (record old { passing = Some new }) bytes (body_fault t broken.fault)
     by_test true e = record {
+      begun = λ request input written stands none.
+          some_sent e ((in_body old passing request input written is stands).delivers.begun none);
       taken = broken.taken;
       fits = broken.fits;
       stands = body_passes old passing new (take broken.taken bytes) is same broken.delivers;

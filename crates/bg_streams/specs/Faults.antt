@@ -13,6 +13,11 @@ refusal relay.Malformed = response.Bad
 refusal relay.Cut = response.Closed
 refusal relay.OutOfMemory = response.OutOfMemory
 
+-- why the response is not passed on to its end, as a fault of the response
+abbrev pub response_fault : StreamFault → ResponseFault
+response_fault (stream.Refused fault) = fault
+response_fault (stream.Cut fault) = refusal fault
+
 -- a refusal, unless bytes were written to the client
 abbrev pub body_fault : Bool → RelayFault → StreamFault
 body_fault is_begun fault = if is_begun then stream.Cut fault else stream.Refused (refusal fault)

@@ -19,7 +19,7 @@ use Rattle.bg_relay.specs.Laws.{BeginsBodies, IsBody, IsNoBody}
 use Rattle.bg_relay.specs.Relays.{Passes}
 use Rattle.bg_streams.specs.Framings.{body_end, incoming, keeps_after, outgoing}
 use Rattle.bg_streams.specs.HeadTexts.{IsStreamed, head_text}
-use Rattle.bg_streams.specs.Passings.{head_rest}
+use Rattle.bg_streams.specs.Passings.{whole_rest}
 use Rattle.bg_streams.specs.ResponseRelays.{StandsFor, WaitsFor, is_drained}
 use Rattle.bg_streams.specs.declared.passing.Passing.{Passing}
 use Rattle.bg_streams.specs.declared.response_relay.ResponseRelay.{ResponseRelay}
@@ -43,11 +43,11 @@ pub record IsAnswer
   pub head : ResponseHead
   pub heads : List ℕ
   pub input_is : input ≡ heads ++ came
-  pub are_heads : AreHeads request heads head passing.framing
+  pub are_heads : AreHeads terms.most_body request heads head passing.framing
   pub said : IsStreamed passing.framing head passing.response
   pub incoming_is : passing.relay.incoming ≡ incoming passing.framing
   pub outgoing_is : passing.relay.outgoing ≡ outgoing terms.reads_chunks passing.framing
-  pub output_is : written ++ (head_rest passing ++ passing.relay.rest)
+  pub output_is : written ++ whole_rest passing
       ≡ head_text (keeps terms.persistence) passing.relay.outgoing passing.response ++ output
 
 -- what a client gets is the text of the head, and then a front of the body

@@ -4,3 +4,4 @@ pub mod HeadTexts
 pub mod Laws
 pub mod Passings
 pub mod ResponseRelays
+pub mod ResponseStreams

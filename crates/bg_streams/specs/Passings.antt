@@ -24,17 +24,22 @@ head_rest passing = drop passing.sent passing.head.items
 abbrev pub rest_of : Passing → List ℕ
 rest_of passing = if is_empty (head_rest passing) then passing.relay.rest else head_rest passing
 
+-- what is left to be written: of the head, and then of the body
+abbrev pub whole_rest : Passing → List ℕ
+whole_rest passing = head_rest passing ++ passing.relay.rest
+
 -- what is held of the body is within the window and the framing of the last piece
 abbrev pub IsWithin : Passing → Type 0
 IsWithin passing = length passing.relay.rest ≤ passing.relay.window + 25
 
--- behind the head these bytes came, and these were written: the text of the head, and then what stands for the bytes that came. If no
--- byte of that text was written, none was written
+-- behind the head these bytes came, and these were written: the text of the head, and then what stands for the bytes that came. No
+-- byte of that text was written exactly if none was written
 pub record Delivers (passing : Passing) (kept : Bool) (came written : List ℕ) : Type 0 where
   pub output : List ℕ
   pub text_is : written ++ head_rest passing ≡ head_text kept passing.relay.outgoing passing.response ++ output
   pub stands : StandsFor passing.relay came output
   pub begins : passing.sent ≡ 0 → written ≡ []
+  pub begun : written ≡ [] → passing.sent ≡ 0
 
 -- what was written for the bytes that came is the same for these bytes more
 abbrev pub DeliversOn : Passing → Passing → List ℕ → Type 0

@@ -1,5 +1,5 @@
 -- The response of an endpoint that is passed on, and what stands for what was read and written.
-use Rattle.std.specs.Prelude.{◌≡◌, ◌⊎◌, ℕ, ◌≤◌, Bool, true, false, ◌&&◌, IsFalse, List, [], ◌++◌, drop, length, take, Option, None, Some, is_none, ⊤}
+use Rattle.std.specs.Prelude.{◌≡◌, ◌≢◌, ◌⊎◌, ℕ, ◌≤◌, Bool, true, false, ◌&&◌, IsFalse, List, [], ◌++◌, drop, length, take, Option, None, Some, is_none, ⊤}
 use Rattle.bg_http.specs.Codings.{is_empty}
 use Rattle.bg_http.specs.Persistences.{keeps}
 use Rattle.bg_http.specs.declared.request.Request.{Request}
@@ -12,15 +12,15 @@ use Rattle.bg_http_read.specs.Bodies.{can_end as ends_at, is_whole as whole_at}
 use Rattle.bg_http_read.specs.BodyFaults.{cut, malformed}
 use Rattle.bg_http_read.specs.Heads.{HeadIsCut, response_heads}
 use Rattle.bg_http_read.specs.ResponseHeads.{AreHeads, HasTaken, HeadsState}
-use Rattle.bg_http_read.specs.Responses.{AfterInterim, FinalHeadThen}
-use Rattle.bg_http_read.specs.ResponseStates.{IsRefused}
+use Rattle.bg_http_read.specs.Responses.{AfterInterim, FinalHeadThenWithin}
+use Rattle.bg_http_read.specs.ResponseStates.{HeadsAreRefused}
 use Rattle.bg_relay.specs.Laws.{FailsBody}
 use Rattle.bg_relay.specs.Relays.{IsFaultAt, WaitsFor as BodyWaitsFor, wants_input as body_wants_input}
 use Rattle.bg_relay.specs.declared.framing.Framing.{Framing}
 use Rattle.bg_relay.specs.declared.relay_fault.RelayFault.{RelayFault}
-use Rattle.bg_streams.specs.Framings.{incoming, outgoing, tells_end}
+use Rattle.bg_streams.specs.Framings.{incoming, keeps_after, outgoing, tells_end}
 use Rattle.bg_streams.specs.HeadTexts.{IsStreamed}
-use Rattle.bg_streams.specs.Passings.{Delivers, cut_of as passing_cut, memory_of as passing_memory, rest_of as passing_rest}
+use Rattle.bg_streams.specs.Passings.{Delivers, cut_of as passing_cut, memory_of as passing_memory, rest_of as passing_rest, whole_rest as passing_whole}
 use Rattle.bg_streams.specs.declared.passing.Passing.{Passing}
 use Rattle.bg_streams.specs.declared.response_relay.ResponseRelay.{ResponseRelay}
 use Rattle.bg_streams.specs.declared.stream_fault.StreamFault.{StreamFault}
@@ -29,7 +29,7 @@ use Rattle.bg_streams.specs.declared.stream_terms.StreamTerms.{StreamTerms}
 
 -- ---- what a relay says
 
--- what is known of the client
+-- what is known of the client, and the limits
 abbrev pub terms_of : ResponseRelay → StreamTerms
 terms_of relay = relay.terms
 
@@ -60,6 +60,13 @@ abbrev pub framing_of : Option Passing → Option ResponseFraming
 framing_of None = None
 framing_of (Some passing) = Some passing.framing
 
+-- the head that is written keeps the connection of the client, once the head of the response came: never before a body that goes to
+-- the end of that connection
+abbrev pub keeps_of : StreamTerms → Option Passing → Option Bool
+keeps_of terms None = None
+keeps_of terms (Some passing) =
+    Some (keeps_after (outgoing terms.reads_chunks passing.framing) (keeps terms.persistence))
+
 -- all of the response was taken
 abbrev pub is_whole : Option Passing → Bool
 is_whole None = false
@@ -82,6 +89,11 @@ wants_input relay = is_none relay.refusal && takes_more relay.passing
 abbrev pub rest_of : Option Passing → List ℕ
 rest_of None = []
 rest_of (Some passing) = passing_rest passing
+
+-- all that is left to be written of what was taken
+abbrev pub whole_rest : Option Passing → List ℕ
+whole_rest None = []
+whole_rest (Some passing) = passing_whole passing
 
 -- the response may end at the end of the input
 abbrev pub can_end : Option Passing → Bool
@@ -106,7 +118,7 @@ pub record Answers (terms : StreamTerms) (passing : Passing) (request : Request)
   pub heads : List ℕ
   pub came : List ℕ
   pub input_is : input ≡ heads ++ came
-  pub are_heads : AreHeads request heads head passing.framing
+  pub are_heads : AreHeads terms.most_body request heads head passing.framing
   pub said : IsStreamed passing.framing head passing.response
   pub incoming_is : passing.relay.incoming ≡ incoming passing.framing
   pub outgoing_is : passing.relay.outgoing ≡ outgoing terms.reads_chunks passing.framing
@@ -115,7 +127,8 @@ pub record Answers (terms : StreamTerms) (passing : Passing) (request : Request)
 
 -- before the head of the response is whole, only interim responses were taken, and nothing was written
 abbrev pub StandsWith : StreamTerms → HeadsState → Option Passing → Request → List ℕ → List ℕ → Type 0
-StandsWith terms heads None request input written = HasTaken heads request input × (written ≡ [])
+StandsWith terms heads None request input written =
+    (heads.most ≡ terms.most_body) × HasTaken heads request input × (written ≡ [])
 StandsWith terms heads (Some passing) request input written = Answers terms passing request input written
 
 -- the relay stands for this input of the response to the request, and for this output that was written
@@ -142,28 +155,33 @@ BodyFailsBy response.Closed named came = FailsBody cut named came
 BodyFailsBy response.OutOfMemory named came = ⊤
 BodyFailsBy other named came = ⊥
 
--- the input is the heads of a response, and then bytes of a body that has this fault
-abbrev pub IsRefusedAtBody : Request → List ℕ → ResponseFault → Type 0
-IsRefusedAtBody request input fault =
-    AfterInterim request input (FinalHeadThen request (λ named came. BodyFailsBy fault (incoming named) came))
+-- the input is the heads of a response, judged within a limit, and then bytes of a body that has this fault
+abbrev pub IsRefusedAtBody : ℕ → Request → List ℕ → ResponseFault → Type 0
+IsRefusedAtBody most request input fault =
+    AfterInterim request input (FinalHeadThenWithin most request (λ named came. BodyFailsBy fault (incoming named) came))
 
--- the response is refused for its head, whatever follows, or for its body
-abbrev pub IsRefusedFor : Request → List ℕ → ResponseFault → Type 0
-IsRefusedFor request input fault = IsRefused request fault input ⊎ IsRefusedAtBody request input fault
+-- the response is refused for its heads, judged within a limit, whatever follows, or for its body
+abbrev pub IsRefusedFor : ℕ → Request → List ℕ → ResponseFault → Type 0
+IsRefusedFor most request input fault = HeadsAreRefused most request fault input ⊎ IsRefusedAtBody most request input fault
 
 -- the client is refused for these bytes: nothing was written
 abbrev pub Refuses : ResponseRelay → List ℕ → ResponseFault → Type 0
 Refuses old bytes fault =
     (request : Request) (input written : List ℕ) → StandsFor old request input written
-    → IsRefusedFor request (input ++ bytes) fault × (written ≡ [])
+    → IsRefusedFor old.terms.most_body request (input ++ bytes) fault × (written ≡ [])
 
 abbrev pub IsFaultOf : RelayFault → Option Passing → List ℕ → Type 0
 IsFaultOf fault None bytes = ⊥
 IsFaultOf fault (Some passing) bytes =
     IsFalse (whole_at passing.relay.stage) × IsFaultAt fault passing.relay.stage bytes
 
--- the first of the bytes were taken, and those behind them have this fault
+-- a byte was written
+abbrev pub HasBegun : ResponseRelay → Type 0
+HasBegun relay = (request : Request) (input written : List ℕ) → StandsFor relay request input written → written ≢ []
+
+-- a byte was written before, the first of the bytes were taken, and those behind them have this fault
 pub record IsCutBehind (old new : ResponseRelay) (bytes : List ℕ) (fault : RelayFault) : Type 0 where
+  pub begun : HasBegun old
   pub taken : ℕ
   pub fits : taken ≤ length bytes
   pub stands : PassesOn old new (take taken bytes)

@@ -46,6 +46,7 @@ pub fn a_drained_connection_carried_the_response()
     ensures { Always IsDrainedAnswer }
 {
     bg_relay::laws::a_whole_body_is_passed_on();
+    bg_http_read::laws::a_limit_refuses_only_a_longer_body();
 }
 
 /// If there is room, fewer than 16,384 bytes are not taken. So a buffer of 16,384 bytes is enough to feed a relay.

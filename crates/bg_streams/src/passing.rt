@@ -12,7 +12,7 @@ use crate::stream_fault::{StreamFault, body_fault};
 use crate::stream_terms::StreamTerms;
 use bg_http::{Response, ResponseFraming, ResponseHead};
 use bg_relay::{Relay, RelayFault};
-use std::alloc::Global;
+use std::alloc::{AllocError, Global};
 use std::io;
 
 /// A response whose head came, as it is passed on: the text of its head, and then its body.
@@ -99,6 +99,26 @@ impl Passing {
         } else {
             self.sent += count;
         }
+    }
+
+    /// All that is left to be written. The only error is an allocation failure.
+    pub(crate) fn into_rest(self) -> Result<Vec<u8>, AllocError>
+        ensures { IfOk result (λ rest. rest.items ≡ spec.whole_rest self) }
+    {
+        let Passing {
+            response: _,
+            framing: _,
+            head: mut rest,
+            sent,
+            relay,
+        } = self;
+        if sent < rest.len() {
+            rest.drain(..sent);
+        } else {
+            rest.clear();
+        }
+        rest.extend_from_slice(relay.rest())?;
+        Ok(rest)
     }
 
     /// Takes bytes of the body, and gives their number, as [`Relay::feed`] does.

@@ -1,7 +1,8 @@
 //! The response of an endpoint that is passed on as it comes.
 ghost use Rattle.std.specs.Prelude.{◌≡◌, ◌≤◌, ◌++◌, [], List, ℕ, IfErr, IfNone, IfOk, IfSome, IsFalse, IsTrue, OnOk, drop, length, take};
 ghost use Rattle.std.specs.Prelude.{Err, None, Ok, Some};
-ghost use Rattle.std.specs.Option.{option_copied};
+ghost use Rattle.std.specs.Option.{option_copied, option_map};
+ghost use Rattle.bg_http.specs.Persistences.{keeps};
 ghost use Rattle.bg_http.specs.declared.request.Request.{Request as RequestValue};
 ghost use Rattle.bg_http_read.specs.Heads.{HeadIsCut, response_heads};
 ghost use Rattle.bg_streams.specs.Passings.{IsWithin};
@@ -9,13 +10,13 @@ ghost use Rattle.bg_streams.specs.ResponseRelays as spec;
 ghost use Rattle.bg_streams.specs.ResponseRelays.{EndsBy, FailsBy, IsRefusal, PassesOn, StandsFor, WaitsFor, WritesNoMore};
 ghost use Rattle.bg_streams.specs.ResponseRelays.{passing_of, terms_of};
 
-use crate::framings::tells_end;
+use crate::framings::{persistence_after, sides, tells_end};
 use crate::passing::Passing;
 use crate::stream_fault::StreamFault;
 use crate::stream_terms::StreamTerms;
-use bg_http::{Request, Response, ResponseFault, ResponseFraming};
+use bg_http::{Persistence, Request, Response, ResponseFault, ResponseFraming};
 use bg_http_read::{HeadFound, ResponseHeads};
-use std::alloc::Global;
+use std::alloc::{AllocError, Global};
 
 /// The response of an endpoint to a request, which is passed on as it comes: its head once it is whole, and then its body. It has
 /// no socket: its caller feeds it what the endpoint sent, writes what it gives to the client, and tells both.
@@ -60,7 +61,7 @@ impl ResponseRelay {
         ResponseRelay {
             alloc,
             terms,
-            heads: ResponseHeads::new(alloc, request),
+            heads: ResponseHeads::new(alloc, request, terms.most_body),
             passing: None,
             refusal: None,
         }
@@ -83,6 +84,20 @@ impl ResponseRelay {
     {
         match &self.passing {
             Some(passing) => Some(passing.framing),
+            None => None,
+        }
+    }
+
+    /// Whether the connection of the client is kept after the response, as the head that is written says, once the head came and
+    /// unless the client is refused. It is closed after a body that goes to its end.
+    pub fn persistence(&self) -> Option<Persistence>
+        ensures { option_map keeps result ≡ spec.keeps_of (terms_of self.now) (passing_of self.now) }
+    {
+        match &self.passing {
+            Some(passing) => {
+                let outgoing = sides(self.terms.reads_chunks, passing.framing).outgoing();
+                Some(persistence_after(outgoing, self.terms.persistence))
+            }
             None => None,
         }
     }
@@ -151,6 +166,24 @@ impl ResponseRelay {
         }
     }
 
+    /// All that is left to be written to the client: of the head, and then of the body that was taken. The only error is an allocation
+    /// failure.
+    pub fn into_rest(self) -> Result<Vec<u8>, AllocError>
+        ensures { IfOk result (λ rest. rest.items ≡ spec.whole_rest (passing_of self)) }
+    {
+        let ResponseRelay {
+            alloc,
+            terms: _,
+            heads: _,
+            passing,
+            refusal: _,
+        } = self;
+        match passing {
+            Some(passing) => passing.into_rest(),
+            None => Ok(Vec::new(alloc)),
+        }
+    }
+
     /// Notes that so many bytes more were written, at most the rest.
     pub fn wrote(&mut self, count: usize)
         ensures stands { (request : RequestValue) (input written : List ℕ) → StandsFor self.old request input written
@@ -168,8 +201,9 @@ impl ResponseRelay {
     /// than 16,384 bytes wait. If the response is whole, they are not of it.
     ///
     /// Up to 16 interim responses before the response are taken and dropped. A fault is a refusal while no byte was written to the
-    /// client: those of `read_response` for a head, Bad for a malformed body, or OutOfMemory. Afterwards it is a cut. After a
-    /// fault nothing more is taken: each call gives the same fault again.
+    /// client: those of `read_response` for a head, where TooLarge is that of a Content-Length above `most_body` of the terms, Bad
+    /// for a malformed body, or OutOfMemory. Afterwards, and only then, it is a cut. After a fault nothing more is taken: each call gives the same
+    /// fault again.
     pub fn feed(&mut self, bytes: &[u8]) -> Result<usize, StreamFault>
         ensures fits { IfOk result (λ taken. taken ≤ length bytes.now) }
         ensures stands { IfOk result (λ taken. PassesOn self.old self.new (take taken bytes.now)) }

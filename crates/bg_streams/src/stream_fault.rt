@@ -17,6 +17,19 @@ pub enum StreamFault {
     Cut(RelayFault),
 }
 
+impl StreamFault {
+    /// Why the response is not passed on to its end, as a fault of the response: for a cut, the one for which the client would have been
+    /// refused.
+    pub fn response_fault(self) -> ResponseFault
+        ensures { result ≡ spec.response_fault self }
+    {
+        match self {
+            StreamFault::Refused(fault) => fault,
+            StreamFault::Cut(fault) => refusal(fault),
+        }
+    }
+}
+
 /// The fault of a body, as one for which a client is refused.
 fn refusal(fault: RelayFault) -> ResponseFault
     ensures { result ≡ spec.refusal fault }

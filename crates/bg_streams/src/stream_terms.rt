@@ -1,8 +1,9 @@
-//! What is known of the client that gets a response.
+//! How a response is passed on: what is known of its client, and its limits.
 
 use bg_http::Persistence;
 
-/// What is known of the client that gets a response.
+/// How a response is passed on: what is known of the client that gets it, and its limits. A body of chunks, or one that goes to the
+/// end of the input, has no limit: a relay holds only a window of it.
 #[derive(Clone, Copy, Drop)]
 pub struct StreamTerms {
     /// Whether it reads chunks: its request has version 1.1 (RFC 9112 section 7.1).
@@ -11,4 +12,6 @@ pub struct StreamTerms {
     pub persistence: Persistence,
     /// Bytes of the body are taken while fewer bytes of it are to be written; with 0 none are taken.
     pub window: usize,
+    /// The most bytes that a Content-Length may name: a response of more bytes is refused with TooLarge.
+    pub most_body: usize,
 }

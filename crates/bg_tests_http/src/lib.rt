@@ -10,6 +10,8 @@ mod fields;
 #[cfg(test)]
 mod interrupted;
 #[cfg(test)]
+mod length_limits;
+#[cfg(test)]
 mod limits;
 #[cfg(test)]
 mod paced_stream;
@@ -22,6 +24,8 @@ mod pieces;
 #[cfg(test)]
 mod refused_heads;
 #[cfg(test)]
+mod relay_answers;
+#[cfg(test)]
 mod relays;
 #[cfg(test)]
 mod requests;
@@ -31,3 +35,7 @@ mod responses;
 mod streamed;
 #[cfg(test)]
 mod streams;
+#[cfg(test)]
+mod waiting;
+#[cfg(test)]
+mod way;

@@ -6,7 +6,7 @@ use Rattle.bg_http_read.proofs.laws.a_client_reads_the_head_that_was_written.Goa
 pub returns-clause-head : goal.returns-clause-head
 returns-clause-head c keeps named request response more head told =
     head_is_read keeps named response more
-    (came_is_writable request response head (length_is_number request response head told))
+    (came_is_writable request response head (length_is_number head.named head.head response.length told))
 
 pub returns-clause-chunks : goal.returns-clause-chunks
 returns-clause-chunks c = judged_in_chunks c.only_one_length_goes_on.ensures.codings

@@ -1,4 +1,5 @@
 use Rattle.std.proofs.Common.{drop}
+use Rattle.bg_http_read.specs.Responses.{no_heads}
 use Rattle.bg_http_read.specs.ResponsesFed.{responses}
 use Rattle.bg_http_read.proofs.FedBodies.{fed_head}
 use Rattle.bg_http_read.proofs.ResponseSteps.{advances_err}
@@ -7,7 +8,7 @@ use Rattle.bg_http_read.proofs.response_progress.ResponseProgress.advance_head.G
 pub returns-in_err-head-clause-answer : goal.returns-in_err-head-clause-answer
 returns-in_err-head-clause-answer c request seen asked skips =
     advances_err request seen c.args.bytes.now _ _ c.in_err-head.field-0.0 c.from_residual.ensures.1
-    (c.in_err-head.ensures.refused request seen asked skips)
+    (λ more. no_heads (c.in_err-head.ensures.refused request seen asked skips more))
 
 pub returns-clause-answer : goal.returns-clause-answer
 returns-clause-answer c request seen asked skips =

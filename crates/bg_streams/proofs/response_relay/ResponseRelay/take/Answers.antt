@@ -9,7 +9,7 @@ returns-in_err-body-clause-refused c =
     if_err_is (FailsBy old c.take_body.new.self c.args.bytes.now) c.from_residual-in_err-body.result fault
     c.from_residual-in_err-body.ensures.1
     (fails_behind old c.take_heads.new.self c.take_body.new.self c.args.bytes.now c.in_ok-heads.heads fault
-    c.in_ok-heads.ensures.fits c.in_ok-heads.ensures.stands (rw c.behind.ensures at c.in_err-body.ensures.refused))
+    c.in_ok-heads.ensures.fits c.in_ok-heads.ensures.terms c.in_ok-heads.ensures.stands (rw c.behind.ensures at c.in_err-body.ensures.refused))
 
 pub returns-clause-stands : goal.returns-clause-stands
 returns-clause-stands c =
