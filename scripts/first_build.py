@@ -9,14 +9,17 @@ how many stand below each, so a long chain of crates begins late. Here each libr
 copy of the repository, which has the libraries below by hard links, and of those that can begin the
 one with most text in the chain above it is taken first.
 
-A crate with a folder out/ is left to `rt all check`, which keeps up what was built once.
+A crate with a folder out/ is left to `rt all check`, which keeps up what was built once. A second
+first build in the same clone waits for the first one, whose copies it would replace.
 """
+import contextlib
+import fcntl
 import os
 import pathlib
 import shutil
 import subprocess
 import sys
-from collections.abc import Callable, Mapping
+from collections.abc import Callable, Iterator, Mapping
 from concurrent.futures import FIRST_COMPLETED, Future, ThreadPoolExecutor, wait
 
 from crate_list import Crate, all_below, crates_in
@@ -124,18 +127,33 @@ def build_library(
     return not made.returncode
 
 
+@contextlib.contextmanager
+def alone(room: pathlib.Path) -> Iterator[None]:
+    """No other first build has its copies in this room, until the block ends. The system ends the
+    lock with the process, also if it is killed."""
+    room.mkdir(parents=True, exist_ok=True)
+    with open(room / "lock", "w", encoding="ascii") as lock:
+        fcntl.flock(lock, fcntl.LOCK_EX)
+        yield
+
+
 def main() -> int:
     if len(sys.argv) > 2:
         print(__doc__, file=sys.stderr)
         return 2
-    program = sys.argv[1] if len(sys.argv) == 2 else "bg_switch"
+    room = TOP / "out/first-build"
+    with alone(room):
+        return build_missing(sys.argv[1] if len(sys.argv) == 2 else "bg_switch", room)
+
+
+def build_missing(program: str, room: pathlib.Path) -> int:
+    """Builds the libraries of a program that have no folder out/. Gives the exit status."""
     crates = crates_in((TOP / "crates.txt").read_text(encoding="utf-8"))
     missing = [
         it for it in all_below(crates, program) if not (TOP / "crates" / it / "out").exists()
     ]
     chains = chains_above(crates, {it: size_of(TOP / "crates" / it) for it in (*missing, program)})
     del chains[program]
-    room = TOP / "out/first-build"
     at_once = min(len(os.sched_getaffinity(0)), MOST_CHECKS)
     return (
         0

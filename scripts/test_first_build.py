@@ -117,5 +117,24 @@ class Copies(unittest.TestCase):
         )
 
 
+class Locks(unittest.TestCase):
+    def test_a_second_build_waits_for_the_first(self) -> None:
+        done = list[str]()
+        with tempfile.TemporaryDirectory() as name:
+            room = pathlib.Path(name) / "out/room"
+
+            def build_second() -> None:
+                with first_build.alone(room):
+                    done.append("second")
+
+            with first_build.alone(room):
+                second = threading.Thread(target=build_second)
+                second.start()
+                second.join(0.3)
+                done.append("first")
+            second.join(20)
+        self.assertEqual(done, ["first", "second"])
+
+
 if __name__ == "__main__":
     unittest.main()
