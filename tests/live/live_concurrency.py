@@ -265,7 +265,7 @@ def threads_and_memory() -> None:
 def number_of_loops() -> None:
     """The words say how many event loops the active port has, each in a thread of its own. Without
     them it has as many as the program has processors, but at most one for each four requests at a
-    time. The preview port has one."""
+    time, rounded up. The preview port has one."""
     own = sorted(os.sched_getaffinity(0))
     usual = min(len(own), quota(), MOST_LOOPS)
     check_loops(own, 1, 8, "--threads", "1")
@@ -273,8 +273,9 @@ def number_of_loops() -> None:
     check_loops(own[:1], MOST_LOOPS, 8, "--threads", str(MOST_LOOPS))
     check_loops(own[:1], 1, 256)
     check_loops(own, usual, 256)
-    check_loops(own, min(usual, 2), 11)
-    check_loops(own, 1, 3)
+    check_loops(own, min(usual, 3), 11)
+    check_loops(own, min(usual, 2), 5)
+    check_loops(own, 1, 4)
 
 
 def check_loops(processors: Sequence[int], loops: int, concurrency: int, *words: str) -> None:

@@ -79,7 +79,7 @@ serve takes, on ports of 127.0.0.1:
                without --preview
   --threads N  how many event loops serve the clients of the active port, each in a thread of its own,
                1 to 64; as many as the machine has processors, but at most one for each four requests at
-               a time, where it isn't given
+               a time, rounded up, where it isn't given
   --redispatch another endpoint of the same revision is asked if one can't be connected to
   --endpoint-limit M
                how many requests at a time an endpoint gets while another one of its revision is free,

@@ -100,7 +100,7 @@ pub struct ServeSettings<'a> {
     pub preview_workers: u16,
     /// The number of event loops that serve the clients of the active port, each in a thread of its own (nginx's
     /// `worker_processes`, HAProxy's `nbthread`), 1 to 64; `None` stands for as many as the machine has processors, but at
-    /// most one for each four requests at a time.
+    /// most one for each four requests at a time, rounded up.
     pub threads: Option<u16>,
     /// Whether another endpoint of the revision is asked if one can't be connected to (HAProxy's `option
     /// redispatch`, nginx's `proxy_next_upstream error`).

@@ -104,7 +104,7 @@ pub(crate) fn serve_options<'a>(flags: Flags) -> [CommandOption<'a>; 25]
             name: "threads",
             value: OptionValue::UpTo(MOST_THREADS),
             required: false,
-            help: "How many event loops serve the clients of the active port, each in a thread of its own, 1 to 64; as many as the machine has processors, but at most one for each four requests at a time, where it isn't given",
+            help: "How many event loops serve the clients of the active port, each in a thread of its own, 1 to 64; as many as the machine has processors, but at most one for each four requests at a time, rounded up, where it isn't given",
         },
         CommandOption {
             name: "redispatch",

@@ -1,5 +1,5 @@
 //! The event loops of the client ports.
-ghost use Rattle.std.specs.Prelude.{◌≡◌, ◌≤◌, ◌/◌, max, min};
+ghost use Rattle.std.specs.Prelude.{◌≡◌, ◌≤◌, ◌+◌, ◌/◌, ◌%◌, max, min};
 
 use bg_command_line::ServeSettings;
 use bg_revisions::Service;
@@ -8,7 +8,7 @@ use std::thread::{Threads, available_parallelism};
 /// The greatest number of event loops of the active port, if their number is that of the processors.
 const MOST_LOOPS: usize = 64;
 
-/// The number of requests at a time for which an event loop of its own pays. With fewer, the loops take the places from one
+/// The number of requests at a time for which an event loop of its own pays. With far fewer, the loops take the places from one
 /// another, and most of what they do is to sleep and to wake.
 const REQUESTS_OF_A_LOOP: u32 = 4;
 
@@ -23,8 +23,7 @@ pub struct EventLoops {
 
 impl EventLoops {
     /// As many event loops of the active port as the settings say. If they say nothing, as many as the machine has processors,
-    /// up to 64, and at most one for each four requests at a time, but at least one. It has one if the number of processors is not
-    /// known.
+    /// up to 64, and at most one for each four requests at a time, rounded up. It has one if the number of processors is not known.
     pub fn of<R: Threads>(rt: &R, settings: &ServeSettings) -> EventLoops {
         EventLoops {
             active: match settings.threads {
@@ -51,9 +50,9 @@ impl EventLoops {
 
 /// The number of event loops on so many processors that serve so many requests at a time.
 fn usual_loops(processors: u32, requests: u32) -> u32
-    ensures { result ≡ min processors (max 1 (requests / 4)) }
+    ensures { result ≡ min processors (max 1 (requests / 4 + min 1 (requests % 4))) }
 {
-    processors.min((requests / REQUESTS_OF_A_LOOP).max(1))
+    processors.min(requests.div_ceil(REQUESTS_OF_A_LOOP).max(1))
 }
 
 /// The number of processors, from 1 to 64.
