@@ -49,6 +49,7 @@ SCRIPTS = (
     "live_resumed",
     "live_addresses",
     "live_containers",
+    "live_streams",
 )
 # The first port of the scripts, and the first that the system gives to connections of itself.
 FIRST_PORT, SYSTEM_PORT = 19_500, 32_768

@@ -60,7 +60,8 @@ kept_and_count flags =
 abbrev client_and_later : Flags → List Rule
 client_and_later flags =
     held (flag_rule (codes "abort-on-close")) ∷ held (number_rule (codes "shutdown-grace") 60)
-    ∷ held (number_rule (codes "shutdown-timeout") 3600) ∷ held (flag_rule (codes "error-pages")) ∷ kept_and_count flags
+    ∷ held (number_rule (codes "shutdown-timeout") 3600) ∷ held (flag_rule (codes "error-pages"))
+    ∷ held (flag_rule (codes "stream")) ∷ kept_and_count flags
 
 abbrev endpoint_and_later : Flags → List Rule
 endpoint_and_later flags =
@@ -99,7 +100,10 @@ client_and_later_keep flags = let c = (serve flags).rules in (
     number_keeps c (codes "shutdown-grace") 60 refl,
     (
       number_keeps c (codes "shutdown-timeout") 3600 refl,
-      (flag_keeps c false (codes "error-pages") refl, kept_and_count_keep flags),
+      (
+        flag_keeps c false (codes "error-pages") refl,
+        (flag_keeps c false (codes "stream") refl, kept_and_count_keep flags),
+      ),
     ),
   ),
 )
@@ -174,7 +178,10 @@ client_and_later_defaults flags = let c = (serve flags).rules in (
     no_default_keeps c (held (number_rule (codes "shutdown-grace") 60)) refl,
     (
       no_default_keeps c (held (number_rule (codes "shutdown-timeout") 3600)) refl,
-      (flag_default_keeps c false (codes "error-pages") refl, kept_and_count_defaults flags),
+      (
+        flag_default_keeps c false (codes "error-pages") refl,
+        (flag_default_keeps c false (codes "stream") refl, kept_and_count_defaults flags),
+      ),
     ),
   ),
 )

@@ -123,6 +123,8 @@ pub struct ServeSettings<'a> {
     /// Whether an answer of the switch itself has a body with its status and reason (nginx's `error_page`, HAProxy's
     /// `errorfile`).
     pub error_pages: bool,
+    /// Whether a response is passed on to its client as it comes, whatever its length (nginx's `proxy_buffering off`).
+    pub stream: bool,
     /// How connections of clients and to endpoints are kept for further requests; `None` stands for connections that
     /// carry one request each.
     pub keep_alive: Option<KeepAlive>,

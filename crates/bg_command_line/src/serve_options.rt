@@ -30,11 +30,11 @@ const MOST_COUNT: u64 = 1_000_000;
 /// The options of `serve`: `--active P [--preview P] [--listen ADDRESS]..`; `--control P`, `--control-socket PATH`,
 /// `[--control-socket-mode MODE]` and `[--control-socket-group GROUP]`; `--workers N`, `--concurrency N`,
 /// `[--preview-concurrency M]` and `[--threads N]`; `[--redispatch] [--endpoint-limit M]
-/// [--endpoint-address ADDRESS]`; `[--abort-on-close] [--shutdown-grace S] [--shutdown-timeout S] [--error-pages]`; `[--keep-alive]
-/// [--keep-alive-timeout S] [--keep-alive-requests N] [--endpoint-keep-alive-timeout S]`; `[--journal FILE]`; `--count K` and
+/// [--endpoint-address ADDRESS]`; `[--abort-on-close] [--shutdown-grace S] [--shutdown-timeout S] [--error-pages]
+/// [--stream]`; `[--keep-alive] [--keep-alive-timeout S] [--keep-alive-requests N] [--endpoint-keep-alive-timeout S]`; `[--journal FILE]`; `--count K` and
 /// `--forever`. The flags say which of `--control` and `--control-socket` is required, which of `--workers` and
 /// `--concurrency`, and which of `--count` and `--forever`.
-pub(crate) fn serve_options<'a>(flags: Flags) -> [CommandOption<'a>; 25]
+pub(crate) fn serve_options<'a>(flags: Flags) -> [CommandOption<'a>; 26]
     ensures { (before : App) → fold with_rule before (map option_rule result) ≡ with_connection_rules flags.forever
         (with_journal_rule (with_keep_alive_rules (with_client_rules (with_endpoint_rules (with_worker_rules flags.concurrency
         (with_control_rules flags.socket (with_port_rules before))))))) }
@@ -147,6 +147,12 @@ pub(crate) fn serve_options<'a>(flags: Flags) -> [CommandOption<'a>; 25]
             value: OptionValue::Nothing,
             required: false,
             help: "A refusal has a short body with its status and reason: HTML if the client accepts it, else text",
+        },
+        CommandOption {
+            name: "stream",
+            value: OptionValue::Nothing,
+            required: false,
+            help: "A response is passed on to its client as it comes, whatever its length",
         },
         CommandOption {
             name: "keep-alive",

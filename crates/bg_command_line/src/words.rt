@@ -46,7 +46,7 @@ const DEFAULT_KEPT_REQUESTS: u32 = 1_000;
 /// P]` with `--control P` or `--control-socket PATH` or both, with ports from 1 to 65535, either `--workers N` with N from 1 to 7 or `--concurrency N`
 /// with N from 1 to 1023, and either `--count K` with K from 1 to 1,000,000 or `--forever`. `serve` also takes
 /// `--preview-concurrency M` and `--endpoint-limit M` with M from 1 to 1023, `--threads N` with N from 1 to 64,
-/// `--redispatch`, `--endpoint-address ADDRESS`, `--listen ADDRESS` up to eight times, `--abort-on-close`, `--error-pages`,
+/// `--redispatch`, `--endpoint-address ADDRESS`, `--listen ADDRESS` up to eight times, `--abort-on-close`, `--error-pages`, `--stream`,
 /// `--shutdown-grace S` with S from 1 to 60, `--shutdown-timeout S` with S from 1 to 3,600,
 /// `--control-socket-mode MODE` with MODE from 1 to 777, `--control-socket-group GROUP`, `--keep-alive`,
 /// `--keep-alive-timeout S` and `--endpoint-keep-alive-timeout S` with S from 1 to 3,600, `--keep-alive-requests N` with N from
@@ -198,6 +198,7 @@ fn serve_of<'a>(flags: Flags, addresses: GivenAddresses, matches: &ArgMatches<'a
         shutdown_grace: shutdown_grace_of(matches),
         shutdown_timeout: u16_or::<3600>(matches, "shutdown-timeout", DEFAULT_SHUTDOWN_SECONDS),
         error_pages: has_flag(matches, "error-pages"),
+        stream: has_flag(matches, "stream"),
         keep_alive: keep_alive_of(matches),
         journal: argument_text(matches, "journal"),
         connections: connections_of(flags.forever, matches),

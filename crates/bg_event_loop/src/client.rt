@@ -26,6 +26,8 @@ pub(crate) struct Client {
     pub(crate) endpoint: Option<usize>,
     /// The ports that were chosen for the request.
     pub(crate) tries: Option<Tries>,
+    /// Whether only a reset tells a response that is cut from a whole one: the client of the request reads no chunks.
+    pub(crate) needs_reset: bool,
     /// What the client was given for the request that is over, until that is logged.
     pub(crate) given: Option<Given>,
     /// What is kept of the request for the log.
@@ -50,6 +52,7 @@ impl Drop for Client {
             seat: _,
             endpoint: _,
             tries: _,
+            needs_reset: _,
             given: _,
             record: _,
             has_ended: _,
@@ -76,6 +79,7 @@ impl Client {
             seat: None,
             endpoint: None,
             tries: None,
+            needs_reset: false,
             given: None,
             record: RequestRecord::new(now),
             has_ended: false,
@@ -124,7 +128,17 @@ impl Client {
 
     /// Whether it waits for its client, and not for its request.
     pub(crate) fn waits_for_client(&self) -> bool {
-        self.writes() || self.sides.client().wants_read()
+        self.writes() || self.passes_on() || self.sides.client().wants_read()
+    }
+
+    /// Whether its client may take bytes now of a response that is passed on.
+    pub(crate) fn may_pass_on(&self) -> bool {
+        self.ready.output && self.passes_on()
+    }
+
+    /// Whether bytes of a response that is passed on are to be written.
+    fn passes_on(&self) -> bool {
+        self.sides.client().is_passing_on() && !self.sides.rest_to_client().is_empty()
     }
 
     /// Whether bytes are to be read.

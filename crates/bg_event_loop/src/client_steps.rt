@@ -6,7 +6,9 @@ ghost use Rattle.bg_both_sides.specs.EndpointEvents.{RefusesEntered};
 
 use crate::client::Client;
 use crate::sockets::{Input, read, write};
+use bg_both_sides::EndpointStep;
 use bg_client_side::Fed;
+use bg_endpoint_side::GivingUp;
 use bg_sockets::is_drained;
 use std::net::Shutdown;
 
@@ -27,9 +29,24 @@ impl Client {
         fed
     }
 
-    /// Writes what the client takes at once of an answer that was given just now.
+    /// Writes what the client takes of a response that is passed on. A client that takes no byte any more has gone.
+    pub(crate) fn pass_on(&mut self, now: u64) -> EndpointStep {
+        let rest = self.sides.rest_to_client();
+        let most = rest.len();
+        let Some(count) = write(&self.stream, rest) else {
+            self.answer.has_failed = true;
+            self.sides.fail();
+            return self.sides.give_up(GivingUp::ClientGone, now);
+        };
+        self.ready.note_write(count, most);
+        self.record.note_passed_on(count, now);
+        self.sides.client_took(count, now)
+    }
+
+    /// Writes what the client takes at once of an answer that was given just now. Of a response that was passed on, nothing may be
+    /// left.
     pub(crate) fn write_first(&mut self, now: u64) -> Fed {
-        if !self.writes() {
+        if !self.writes() && self.record.passed_on() == 0 {
             return Fed::NotReading;
         }
         let fed = self.write_some(now);
@@ -86,7 +103,12 @@ impl Client {
     fn write_some(&mut self, now: u64) -> Fed {
         let rest = self.sides.client().rest();
         let most = rest.len();
-        let Some(count) = write(&self.stream, rest) else {
+        let taken = if most == 0 {
+            Some(0)
+        } else {
+            write(&self.stream, rest)
+        };
+        let Some(count) = taken else {
             self.answer.has_failed = true;
             self.sides.fail();
             return Fed::NotReading;

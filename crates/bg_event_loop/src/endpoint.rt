@@ -24,7 +24,7 @@ impl Endpoint {
 
     /// Whether a step is due of the request that is forwarded on it.
     pub(crate) fn is_due(&self, sides: &BothSides) -> bool {
-        self.ready.input || self.may_write(sides)
+        self.ready.input && sides.reads_endpoint() || self.may_write(sides)
     }
 
     fn may_write(&self, sides: &BothSides) -> bool {

@@ -5,8 +5,9 @@ use crate::client::Client;
 use crate::endpoint_ports::EndpointPorts;
 use crate::endpoints::Endpoints;
 use crate::settings::EndpointSettings;
+use crate::sockets::reset;
 use crate::tries::Tries;
-use bg_both_sides::{Ending, EndpointStep, Route};
+use bg_both_sides::{Ending, EndpointStep, Given, Route};
 use bg_endpoint_side::{DialFault, GivingUp, Health};
 
 /// The number of steps in a row before others have their turn.
@@ -77,12 +78,29 @@ impl<P: EndpointPorts> Endpoints<'_, P> {
         let Some(kept) = self.take_kept(port, key) else {
             return false;
         };
-        let is_taken = client.sides.connect(true, now);
+        let is_taken = self.connect(client, true, now);
         if is_taken {
-            client.record.note_connected(true);
             client.endpoint = Some(kept);
         } else {
             self.close(kept);
+        }
+        is_taken
+    }
+
+    /// Notes that a connection to an endpoint is there for the request of a client: one that was kept, or a new one. Gives whether it
+    /// belongs to the request from now on. Without memory for a response that is passed on as it comes, the response is passed on once
+    /// it is whole.
+    fn connect(&self, client: &mut Client, is_kept: bool, now: u64) -> bool {
+        let streams = match self.settings().stream {
+            Some(limits) => client.sides.connect_streamed(is_kept, limits, now),
+            None => false,
+        };
+        if streams && let Some(request) = client.sides.request() {
+            client.needs_reset = request.minor == 0;
+        }
+        let is_taken = streams || client.sides.connect(is_kept, now);
+        if is_taken {
+            client.record.note_connected(is_kept);
         }
         is_taken
     }
@@ -143,6 +161,11 @@ impl<P: EndpointPorts> Endpoints<'_, P> {
 
     /// Whether a step of the request of a client is due that waits for nothing.
     pub(crate) fn is_due(&self, client: &Client) -> bool {
+        client.may_pass_on() || self.is_endpoint_due(client)
+    }
+
+    /// Whether a step of the request of a client is due at its endpoint.
+    fn is_endpoint_due(&self, client: &Client) -> bool {
         let Some(key) = client.endpoint else {
             return false;
         };
@@ -153,7 +176,7 @@ impl<P: EndpointPorts> Endpoints<'_, P> {
         }
     }
 
-    /// Ends the dial for a request, or writes or reads on its connection.
+    /// Writes bytes of a response that is passed on, ends the dial for a request, or writes or reads on its connection.
     fn step(
         &mut self,
         client: &mut Client,
@@ -161,6 +184,9 @@ impl<P: EndpointPorts> Endpoints<'_, P> {
         piece: &mut [u8],
         now: u64,
     ) -> EndpointStep {
+        if client.may_pass_on() {
+            return client.pass_on(now);
+        }
         if !client.sides.has_connection() {
             self.end_dial(client, key, now);
             return EndpointStep::GoesOn;
@@ -175,8 +201,7 @@ impl<P: EndpointPorts> Endpoints<'_, P> {
     fn end_dial(&mut self, client: &mut Client, key: usize, now: u64) {
         match self.used_by(client) {
             Some(endpoint) if !endpoint.ready.reset => {
-                client.sides.connect(false, now);
-                client.record.note_connected(false);
+                self.connect(client, false, now);
             }
             _ => self.fail_dial(client, key, DialFault::Failed, now),
         }
@@ -199,6 +224,9 @@ impl<P: EndpointPorts> Endpoints<'_, P> {
         }
         if let Some(tries) = &mut client.tries {
             tries.leave(self.ports, ending.health);
+        }
+        if client.needs_reset && matches!(ending.given, Given::Cut(_)) {
+            reset(&client.stream);
         }
         client.given = Some(ending.given);
     }

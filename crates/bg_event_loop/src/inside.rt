@@ -2,6 +2,7 @@
 
 use crate::endpoint_ports::EndpointPorts;
 use crate::event_loop::EventLoop;
+use crate::moments::has_come;
 use crate::outcome::Cause;
 use crate::request_log::RequestLog;
 use bg_book::Ticket;
@@ -65,7 +66,10 @@ impl<'a, P: EndpointPorts, L: RequestLog> EventLoop<'a, P, L> {
         if client.seat.is_none() {
             return None;
         }
-        if let Some(why) = client.why_given_up(is_given_up, self.settings.aborts_on_close) {
+        // at the end of a shutdown, what is passed on is cut
+        let is_cut = has_come(self.closes_at, self.now) && client.sides.client().is_passing_on();
+        let aborts_on_close = self.settings.aborts_on_close;
+        if let Some(why) = client.why_given_up(is_given_up || is_cut, aborts_on_close) {
             self.endpoints.give_up(client, key, why, self.now);
         } else {
             let piece = self.piece.as_mut_slice();

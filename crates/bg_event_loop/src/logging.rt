@@ -25,17 +25,23 @@ impl Client {
     /// Writes what the client takes at once of the answer to a request that is over, and logs the request.
     pub(crate) fn end_request<L: RequestLog>(&mut self, log: &L, cause: Cause, now: u64) -> Fed {
         let size = self.sides.client().rest().len();
+        let passed_on = self.record.passed_on();
         self.answer.size = size;
         let fed = self.write_first(now);
-        let is_written = size > 0 && !self.answer.has_failed;
-        let response_bytes = if is_written { size as u64 } else { 0 };
+        let has_answer = size > 0 || passed_on > 0;
+        let is_written = has_answer && !self.answer.has_failed;
+        let response_bytes = if is_written {
+            passed_on.saturating_add(size as u64)
+        } else {
+            passed_on
+        };
         self.answer.unwritten = if is_written {
             self.sides.client().rest().len()
         } else {
             0
         };
-        let response_millis = if size > 0 {
-            self.record.millis_inside(now)
+        let response_millis = if has_answer {
+            self.record.millis_to_answer(now)
         } else {
             None
         };

@@ -23,7 +23,7 @@ pub struct EndedRequest<'a> {
     pub is_reused: Option<bool>,
     /// The number of bytes that came since the request before it on its connection was over.
     pub request_bytes: u64,
-    /// The number of bytes of its answer. They may not be written yet. 0 if writing the answer failed at once.
+    /// The number of bytes of its answer. They may not be written yet. If writing it failed, the number that was passed on before.
     pub response_bytes: u64,
     /// The time since its connection was accepted, or, of a later request of a connection, since its first byte came.
     pub duration_millis: u64,

@@ -46,6 +46,9 @@ pub(crate) struct RequestRecord {
     entered: u64,
     /// Whether the connection to its endpoint had carried a request before, if it has one.
     is_reused: Option<bool>,
+    /// The number of bytes of its response that were passed on, and when the first ones were.
+    passed_on: u64,
+    passed_on_at: Option<u64>,
 }
 
 impl Drop for RequestRecord {
@@ -60,6 +63,8 @@ impl Drop for RequestRecord {
             ticket: _,
             entered: _,
             is_reused: _,
+            passed_on: _,
+            passed_on_at: _,
         } = self;
     }
 }
@@ -76,6 +81,8 @@ impl RequestRecord {
             ticket: None,
             entered: 0,
             is_reused: None,
+            passed_on: 0,
+            passed_on_at: None,
         }
     }
 
@@ -133,15 +140,29 @@ impl RequestRecord {
         self.is_reused = Some(is_reused);
     }
 
+    /// Notes that so many bytes of its response were passed on.
+    pub(crate) fn note_passed_on(&mut self, count: usize, now: u64) {
+        if self.passed_on_at.is_none() && count > 0 {
+            self.passed_on_at = Some(now);
+        }
+        self.passed_on = self.passed_on.saturating_add(count as u64);
+    }
+
+    /// The number of bytes of its response that were passed on.
+    pub(crate) fn passed_on(&self) -> u64 {
+        self.passed_on
+    }
+
     /// Keeps the method and the target. Without memory, neither is logged.
     pub(crate) fn keep_line(&mut self, alloc: Global, request: &Request) {
         self.line = OwnedLine::of(alloc, request).ok();
     }
 
-    /// The time from when the request entered.
-    pub(crate) fn millis_inside(&self, now: u64) -> Option<u64> {
+    /// The time from when the request entered to the first bytes of its answer, which is given now if it was not passed on.
+    pub(crate) fn millis_to_answer(&self, now: u64) -> Option<u64> {
+        let at = self.passed_on_at.unwrap_or(now);
         match self.ticket {
-            Some(_) => Some(now.saturating_sub(self.entered)),
+            Some(_) => Some(at.saturating_sub(self.entered)),
             None => None,
         }
     }

@@ -1,9 +1,10 @@
 //! The settings of an event loop.
-ghost use Rattle.std.specs.Prelude.{◌≡◌, false, true};
+ghost use Rattle.std.specs.Prelude.{◌≡◌, None, false, true};
 ghost use Rattle.bg_event_loop.specs.Addresses.{IsLocalhost};
 ghost use Rattle.bg_http.specs.Persistences.{keeps};
 ghost use Rattle.bg_http.specs.declared.refusal.RefusalBody.TheVariants as body;
 
+use bg_both_sides::StreamLimits;
 use bg_client_side::ClientSettings;
 use bg_endpoint_side::Timeouts;
 use bg_http::{Persistence, RefusalBody};
@@ -24,6 +25,8 @@ pub struct EndpointSettings {
     pub most_kept: usize,
     /// The time for which no request may be on a connection.
     pub kept_millis: u64,
+    /// The limits of responses that are passed on as they come; `None` if a response is passed on once it is whole.
+    pub stream: Option<StreamLimits>,
 }
 
 /// How long connections are kept for further requests. Times are milliseconds.
@@ -62,13 +65,14 @@ pub struct LoopSettings {
 }
 
 impl LoopSettings {
-    /// The usual settings: endpoints are at 127.0.0.1, each connection, of either side, carries one request, a refusal has an
-    /// empty body, and the gate is asked whether requests go on.
+    /// The usual settings: endpoints are at 127.0.0.1, each connection, of either side, carries one request, a response is passed on
+    /// once it is whole, a refusal has an empty body, and the gate is asked whether requests go on.
     pub fn usual(service: Service) -> LoopSettings
         ensures service { result.service ≡ service }
         ensures clients { keeps result.clients.persistence ≡ false }
         ensures endpoints { keeps result.endpoints.persistence ≡ false }
         ensures address { IsLocalhost result.endpoints.address }
+        ensures stream { result.endpoints.stream ≡ None }
         ensures refusals { result.clients.refusal_body ≡ body.Empty }
         ensures drains { result.limits_drains ≡ true }
     {
@@ -90,6 +94,7 @@ impl LoopSettings {
                 },
                 most_kept: 1_024,
                 kept_millis: 60_000,
+                stream: None,
             },
             loads: LoadSettings {
                 loops: 1,

@@ -8,6 +8,11 @@ use std::io::ErrorKind;
 use std::net::{IpAddr, TcpStream};
 use std::os::fd::{AsRawFd, OwnedFd};
 
+/// An address of no family (AF_UNSPEC), and the number of its bytes that C reads.
+const NO_ADDRESS: [u8; 128] = [0; 128];
+
+const NO_ADDRESS_LENGTH: u32 = 16;
+
 /// A connection that was dialled, and whether it is complete.
 #[derive(Drop)]
 pub(crate) struct DialledStream {
@@ -34,6 +39,12 @@ pub(crate) fn connect(address: IpAddr, port: u16) -> Result<DialledStream, DialF
         });
     }
     Err(DialFault::Failed)
+}
+
+/// Resets a connection, so that its other end can tell that what came is not whole: Linux dissolves a connection that is connected
+/// to an address of no family, and sends a reset (connect(2)).
+pub(crate) fn reset(stream: &TcpStream) {
+    unsafe { libc::net::connect(stream.as_raw_fd(), &NO_ADDRESS, NO_ADDRESS_LENGTH) };
 }
 
 /// What a read gave.

@@ -4,3 +4,4 @@ pub mod Restarted
 pub mod Resumed
 pub mod RevisionLists
 pub mod Rollbacks
+pub mod StreamLimits

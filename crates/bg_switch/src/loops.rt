@@ -1,10 +1,13 @@
 //! Serves the clients of both services by event loops.
-ghost use Rattle.std.specs.Prelude.{◌≡◌, ◌*◌, ◌<◌, ◌^◌, is_some};
+ghost use Rattle.std.specs.Prelude.{◌≡◌, ◌*◌, ◌<◌, ◌^◌, IfSome, is_some, true};
+ghost use Rattle.bg_command_line.specs.MessageTimeout.{seconds_of};
 ghost use Rattle.bg_event_loop.specs.Seats.{AllServed};
 ghost use Rattle.bg_forward.specs.Seats.{AllOut};
+ghost use Rattle.bg_switch.specs.StreamLimits.{AreStreamLimits};
 
 use crate::context::ServeContext;
 use bg_book::Desk;
+use bg_both_sides::StreamLimits;
 use bg_client_side::ClientSettings;
 use bg_command_line::{KeepAlive, MessageTimeout};
 use bg_endpoint_side::Timeouts;
@@ -22,6 +25,9 @@ use std::sync::Wait;
 use std::thread;
 use std::thread::Threads;
 use std::time::Clock;
+
+/// How many bytes of a response may wait for a client before no more are read from the endpoint.
+const STREAM_WINDOW: usize = 65_536;
 
 /// Serves the clients of both services by event loops, until their ports are closed and no client is left. The last seats are
 /// those of the preview service; it has one loop for as many of them as the active service has.
@@ -109,6 +115,11 @@ fn serve_port<'a, N: Names + Send + Sync, R: Threads + Wait + Clock + Sync>(
 fn settings_of<R>(context: &ServeContext<R>, service: Service) -> LoopSettings
     ensures drains { result.limits_drains ≡ is_some context.now.strategy.now.drain_limit }
     ensures address { result.endpoints.address ≡ context.now.words.now.endpoint_address }
+    ensures stream { is_some result.endpoints.stream ≡ context.now.words.now.stream }
+    ensures limits { IfSome result.endpoints.stream AreStreamLimits }
+    ensures duration { context.now.words.now.stream ≡ true → result.endpoints.timeouts.response ≡ 18446744073709551615 }
+    ensures silence { context.now.words.now.stream ≡ true → seconds_of context.now.timeout < 2 ^ 32
+        → result.endpoints.timeouts.idle ≡ seconds_of context.now.timeout * 1000 }
     ensures grace { result.grace_millis ≡ context.now.words.now.shutdown_grace * 1000 }
     ensures closing { result.closing_millis ≡ context.now.words.now.shutdown_timeout * 1000 }
 {
@@ -121,7 +132,8 @@ fn settings_of<R>(context: &ServeContext<R>, service: Service) -> LoopSettings
         },
         endpoints: EndpointSettings {
             address: context.words.endpoint_address,
-            timeouts: timeouts_of(context.timeout),
+            timeouts: timeouts_of(context.timeout, context.words.stream),
+            stream: stream_limits(context.words.stream),
             ..usual.endpoints
         },
         loads: LoadSettings {
@@ -135,6 +147,20 @@ fn settings_of<R>(context: &ServeContext<R>, service: Service) -> LoopSettings
         closing_millis: millis(u64::from(context.words.shutdown_timeout)),
         ..usual
     }
+}
+
+/// The limits of responses that are passed on as they come, if they are. Their bodies may have any length.
+fn stream_limits(is_streamed: bool) -> Option<StreamLimits>
+    ensures stream { is_some result ≡ is_streamed }
+    ensures limits { IfSome result AreStreamLimits }
+{
+    if !is_streamed {
+        return None;
+    }
+    Some(StreamLimits {
+        window: STREAM_WINDOW,
+        most_body: usize::MAX,
+    })
 }
 
 /// The usual settings of a service, with connections that are kept if the words say so.
@@ -176,8 +202,18 @@ fn most_kept_endpoints<R>(context: &ServeContext<R>, service: Service) -> usize 
     (requests / context.loops.of_service(service).max(1)).max(1) as usize
 }
 
-/// The timeouts of a request at its endpoint.
-fn timeouts_of(timeout: MessageTimeout) -> Timeouts {
+/// The timeouts of a request at its endpoint. Of a response that is passed on as it comes, only silence is limited: it may last
+/// for any time.
+fn timeouts_of(timeout: MessageTimeout, is_streamed: bool) -> Timeouts
+    ensures response { is_streamed ≡ true → result.response ≡ 18446744073709551615 }
+    ensures idle { is_streamed ≡ true → seconds_of timeout < 2 ^ 32 → result.idle ≡ seconds_of timeout * 1000 }
+{
+    if is_streamed {
+        return Timeouts {
+            response: u64::MAX,
+            idle: millis(timeout.seconds()),
+        };
+    }
     let response = ResponseTimeout {
         seconds: timeout.seconds(),
         is_given: matches!(timeout, MessageTimeout::Given(_)),
