@@ -202,6 +202,18 @@ def answered(port: int, text: bytes, then: Callable[[], object] = nothing) -> An
     return Answered(bytes(got), is_reset)
 
 
+def received_up_to(client: socket.socket, text: bytes, before: bytes) -> bytes:
+    """What comes to a client, beside what came before, until this text is there. `EOFError` if its
+    connection ends before."""
+    got = b""
+    while text not in before + got:
+        piece = client.recv(65536)
+        if not piece:
+            raise EOFError(f"the connection ended before {text!r}")
+        got += piece
+    return got
+
+
 def one_in_chunks(text: bytes) -> tuple[bytes, bytes]:
     """The data of a body in chunks, and what follows its end. `ValueError` if the end is missing."""
     data, at = bytearray(), 0
@@ -263,8 +275,7 @@ def events() -> None:
             for number in range(5):
                 begun = time.monotonic()
                 endpoint.steps.release()
-                while b"event %d\n" % number not in got:
-                    got += client.recv(65536)
+                got += received_up_to(client, b"event %d\n" % number, got)
                 longest = max(longest, time.monotonic() - begun)
             check_soon("the longest wait for an event", longest, AT_ONCE)
             endpoint.is_last_event = True
@@ -499,8 +510,7 @@ def shut_down() -> None:
             operator, begun = switch.operator(), time.monotonic()
             operator.send_quit()
             endpoint.steps.release()
-            while b"event 1\n" not in got:
-                got += client.recv(1000)
+            got += received_up_to(client, b"event 1\n", got)
             check("an event in a shutdown", b"event 1\n" in got, True)
             check("the response is cut", received(client), b"")
             check("not before the timeout", time.monotonic() - begun >= 2.5, True)
