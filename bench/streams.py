@@ -217,7 +217,7 @@ def streamed(proxy: Proxy, asked: argparse.Namespace) -> Figures:
         while time.monotonic() < until:
             drain(selector, delays, 0.1)
         spent = microseconds_between(before, thread_times(proxy.process)) / 1e6
-    if len(delays) < asked.streams * (asked.seconds - 2):
+    if 2 * len(delays) < asked.streams * asked.seconds:
         raise MeasurementError(f"{proxy.name}: only {len(delays)} events came")
     percentile = statistics.quantiles(delays, n=100)[98]
     return Figures(1000 * percentile, spent, memory_of(proxy.process))
