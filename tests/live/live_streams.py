@@ -5,7 +5,6 @@ import contextlib
 import pathlib
 import re
 import socket
-import struct
 import tempfile
 import threading
 import time
@@ -15,7 +14,7 @@ from typing import NamedTuple
 
 from support import checks
 from support.checks import check, check_soon, check_within, comes
-from support.clients import connect, polite, received, timed
+from support.clients import connect, polite, received, reset, timed
 from support.endpoints import LONGEST, Request, chunked
 from support.kept import TO_THE_END, KeptEndpoint, echo, last
 from support.messages import BAD_GATEWAY, NO_PREVIEW, answer, request
@@ -429,8 +428,9 @@ def clients_that_go() -> None:
             client.sendall(request(ENDLESS))
             client.recv(1000)
             if is_reset:
-                client.setsockopt(socket.SOL_SOCKET, socket.SO_LINGER, struct.pack("ii", 1, 0))
-            client.close()
+                reset(client)
+            else:
+                client.close()
             check("the endpoint is left", comes(lambda: endpoint.open == 0, SOON), True)
         check("no request is open", streamed.is_free(), True)
         check(
