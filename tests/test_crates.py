@@ -9,7 +9,7 @@ from tools.crate_map import DRAWING, PAGE, drawing, layers_of, map_of, nearest
 
 CRATES = crates_in((TOP / "crates.txt").read_text(encoding="utf-8"))
 MEND = "run tools/crate_map.py --write"
-MOST_LINES_DRAWN = 75
+MOST_LINES_DRAWN = 80
 SMALL = crates_in(
     "bg_low: std\nbg_beside:\nbg_middle: bg_low std\nbg_top: bg_low bg_middle bg_beside\n"
 )

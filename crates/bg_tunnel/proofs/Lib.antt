@@ -1,0 +1,5 @@
+pub mod EndLemmas
+pub mod RunLemmas
+pub mod StallLemmas
+pub mod StepLemmas
+pub mod TimeoutLemmas
