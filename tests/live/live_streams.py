@@ -471,6 +471,15 @@ def silent_endpoint() -> None:
         check("the time to the first byte", is_short, True)
 
 
+def silence() -> None:
+    """`--silence` sets the timeout of a silent endpoint, in the place of the variable's."""
+    with streaming("--silence", str(SHORT_TIMEOUT)) as streamed:
+        found = timed(streamed.switch.active, [request(SILENT)])
+        check("not left before", found.seconds >= SHORT_TIMEOUT / 2 - 1, True)
+        check_soon("until it is left by the flag", found.seconds, SHORT_TIMEOUT + 2)
+        check("its line", [one.reason for one in streamed.entries(1)], ["response_timeout"])
+
+
 def drained() -> None:
     """A draining revision waits for a response that is passed on, up to `drainLimitSeconds`."""
     with streaming(rollout=DRAINS) as streamed:
@@ -525,6 +534,7 @@ if __name__ == "__main__":
         (
             slow_readers,
             silent_endpoint,
+            silence,
             large,
             events,
             framings,

@@ -36,6 +36,11 @@ optional_member name (value.Number (Some n)) = number_member name (Some n)
 optional_member name (value.Flag None) = []
 optional_member name (value.Flag (Some flag)) = key name ∷ boolean flag ∷ []
 
+-- a member whose value is a text, and that is left out if it has no value
+abbrev pub optional_text_member : List ℕ → Option (List ℕ) → List Token
+optional_text_member name None = []
+optional_text_member name (Some text) = text_member name (Some text)
+
 -- when the connection ended, and its request
 abbrev pub request_members : LogEntry → List Token
 request_members e =
@@ -73,7 +78,9 @@ optional_values e =
     ∷ []
 
 abbrev pub optional_members : LogEntry → List Token
-optional_members e = flat_map (λ m. optional_member m.0 m.1) (optional_values e)
+optional_members e =
+    flat_map (λ m. optional_member m.0 m.1) (optional_values e)
+    ++ optional_text_member (codes "request_id") (option_map cow_str_bytes e.request_id)
 
 -- the object
 abbrev pub object : LogEntry → List Token

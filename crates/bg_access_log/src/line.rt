@@ -1,7 +1,7 @@
 //! Members of a line of the log.
 ghost use Rattle.std.specs.Prelude.{◌≡◌, flat_map};
 ghost use Rattle.std.specs.Option.{option_map};
-ghost use Rattle.bg_access_log.specs.Lines.{Adds, number_member, optional_member, text_member};
+ghost use Rattle.bg_access_log.specs.Lines.{Adds, number_member, optional_member, optional_text_member, text_member};
 
 use json::Writer;
 use std::alloc::AllocError;
@@ -30,6 +30,21 @@ pub(crate) fn add_number(
     match number {
         Some(number) => line.u64(number),
         None => line.null(),
+    }
+}
+
+/// Writes a member whose value is a text. Writes nothing if it has no value.
+pub(crate) fn add_optional_text(
+    line: &mut Writer,
+    name: &str,
+    text: Option<&str>,
+) -> Result<(), AllocError>
+    ensures { Adds result line.old line.new
+        (optional_text_member name.now (option_map (λ t. t.now) text.entry)) }
+{
+    match text {
+        Some(text) => add_text(line, name, Some(text)),
+        None => Ok(()),
     }
 }
 

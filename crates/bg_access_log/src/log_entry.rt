@@ -4,7 +4,7 @@ ghost use Rattle.std.specs.Cow.{cow_str_bytes};
 ghost use Rattle.std.specs.Option.{option_map};
 ghost use Rattle.bg_access_log.specs.Lines.{Adds, count_members, end_members, line_text, object, optional_members, request_members};
 
-use crate::line::{OptionalValue, add_number, add_optionals, add_text};
+use crate::line::{OptionalValue, add_number, add_optional_text, add_optionals, add_text};
 use crate::time_text::{TimeText, text_of};
 use json::Writer;
 use std::alloc::{AllocError, Global};
@@ -56,6 +56,9 @@ pub struct LogEntry<'a> {
     /// Whether the connection to the endpoint had carried a request before. The program gives it only with `--keep-alive`, and
     /// if there was a connection.
     pub upstream_reused: Option<bool>,
+    /// The id that the endpoint was told of the request. The program gives it only with `--forwarded`, at most its first 1,024
+    /// bytes.
+    pub request_id: Option<CowStr<'a>>,
 }
 
 impl LogEntry<'_> {
@@ -133,7 +136,8 @@ impl LogEntry<'_> {
             ),
             ("upstream_reused", OptionalValue::Flag(self.upstream_reused)),
         ];
-        add_optionals(line, &members)
+        add_optionals(line, &members)?;
+        add_optional_text(line, "request_id", as_text(&self.request_id))
     }
 }
 

@@ -1,6 +1,7 @@
 -- A request goes to another endpoint only if nothing of it was written to one.
 use Rattle.std.proofs.Common.{◌≡◌, ◌∙◌, ℕ, Bool, true, false, not, ◌&&◌, List, [], ◌∷◌, ◌++◌, length, refl, sym, ap, subst, append-nil, nat_le, nat_lt, Option, Some, None}
 use Rattle.std.specs.Prelude.{⊤}
+use Rattle.bg_http.specs.Elements.{Field}
 use Rattle.bg_http.specs.declared.request.Request.{Request}
 use Rattle.bg_client_side.specs.Clients.{Client, passed_at, stays_after}
 use Rattle.bg_client_side.specs.Stages.{is_passing_on, waiting_request}
@@ -19,9 +20,9 @@ use Rattle.bg_both_sides.proofs.StreamedLemmas.{steps_on, takes_on}
 use Rattle.bg_both_sides.proofs.StreamedRuns.{follows_end}
 use Rattle.bg_both_sides.specs.Answers.{Reply}
 use Rattle.bg_both_sides.specs.ClientEvents.{entered_as}
-use Rattle.bg_both_sides.specs.EndpointEvents.{Dials, DialsElsewhere, Follows, LooksDialing, RefusesEntered, begins, dial_failed, dialing_elsewhere, dialing_for, on_forwarded, takes_connection}
+use Rattle.bg_both_sides.specs.EndpointEvents.{Dials, DialsElsewhere, Follows, LooksDialing, RefusesEntered, begins, dial_failed, dialing_elsewhere, dialing_for, on_forwarded, takes_connection, with_fields}
 use Rattle.bg_both_sides.specs.Laws.{GoesElsewhereUnsent, begun}
-use Rattle.bg_both_sides.specs.Runs.{EndpointEvent, SidesCall, SidesCalls, SidesRun, Happens, StepsBy, breaks, client_takes, comes, connects, connects_streamed, dial_fails, dials, endpoint_gives, endpoint_is_ending, endpoint_reads_no_more, endpoint_writes, ends, enters, given_up, notes, passes, reads, refuses, streams, written_by, written_of}
+use Rattle.bg_both_sides.specs.Runs.{EndpointEvent, SidesCall, SidesCalls, SidesRun, Happens, StepsBy, breaks, client_takes, comes, connects, connects_streamed, dial_fails, dials, endpoint_gives, endpoint_is_ending, endpoint_reads_no_more, endpoint_writes, ends, enters, given_up, notes, passes, reads, refuses, streams, written_by, written_of, replaces_fields}
 use Rattle.bg_both_sides.specs.Sides.{Sides, to_endpoint}
 use Rattle.bg_both_sides.specs.StreamedEvents.{AtStreamed, ClientTakes, ClientTakesOf, ConnectsStreamed, Telling}
 use Rattle.bg_both_sides.specs.declared.stream_limits.StreamLimits.{StreamLimits}
@@ -253,6 +254,14 @@ connects_unsent (side.Forwarding request f) is_kept limits now goes_on true new 
 connects_unsent (side.Streaming request s) is_kept limits now goes_on true new written unsent is = absurd is
 connects_unsent e is_kept limits now goes_on false new written unsent is = moved e new written is unsent
 
+fields_unsent : (endpoint : EndpointSide) (fields : List Field) (written : List ℕ) → Unsent endpoint written
+    → Unsent (with_fields fields endpoint) written
+fields_unsent side.NoRequest fields written unsent = unsent
+fields_unsent (side.Entered request) fields written unsent = unsent
+fields_unsent (side.Dialing request d) fields written unsent = unsent
+fields_unsent (side.Forwarding request f) fields written unsent = unsent
+fields_unsent (side.Streaming request s) fields written unsent = unsent
+
 unsent_step : (old : Sides) (call : SidesCall) (new : Sides) (written : List ℕ) → Unsent old.endpoint written
     → SidesCalls old call new → Unsent new.endpoint (written_by written call)
 unsent_step old (reads call result now answer) new written unsent is =
@@ -265,6 +274,8 @@ unsent_step old (enters request) new written unsent is =
     (sym is.0) (entered_unsent (waiting_request old.client.stage) old written unsent))
 unsent_step old (refuses now told reply) new written unsent is =
     refuses_unsent old.endpoint now old.client told reply new written unsent is
+unsent_step old (replaces_fields fields) new written unsent is =
+    moved (with_fields fields old.endpoint) new.endpoint written is.1 (fields_unsent old.endpoint fields written unsent)
 unsent_step old (dials route now does) new written unsent is =
     dials_unsent old.endpoint route now does new.endpoint written unsent is.1
 unsent_step old (connects is_kept now taken) new written unsent is =

@@ -1,14 +1,15 @@
 -- How often a request is sent again over calls.
 use Rattle.std.proofs.Common.{◌≡◌, ℕ, ◌+◌, ◌≤◌, Bool, true, false, not, ◌&&◌, List, [], ◌∷◌, length, refl, ap, arith, Option, Some, None}
+use Rattle.bg_http.specs.Elements.{Field}
 use Rattle.bg_http.specs.declared.request.Request.{Request}
 use Rattle.bg_client_side.specs.Clients.{Client, stays_after}
 use Rattle.bg_endpoint_side.specs.Dialing.{Dialing, Forwarded, may_go_elsewhere}
 use Rattle.bg_endpoint_side.specs.Forwarding.{again, unread, with_end, wrote}
 use Rattle.bg_both_sides.specs.Answers.{Reply}
 use Rattle.bg_both_sides.specs.ClientEvents.{entered_as}
-use Rattle.bg_both_sides.specs.EndpointEvents.{Dials, DialsElsewhere, RefusesEntered, begins, on_forwarded, takes_connection}
+use Rattle.bg_both_sides.specs.EndpointEvents.{Dials, DialsElsewhere, RefusesEntered, begins, on_forwarded, takes_connection, with_fields}
 use Rattle.bg_both_sides.specs.Laws.{none_enters}
-use Rattle.bg_both_sides.specs.Runs.{SidesCall, SidesCalls, SidesRun, again_by, again_in, client_takes, connects, connects_streamed, dials, endpoint_gives, endpoint_is_ending, endpoint_reads_no_more, endpoint_writes, enters, enters_none, notes, one_if, reads, refuses, streams}
+use Rattle.bg_both_sides.specs.Runs.{SidesCall, SidesCalls, SidesRun, again_by, again_in, client_takes, connects, connects_streamed, dials, endpoint_gives, endpoint_is_ending, endpoint_reads_no_more, endpoint_writes, enters, enters_none, notes, one_if, reads, refuses, streams, replaces_fields}
 use Rattle.bg_both_sides.specs.Sides.{Sides}
 use Rattle.bg_both_sides.specs.declared.endpoint_side.EndpointSide.{EndpointSide}
 use Rattle.bg_both_sides.specs.declared.endpoint_side.EndpointSide.TheVariants as side
@@ -65,6 +66,13 @@ changed_left (side.Dialing request d) change same = refl
 changed_left (side.Forwarding request f) change same = ap (λ b. one_if (not b)) (same f)
 changed_left (side.Streaming request s) change same = ap (λ b. one_if (not b)) (same s.forwarded)
 
+fields_left : (endpoint : EndpointSide) (fields : List Field) → left (with_fields fields endpoint) ≡ left endpoint
+fields_left side.NoRequest fields = refl
+fields_left (side.Entered request) fields = refl
+fields_left (side.Dialing request d) fields = refl
+fields_left (side.Forwarding request f) fields = refl
+fields_left (side.Streaming request s) fields = refl
+
 left_step : (old : Sides) (call : SidesCall) (new : Sides) → enters_none call ≡ true → SidesCalls old call new
     → again_by call + left new.endpoint ≤ left old.endpoint
 left_step old (reads call result now answer) new none is = same_left old.endpoint new.endpoint is.2
@@ -76,6 +84,10 @@ left_step old (enters request) new none is =
     omega (arith, lefts, named, few)
 left_step old (refuses now told reply) new none is =
     let few = refuses_left old.endpoint now old.client told reply new is in omega (arith, few)
+left_step old (replaces_fields fields) new none is =
+    let lefts = ap left is.1 in
+    let same = fields_left old.endpoint fields in
+    omega (arith, lefts, same)
 left_step old (dials route now does) new none is =
     let few = dials_left old.endpoint route now does new.endpoint is.1 in omega (arith, few)
 left_step old (connects is_kept now taken) new none is =

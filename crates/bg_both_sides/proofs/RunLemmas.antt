@@ -1,5 +1,6 @@
 -- What calls, one after the other, make of the two sides of a client's connection.
 use Rattle.std.proofs.Common.{◌≡◌, ◌∙◌, ℕ, Bool, true, false, List, [], ◌∷◌, length, refl, sym, ap, subst, Option, Some, None}
+use Rattle.bg_http.specs.Elements.{Field}
 use Rattle.bg_http.specs.declared.request.Request.{Request}
 use Rattle.bg_client_side.specs.Clients.{Client, stays_after, taken}
 use Rattle.bg_client_side.specs.Runs.{Calls, ClientCall, Runs, answers, begins_closing, begins_passing_on, continues, cuts, discards, ends_input, fails, feeds, looks, passes_on, takes, writes}
@@ -13,11 +14,12 @@ use Rattle.bg_both_sides.proofs.ClientLemmas.{IsAt, closing_alike, continued_ali
 use Rattle.bg_both_sides.proofs.SoundLemmas.{begins_sound, changed_sound, dialing_sound, dials_sound, ending_is, ends_is, entered_sound, fails_is, forwarded_sound, gives_up_sound, looks_sound, receives_is, refuses_sound, sound_alike, unread_is, wrote_is}
 use Rattle.bg_both_sides.specs.Answers.{Reply}
 use Rattle.bg_both_sides.specs.ClientEvents.{entered_as}
-use Rattle.bg_both_sides.specs.EndpointEvents.{IsOnce, dial_failed, on_forwarded, takes_connection}
+use Rattle.bg_both_sides.specs.EndpointEvents.{IsOnce, dial_failed, on_forwarded, takes_connection, with_fields}
 use Rattle.bg_both_sides.specs.Laws.{RunsItsClient}
-use Rattle.bg_both_sides.specs.Runs.{EndpointEvent, SidesCall, SidesCalls, Happens, IsReading, breaks, client_calls, client_calls_in, StepsBy, client_takes, comes, connects, connects_streamed, dial_fails, dials, endpoint_gives, endpoint_is_ending, endpoint_reads_no_more, endpoint_writes, ends, enters, given_up, is_note, notes, passes, reads, refuses, reply_calls, streams}
+use Rattle.bg_both_sides.specs.Runs.{EndpointEvent, SidesCall, SidesCalls, Happens, IsReading, breaks, client_calls, client_calls_in, StepsBy, client_takes, comes, connects, connects_streamed, dial_fails, dials, endpoint_gives, endpoint_is_ending, endpoint_reads_no_more, endpoint_writes, ends, enters, given_up, is_note, notes, passes, reads, refuses, reply_calls, streams, replaces_fields}
 use Rattle.bg_both_sides.specs.Sides.{IsSound, Sides, is_streaming}
 use Rattle.bg_both_sides.specs.StreamedEvents.{AtStreamed, Telling}
+use Rattle.bg_both_sides.specs.declared.endpoint_side.EndpointSide.TheVariants as side
 use Rattle.bg_both_sides.specs.declared.endpoint_side.EndpointSide.{EndpointSide}
 use Rattle.bg_both_sides.specs.declared.endpoint_step.EndpointStep.{EndpointStep}
 use Rattle.bg_both_sides.proofs.AnswerRuns.{dialing_runs, fault_runs, forwarded_runs, gives_up_runs, looks_runs, refuses_runs, runs_on}
@@ -120,6 +122,14 @@ entered_client : (request : Option Request) (sides : Sides) → (entered_as requ
 entered_client None sides = refl
 entered_client (Some request) sides = refl
 
+fields_sound : (endpoint : EndpointSide) (fields : List Field) (client : Client) → IsSound client endpoint
+    → IsSound client (with_fields fields endpoint)
+fields_sound side.NoRequest fields client sound = sound
+fields_sound (side.Entered request) fields client sound = sound
+fields_sound (side.Dialing request d) fields client sound = sound
+fields_sound (side.Forwarding request f) fields client sound = sound
+fields_sound (side.Streaming request s) fields client sound = sound
+
 -- one call
 pub runs_step : StayLaw → (old : Sides) (call : SidesCall) (new : Sides) → IsSound old.client old.endpoint
     → SidesCalls old call new → Runs old.client (client_calls call) new.client × IsSound new.client new.endpoint
@@ -149,6 +159,11 @@ runs_step law old (enters request) new sound is = (
 runs_step law old (refuses now told reply) new sound is = (
   refuses_runs old.endpoint now old.client told reply new sound is,
   refuses_sound old.endpoint now old.client told reply new sound is,
+)
+runs_step law old (replaces_fields fields) new sound is = (
+  sym is.0,
+  same_client old.client new.client new.endpoint is.0 (same_endpoint old.client
+      (with_fields fields old.endpoint) new.endpoint is.1 (fields_sound old.endpoint fields old.client sound)),
 )
 runs_step law old (dials route now does) new sound is = (
   sym is.0,

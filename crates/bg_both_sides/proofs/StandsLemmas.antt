@@ -2,6 +2,7 @@
 use Rattle.std.proofs.Common.{◌≡◌, ◌∙◌, ℕ, Bool, true, false, cond, not, ◌&&◌, List, [], ◌∷◌, ◌++◌, length, take, refl, sym, ap, subst, append-nil, nat_le, OnOk, Option, Some, None, Result, Ok, Err}
 use Rattle.std.specs.Prelude.{⊤}
 use Rattle.std.proofs.Math.Seq.{take-append_seam}
+use Rattle.bg_http.specs.Elements.{Field}
 use Rattle.bg_http.specs.declared.request.Request.{Request}
 use Rattle.bg_client_side.specs.Clients.{Client, passed_at, stays_after}
 use Rattle.bg_client_side.specs.Stages.{is_passing_on, waiting_request}
@@ -26,9 +27,9 @@ use Rattle.bg_both_sides.proofs.StreamedLemmas.{OnStep, becomes_ok, broken_on}
 use Rattle.bg_both_sides.proofs.StreamedRuns.{follows_end}
 use Rattle.bg_both_sides.specs.ClientEvents.{entered_as}
 use Rattle.bg_both_sides.specs.Answers.{Reply}
-use Rattle.bg_both_sides.specs.EndpointEvents.{Dials, DialsElsewhere, Follows, LooksDialing, RefusesEntered, begins, dial_failed, dialing_elsewhere, dialing_for, on_forwarded, takes_connection}
+use Rattle.bg_both_sides.specs.EndpointEvents.{Dials, DialsElsewhere, Follows, LooksDialing, RefusesEntered, begins, dial_failed, dialing_elsewhere, dialing_for, on_forwarded, takes_connection, with_fields}
 use Rattle.bg_both_sides.specs.Laws.{PassesOnItsResponse, begun}
-use Rattle.bg_both_sides.specs.Runs.{EndpointEvent, SidesCall, SidesCalls, SidesRun, Happens, StepsBy, breaks, came_by, came_in, client_takes, comes, connects, connects_streamed, dial_fails, dials, endpoint_gives, endpoint_is_ending, endpoint_reads_no_more, endpoint_writes, ends, enters, given_up, notes, passed_by, passed_in, passes, reads, refuses, streams}
+use Rattle.bg_both_sides.specs.Runs.{EndpointEvent, SidesCall, SidesCalls, SidesRun, Happens, StepsBy, breaks, came_by, came_in, client_takes, comes, connects, connects_streamed, dial_fails, dials, endpoint_gives, endpoint_is_ending, endpoint_reads_no_more, endpoint_writes, ends, enters, given_up, notes, passed_by, passed_in, passes, reads, refuses, streams, replaces_fields}
 use Rattle.bg_both_sides.specs.Sides.{IsSound, Sides, is_streaming, to_client}
 use Rattle.bg_both_sides.specs.StreamedEvents.{AtStreamed, ClientTakes, ClientTakesOf, ConnectsStreamed, Telling}
 use Rattle.bg_both_sides.specs.declared.endpoint_side.EndpointSide.{EndpointSide}
@@ -330,6 +331,14 @@ connects_plain (side.Forwarding request f) is_kept now taken came passed is stan
 connects_plain (side.Streaming request s) is_kept now taken came passed is stands =
     subst (λ b. Stands (side.Streaming request s) (came_by came (connects is_kept now b)) passed) (sym is) stands
 
+fields_stand : (endpoint : EndpointSide) (fields : List Field) (came passed : List ℕ) → Stands endpoint came passed
+    → Stands (with_fields fields endpoint) came passed
+fields_stand side.NoRequest fields came passed stands = stands
+fields_stand (side.Entered request) fields came passed stands = stands
+fields_stand (side.Dialing request d) fields came passed stands = stands
+fields_stand (side.Forwarding request f) fields came passed stands = stands
+fields_stand (side.Streaming request s) fields came passed stands = stands
+
 stands_step : StayLaw → (old : Sides) (call : SidesCall) (new : Sides) (came passed : List ℕ) → IsSound old.client old.endpoint
     → Stands old.endpoint came passed → SidesCalls old call new → Stands new.endpoint (came_by came call) (passed_by passed call)
 stands_step law old (reads call result now answer) new came passed sound stands is =
@@ -341,6 +350,8 @@ stands_step law old (enters request) new came passed sound stands is =
     (entered_kept (waiting_request old.client.stage) old) stands)
 stands_step law old (refuses now told reply) new came passed sound stands is =
     kept_stands old.endpoint new.endpoint came passed (refuses_kept old.endpoint now old.client told reply new is) stands
+stands_step law old (replaces_fields fields) new came passed sound stands is =
+    moved (with_fields fields old.endpoint) new.endpoint came passed is.1 (fields_stand old.endpoint fields came passed stands)
 stands_step law old (dials route now does) new came passed sound stands is =
     kept_stands old.endpoint new.endpoint came passed (dials_kept old.endpoint route now does new.endpoint is.1) stands
 stands_step law old (connects is_kept now taken) new came passed sound stands is =

@@ -8,7 +8,7 @@ use Rattle.bg_client_side.specs.declared.reading.Fed.{Fed}
 use Rattle.bg_both_sides.proofs.RunLemmas.{StayLaw, runs_its_client}
 use Rattle.bg_both_sides.specs.Answers.{Answer, Reply, lacks, says}
 use Rattle.bg_both_sides.specs.Laws.{WritesItsAnswers}
-use Rattle.bg_both_sides.specs.Runs.{SidesCall, SidesCalls, SidesRun, IsReading, answer_calls, client_calls, client_calls_in, client_takes, connects, connects_streamed, dials, endpoint_gives, endpoint_is_ending, endpoint_reads_no_more, endpoint_writes, enters, fault_calls, fault_text, is_note, notes, reads, refuses, reply_calls, reply_text, streams, taken_calls, telling_calls, telling_text, text_of, texts_by, texts_in}
+use Rattle.bg_both_sides.specs.Runs.{SidesCall, SidesCalls, SidesRun, IsReading, answer_calls, client_calls, client_calls_in, client_takes, connects, connects_streamed, dials, endpoint_gives, endpoint_is_ending, endpoint_reads_no_more, endpoint_writes, enters, fault_calls, fault_text, is_note, notes, reads, refuses, reply_calls, reply_text, streams, taken_calls, telling_calls, telling_text, text_of, texts_by, texts_in, replaces_fields}
 use Rattle.bg_both_sides.specs.Sides.{Sides}
 use Rattle.bg_both_sides.specs.StreamedEvents as streamed
 use Rattle.bg_both_sides.specs.StreamedEvents.{Telling}
@@ -83,6 +83,7 @@ call_given old (reads call result now answer) new is =
 call_given old (notes call) new is = note_gives call is.0
 call_given old (enters request) new is = refl
 call_given old (refuses now told reply) new is = reply_given reply now
+call_given old (replaces_fields fields) new is = refl
 call_given old (dials route now does) new is = refl
 call_given old (connects is_kept now taken) new is = refl
 call_given old (endpoint_writes bytes now) new is = refl

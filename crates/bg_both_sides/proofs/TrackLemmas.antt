@@ -2,6 +2,7 @@
 use Rattle.std.proofs.Common.{◌≡◌, ◌∙◌, ℕ, Bool, true, false, cond, not, List, [], ◌∷◌, ◌++◌, length, take, refl, sym, ap, subst, nat_le, nat_lt, Option, Some, None}
 use Rattle.std.specs.Prelude.{⊤}
 use Rattle.std.proofs.Math.Seq.{take-append_seam}
+use Rattle.bg_http.specs.Elements.{Field}
 use Rattle.bg_http.specs.Codings.{is_empty}
 use Rattle.bg_http.specs.declared.request.Request.{Request}
 use Rattle.bg_client_side.specs.Clients.{Client, passed_at, stays_after}
@@ -21,8 +22,8 @@ use Rattle.bg_both_sides.proofs.StreamedLemmas.{came_with, steps_on, takes_on}
 use Rattle.bg_both_sides.proofs.StreamedRuns.{follows_end}
 use Rattle.bg_both_sides.specs.Answers.{Reply}
 use Rattle.bg_both_sides.specs.ClientEvents.{entered_as}
-use Rattle.bg_both_sides.specs.EndpointEvents.{Dials, DialsElsewhere, Follows, LooksDialing, RefusesEntered, begins, dial_failed, dialing_elsewhere, dialing_for, on_forwarded, takes_connection}
-use Rattle.bg_both_sides.specs.Runs.{EndpointEvent, SidesCall, SidesCalls, SidesRun, Happens, StepsBy, breaks, came_by, came_in, client_takes, comes, connects, connects_streamed, dial_fails, dials, endpoint_gives, endpoint_is_ending, endpoint_reads_no_more, endpoint_writes, ends, enters, given_up, notes, passes, reads, refuses, sent_by, sent_in, streams}
+use Rattle.bg_both_sides.specs.EndpointEvents.{Dials, DialsElsewhere, Follows, LooksDialing, RefusesEntered, begins, dial_failed, dialing_elsewhere, dialing_for, on_forwarded, takes_connection, with_fields}
+use Rattle.bg_both_sides.specs.Runs.{EndpointEvent, SidesCall, SidesCalls, SidesRun, Happens, StepsBy, breaks, came_by, came_in, client_takes, comes, connects, connects_streamed, dial_fails, dials, endpoint_gives, endpoint_is_ending, endpoint_reads_no_more, endpoint_writes, ends, enters, given_up, notes, passes, reads, refuses, sent_by, sent_in, streams, replaces_fields}
 use Rattle.bg_both_sides.specs.Sides.{Sides, to_endpoint}
 use Rattle.bg_both_sides.specs.StreamedEvents.{AtStreamed, ClientTakes, ClientTakesOf, ConnectsStreamed, Telling}
 use Rattle.bg_both_sides.specs.declared.stream_limits.StreamLimits.{StreamLimits}
@@ -352,6 +353,14 @@ ending_tracks (side.Dialing request d) sent came tracks = tt
 ending_tracks (side.Forwarding request f) sent came tracks = (tracks.0, tracks.1)
 ending_tracks (side.Streaming request s) sent came tracks = (tracks.0, tracks.1)
 
+fields_tracks : (endpoint : EndpointSide) (fields : List Field) (sent came : List ℕ) → Tracks endpoint sent came
+    → Tracks (with_fields fields endpoint) sent came
+fields_tracks side.NoRequest fields sent came tracks = tt
+fields_tracks (side.Entered request) fields sent came tracks = tt
+fields_tracks (side.Dialing request d) fields sent came tracks = tt
+fields_tracks (side.Forwarding request f) fields sent came tracks = tracks
+fields_tracks (side.Streaming request s) fields sent came tracks = tracks
+
 tracks_step : (old : Sides) (call : SidesCall) (new : Sides) (sent came : List ℕ) → Tracks old.endpoint sent came
     → SidesCalls old call new → Tracks new.endpoint (sent_by sent call) (came_by came call)
 tracks_step old (reads call result now answer) new sent came tracks is =
@@ -362,6 +371,8 @@ tracks_step old (enters request) new sent came tracks is =
     (ap (λ (n : Sides). n.endpoint) is.1) (entered_tracks (waiting_request old.client.stage) old sent came tracks)
 tracks_step old (refuses now told reply) new sent came tracks is =
     refuses_tracks old.endpoint now old.client told reply new sent came tracks is
+tracks_step old (replaces_fields fields) new sent came tracks is =
+    moved (with_fields fields old.endpoint) new.endpoint sent came is.1 (fields_tracks old.endpoint fields sent came tracks)
 tracks_step old (dials route now does) new sent came tracks is =
     dials_tracks old.endpoint route now does new.endpoint sent came tracks is.1
 tracks_step old (connects is_kept now taken) new sent came tracks is =

@@ -1,5 +1,6 @@
 -- What happens to the request at its endpoint.
-use Rattle.std.specs.Prelude.{◌≡◌, ℕ, Bool, true, false, ◌&&◌, not, nat_le, Option, Some, None, Ok, IsFalse}
+use Rattle.std.specs.Prelude.{◌≡◌, ℕ, Bool, true, false, ◌&&◌, not, nat_le, List, Option, Some, None, Ok, IsFalse}
+use Rattle.bg_http.specs.Elements.{Field}
 use Rattle.bg_http.specs.Persistences.{keeps}
 use Rattle.bg_http.specs.Texts.{request_text}
 use Rattle.bg_http.specs.declared.request.Request.{Request}
@@ -29,6 +30,11 @@ use Rattle.bg_both_sides.specs.declared.endpoint_side.EndpointSide.TheVariants a
 use Rattle.bg_both_sides.specs.declared.route.Route.{Route}
 
 -- THE REQUEST IS SENT
+
+-- a request that entered is forwarded with these fields in the place of its own
+abbrev pub with_fields : List Field → EndpointSide → EndpointSide
+with_fields fields (side.Entered request) = side.Entered (record request { fields = fields })
+with_fields fields other = other
 
 -- a request is dialled for, with the text in which it is forwarded
 abbrev pub dialing_for : Request → Route → ℕ → Dialing

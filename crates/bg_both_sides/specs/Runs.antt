@@ -1,5 +1,6 @@
 -- The calls on both sides of a client's connection, one after the other.
 use Rattle.std.specs.Prelude.{◌≡◌, ℕ, ◌+◌, Bool, true, false, if◌then◌else◌, List, [], ◌∷◌, ◌++◌, length, Option, Some, None}
+use Rattle.bg_http.specs.Elements.{Field}
 use Rattle.bg_http.specs.declared.persistence.Persistence.TheVariants.{Close}
 use Rattle.bg_http.specs.declared.request.Request.{Request}
 use Rattle.bg_client_side.specs.Runs.{Calls, ClientCall, answers, begins_closing, begins_passing_on, continues, cuts as client_cuts, discards, ends_input, fails, feeds, looks, passes_on, takes, writes}
@@ -14,7 +15,7 @@ use Rattle.bg_endpoint_side.specs.declared.outcome.GivingUp.{GivingUp}
 use Rattle.bg_endpoint_side.specs.declared.streamed_step.StreamedStep.{StreamedStep}
 use Rattle.bg_both_sides.specs.Answers.{Answer, Reply, lacks, says}
 use Rattle.bg_both_sides.specs.ClientEvents.{ReadsSide, entered}
-use Rattle.bg_both_sides.specs.EndpointEvents.{AtDialing, AtForwarded, Dials, GivesUp, IsOnce, Looks, RefusesEntered, connected, dial_failed, on_forwarded, takes_connection}
+use Rattle.bg_both_sides.specs.EndpointEvents.{AtDialing, AtForwarded, Dials, GivesUp, IsOnce, Looks, RefusesEntered, connected, dial_failed, on_forwarded, takes_connection, with_fields}
 use Rattle.bg_both_sides.specs.Sides.{Sides, to_client, to_endpoint}
 use Rattle.bg_both_sides.specs.StreamedEvents.{AtStreamed, ClientTakes, ConnectsStreamed, IsOnceStreamed, Telling, passes_here}
 use Rattle.bg_both_sides.specs.StreamedEvents as streamed
@@ -42,6 +43,8 @@ pub data SidesCall : Type 0 where
   enters : Option Request → SidesCall
   -- whether a request that entered was refused, and the answer to it
   refuses : ℕ → Bool → Option Reply → SidesCall
+  -- the request that entered, if one did, is forwarded with these fields
+  replaces_fields : List Field → SidesCall
   -- whether a request that entered is dialled for
   dials : Route → ℕ → Bool → SidesCall
   -- whether a connection, which was kept or is new, became that of the request
@@ -107,6 +110,8 @@ SidesCalls old (notes call) new =
     (is_note call ≡ true) × Calls old.client call new.client × (new.endpoint ≡ old.endpoint)
 SidesCalls old (enters request) new = (request ≡ waiting_request old.client.stage) × (new ≡ entered old)
 SidesCalls old (refuses now told reply) new = RefusesEntered old.endpoint now old.client told reply new
+SidesCalls old (replaces_fields fields) new =
+    (new.client ≡ old.client) × (new.endpoint ≡ with_fields fields old.endpoint)
 SidesCalls old (dials route now does) new =
     (new.client ≡ old.client) × Dials old.endpoint route now does new.endpoint
 SidesCalls old (connects is_kept now taken) new =

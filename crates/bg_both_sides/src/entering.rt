@@ -4,7 +4,8 @@ ghost use Rattle.bg_client_side.specs.Stages.{waiting_request};
 ghost use Rattle.bg_endpoint_side.specs.Dialing.{may_go_elsewhere};
 ghost use Rattle.bg_both_sides.specs.Answers.{Reply};
 ghost use Rattle.bg_both_sides.specs.ClientEvents.{entered};
-ghost use Rattle.bg_both_sides.specs.EndpointEvents.{Dials, DialsElsewhere, DialsFor, RefusesEntered, begins, connected, takes_connection};
+ghost use Rattle.bg_both_sides.specs.EndpointEvents.{Dials, DialsElsewhere, DialsFor, RefusesEntered, begins, connected, takes_connection, with_fields};
+ghost use Rattle.bg_both_sides.specs.Sides.{as_entered};
 ghost use Rattle.bg_both_sides.specs.declared.endpoint_side.EndpointSide.TheVariants as side;
 
 use crate::answering::refuse;
@@ -13,7 +14,7 @@ use crate::endpoint_side::EndpointSide;
 use crate::route::Route;
 use crate::texts::request_front;
 use bg_endpoint_side::{DialingRequest, Terms, is_idempotent};
-use bg_http::Request;
+use bg_http::{Fields, Request};
 use std::alloc::Global;
 use std::mem;
 
@@ -29,6 +30,26 @@ impl BothSides {
                 true
             }
             None => false,
+        }
+    }
+
+    /// Has the request that entered forwarded with these fields in the place of its own, from now on. Gives whether there is
+    /// one that is not on its way to an endpoint; otherwise nothing changes.
+    pub fn replace_fields(&mut self, fields: Fields) -> bool
+        ensures replaced { result ≡ is_some (as_entered self.old.endpoint) }
+        ensures client { self.new.client ≡ self.old.client }
+        ensures endpoint { self.new.endpoint ≡ with_fields fields self.old.endpoint }
+    {
+        match mem::replace(&mut self.endpoint, EndpointSide::NoRequest).into_entered() {
+            Ok(mut request) => {
+                request.fields = fields;
+                self.endpoint = EndpointSide::Entered(request);
+                true
+            }
+            Err(other) => {
+                self.endpoint = other;
+                false
+            }
         }
     }
 

@@ -57,11 +57,15 @@ kept_and_count flags =
     ∷ held (number_rule (codes "endpoint-keep-alive-timeout") 3600) ∷ held (text_rule (codes "journal"))
     ∷ held (count_rule flags.forever) ∷ held (forever_rule flags.forever) ∷ held help_rule ∷ []
 
+abbrev message_and_later : Flags → List Rule
+message_and_later flags =
+    held (flag_rule (codes "stream")) ∷ held (number_rule (codes "silence") 3600)
+    ∷ held (flag_rule (codes "forwarded")) ∷ held (flag_rule (codes "trust-forwarded")) ∷ kept_and_count flags
+
 abbrev client_and_later : Flags → List Rule
 client_and_later flags =
     held (flag_rule (codes "abort-on-close")) ∷ held (number_rule (codes "shutdown-grace") 60)
-    ∷ held (number_rule (codes "shutdown-timeout") 3600) ∷ held (flag_rule (codes "error-pages"))
-    ∷ held (flag_rule (codes "stream")) ∷ kept_and_count flags
+    ∷ held (number_rule (codes "shutdown-timeout") 3600) ∷ held (flag_rule (codes "error-pages")) ∷ message_and_later flags
 
 abbrev endpoint_and_later : Flags → List Rule
 endpoint_and_later flags =
@@ -93,6 +97,18 @@ kept_and_count_keep flags = let c = (serve flags).rules in (
   ),
 )
 
+message_and_later_keep : (flags : Flags) → Each (Keeps (serve flags).rules) (message_and_later flags)
+message_and_later_keep flags = let c = (serve flags).rules in (
+  flag_keeps c false (codes "stream") refl,
+  (
+    number_keeps c (codes "silence") 3600 refl,
+    (
+      flag_keeps c false (codes "forwarded") refl,
+      (flag_keeps c false (codes "trust-forwarded") refl, kept_and_count_keep flags),
+    ),
+  ),
+)
+
 client_and_later_keep : (flags : Flags) → Each (Keeps (serve flags).rules) (client_and_later flags)
 client_and_later_keep flags = let c = (serve flags).rules in (
   flag_keeps c false (codes "abort-on-close") refl,
@@ -100,10 +116,7 @@ client_and_later_keep flags = let c = (serve flags).rules in (
     number_keeps c (codes "shutdown-grace") 60 refl,
     (
       number_keeps c (codes "shutdown-timeout") 3600 refl,
-      (
-        flag_keeps c false (codes "error-pages") refl,
-        (flag_keeps c false (codes "stream") refl, kept_and_count_keep flags),
-      ),
+      (flag_keeps c false (codes "error-pages") refl, message_and_later_keep flags),
     ),
   ),
 )
@@ -171,6 +184,18 @@ kept_and_count_defaults flags = let c = (serve flags).rules in (
   ),
 )
 
+message_and_later_defaults : (flags : Flags) → Each (DefaultKeeps (serve flags).rules) (message_and_later flags)
+message_and_later_defaults flags = let c = (serve flags).rules in (
+  flag_default_keeps c false (codes "stream") refl,
+  (
+    no_default_keeps c (held (number_rule (codes "silence") 3600)) refl,
+    (
+      flag_default_keeps c false (codes "forwarded") refl,
+      (flag_default_keeps c false (codes "trust-forwarded") refl, kept_and_count_defaults flags),
+    ),
+  ),
+)
+
 client_and_later_defaults : (flags : Flags) → Each (DefaultKeeps (serve flags).rules) (client_and_later flags)
 client_and_later_defaults flags = let c = (serve flags).rules in (
   flag_default_keeps c false (codes "abort-on-close") refl,
@@ -178,10 +203,7 @@ client_and_later_defaults flags = let c = (serve flags).rules in (
     no_default_keeps c (held (number_rule (codes "shutdown-grace") 60)) refl,
     (
       no_default_keeps c (held (number_rule (codes "shutdown-timeout") 3600)) refl,
-      (
-        flag_default_keeps c false (codes "error-pages") refl,
-        (flag_default_keeps c false (codes "stream") refl, kept_and_count_defaults flags),
-      ),
+      (flag_default_keeps c false (codes "error-pages") refl, message_and_later_defaults flags),
     ),
   ),
 )
@@ -307,6 +329,7 @@ serve_known flags words e =
       endpoint_limit = in_range c (held (number_rule (codes "endpoint-limit") 1023)) (codes "endpoint-limit") 1023 rows refl refl refl good;
       shutdown_grace = in_range c (held (number_rule (codes "shutdown-grace") 60)) (codes "shutdown-grace") 60 rows refl refl refl good;
       shutdown_timeout = in_range c (held (number_rule (codes "shutdown-timeout") 3600)) (codes "shutdown-timeout") 3600 rows refl refl refl good;
+      silence = in_range c (held (number_rule (codes "silence") 3600)) (codes "silence") 3600 rows refl refl refl good;
       keep_alive_timeout = in_range c (held (number_rule (codes "keep-alive-timeout") 3600)) (codes "keep-alive-timeout") 3600 rows refl refl refl good;
       keep_alive_requests = in_range c (held (number_rule (codes "keep-alive-requests") 1000000)) (codes "keep-alive-requests") 1000000 rows refl refl refl good;
       endpoint_keep_alive_timeout = in_range c (held (number_rule (codes "endpoint-keep-alive-timeout") 3600)) (codes "endpoint-keep-alive-timeout") 3600 rows refl refl refl good;

@@ -105,6 +105,10 @@ pub record IsServe (flags : Flags) (rows : List Row) (settings : ServeSettings) 
   pub shutdown_timeout_range : IsBetween 1 3600 settings.shutdown_timeout
   pub error_pages_is : settings.error_pages ≡ has_flag (codes "error-pages") rows
   pub stream_is : settings.stream ≡ has_flag (codes "stream") rows
+  pub silence_is : settings.silence ≡ number_of (codes "silence") rows
+  pub silence_range : IfSome settings.silence (IsBetween 1 3600)
+  pub forwarded_is : settings.forwarded ≡ has_flag (codes "forwarded") rows
+  pub trust_forwarded_is : settings.trust_forwarded ≡ has_flag (codes "trust-forwarded") rows
   pub keep_alive_is : IsKeepAlive rows settings.keep_alive
   pub journal_is : option_map (λ path. path.now) settings.journal ≡ first_of (codes "journal") rows
   pub connections_are : AreConnections flags.forever rows settings.connections

@@ -56,13 +56,19 @@ with_endpoint_rules a = with_rule (with_rule (with_rule a (flag_rule (codes "red
     (number_rule (codes "endpoint-limit") 1023))
     (text_rule (codes "endpoint-address"))
 
--- `[--abort-on-close] [--shutdown-grace S] [--shutdown-timeout S] [--error-pages] [--stream]`
+-- `[--abort-on-close] [--shutdown-grace S] [--shutdown-timeout S] [--error-pages]`
 abbrev pub with_client_rules : App → App
-with_client_rules a = with_rule (with_rule (with_rule (with_rule (with_rule a (flag_rule (codes "abort-on-close")))
+with_client_rules a = with_rule (with_rule (with_rule (with_rule a (flag_rule (codes "abort-on-close")))
     (number_rule (codes "shutdown-grace") 60))
     (number_rule (codes "shutdown-timeout") 3600))
-    (flag_rule (codes "error-pages")))
-    (flag_rule (codes "stream"))
+    (flag_rule (codes "error-pages"))
+
+-- `[--stream] [--silence S] [--forwarded] [--trust-forwarded]`
+abbrev pub with_message_rules : App → App
+with_message_rules a = with_rule (with_rule (with_rule (with_rule a (flag_rule (codes "stream")))
+    (number_rule (codes "silence") 3600))
+    (flag_rule (codes "forwarded")))
+    (flag_rule (codes "trust-forwarded"))
 
 -- `[--keep-alive] [--keep-alive-timeout S] [--keep-alive-requests N] [--endpoint-keep-alive-timeout S]`
 abbrev pub with_keep_alive_rules : App → App
@@ -81,13 +87,13 @@ with_connection_rules forever a = with_rule (with_rule a (count_rule forever)) (
 
 -- `serve --active P [--preview P] [--listen ADDRESS].. [--control-socket-mode MODE] [--control-socket-group GROUP]
 -- [--preview-concurrency M] [--threads N] [--redispatch] [--endpoint-limit M] [--endpoint-address ADDRESS] [--abort-on-close]
--- [--shutdown-grace S] [--shutdown-timeout S] [--error-pages] [--stream] [--keep-alive] [--keep-alive-timeout S]
--- [--keep-alive-requests N] [--endpoint-keep-alive-timeout S] [--journal FILE]`, with `--control P` or `--control-socket PATH` or both, `--workers N` or `--concurrency N`, and `--count K`
+-- [--shutdown-grace S] [--shutdown-timeout S] [--error-pages] [--stream] [--silence S] [--forwarded] [--trust-forwarded]
+-- [--keep-alive] [--keep-alive-timeout S] [--keep-alive-requests N] [--endpoint-keep-alive-timeout S] [--journal FILE]`, with `--control P` or `--control-socket PATH` or both, `--workers N` or `--concurrency N`, and `--count K`
 -- or `--forever`; the flags say which of each two is required
 abbrev pub serve_app : Flags → App
-serve_app flags = with_connection_rules flags.forever (with_journal_rule (with_keep_alive_rules (with_client_rules
+serve_app flags = with_connection_rules flags.forever (with_journal_rule (with_keep_alive_rules (with_message_rules (with_client_rules
     (with_endpoint_rules (with_worker_rules flags.concurrency (with_control_rules flags.socket
-    (with_port_rules (new_app (codes "serve")))))))))
+    (with_port_rules (new_app (codes "serve"))))))))))
 
 -- `bg_switch`, which has a version and requires a subcommand; there is no subcommand `help`
 abbrev pub top_app : App

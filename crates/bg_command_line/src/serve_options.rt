@@ -2,7 +2,7 @@
 ghost use Rattle.std.specs.Prelude.{◌≡◌, fold, map};
 ghost use Rattle.clap.specs.Words.{App, with_rule};
 ghost use Rattle.bg_command_line.specs.OptionRules.{option_rule};
-ghost use Rattle.bg_command_line.specs.Subcommands.{with_client_rules, with_connection_rules, with_endpoint_rules, with_control_rules, with_journal_rule, with_keep_alive_rules, with_port_rules, with_worker_rules};
+ghost use Rattle.bg_command_line.specs.Subcommands.{with_client_rules, with_connection_rules, with_endpoint_rules, with_control_rules, with_journal_rule, with_keep_alive_rules, with_message_rules, with_port_rules, with_worker_rules};
 
 use crate::command_option::{CommandOption, OptionValue};
 use crate::invocation::Flags;
@@ -30,14 +30,14 @@ const MOST_COUNT: u64 = 1_000_000;
 /// The options of `serve`: `--active P [--preview P] [--listen ADDRESS]..`; `--control P`, `--control-socket PATH`,
 /// `[--control-socket-mode MODE]` and `[--control-socket-group GROUP]`; `--workers N`, `--concurrency N`,
 /// `[--preview-concurrency M]` and `[--threads N]`; `[--redispatch] [--endpoint-limit M]
-/// [--endpoint-address ADDRESS]`; `[--abort-on-close] [--shutdown-grace S] [--shutdown-timeout S] [--error-pages]
-/// [--stream]`; `[--keep-alive] [--keep-alive-timeout S] [--keep-alive-requests N] [--endpoint-keep-alive-timeout S]`; `[--journal FILE]`; `--count K` and
-/// `--forever`. The flags say which of `--control` and `--control-socket` is required, which of `--workers` and
+/// [--endpoint-address ADDRESS]`; `[--abort-on-close] [--shutdown-grace S] [--shutdown-timeout S] [--error-pages]`;
+/// `[--stream] [--silence S] [--forwarded] [--trust-forwarded]`; `[--keep-alive] [--keep-alive-timeout S]
+/// [--keep-alive-requests N] [--endpoint-keep-alive-timeout S]`; `[--journal FILE]`; `--count K` and `--forever`. The flags say which of `--control` and `--control-socket` is required, which of `--workers` and
 /// `--concurrency`, and which of `--count` and `--forever`.
-pub(crate) fn serve_options<'a>(flags: Flags) -> [CommandOption<'a>; 26]
+pub(crate) fn serve_options<'a>(flags: Flags) -> [CommandOption<'a>; 29]
     ensures { (before : App) → fold with_rule before (map option_rule result) ≡ with_connection_rules flags.forever
-        (with_journal_rule (with_keep_alive_rules (with_client_rules (with_endpoint_rules (with_worker_rules flags.concurrency
-        (with_control_rules flags.socket (with_port_rules before))))))) }
+        (with_journal_rule (with_keep_alive_rules (with_message_rules (with_client_rules (with_endpoint_rules
+        (with_worker_rules flags.concurrency (with_control_rules flags.socket (with_port_rules before)))))))) }
 {
     [
         CommandOption {
@@ -153,6 +153,24 @@ pub(crate) fn serve_options<'a>(flags: Flags) -> [CommandOption<'a>; 26]
             value: OptionValue::Nothing,
             required: false,
             help: "A response is passed on to its client as it comes, whatever its length",
+        },
+        CommandOption {
+            name: "silence",
+            value: OptionValue::UpTo(MOST_SECONDS),
+            required: false,
+            help: "For how many seconds an endpoint may be silent with --stream, 1 to 3600; as many as a message may take where it isn't given",
+        },
+        CommandOption {
+            name: "forwarded",
+            value: OptionValue::Nothing,
+            required: false,
+            help: "Requests tell their endpoints where they come from: X-Forwarded-For and its kin, Forwarded, X-Request-Id",
+        },
+        CommandOption {
+            name: "trust-forwarded",
+            value: OptionValue::Nothing,
+            required: false,
+            help: "With --forwarded, what clients tell of that goes on, too: they are proxies",
         },
         CommandOption {
             name: "keep-alive",

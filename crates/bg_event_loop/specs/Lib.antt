@@ -1,6 +1,7 @@
 pub mod Addresses
 pub mod LivePorts
 pub mod Moments
+pub mod Origins
 pub mod Outcomes
 pub mod Readinesses
 pub mod Seats

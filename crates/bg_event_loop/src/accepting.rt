@@ -128,8 +128,12 @@ impl<'a, P: EndpointPorts, L: RequestLog> EventLoop<'a, P, L> {
 
     fn begin_client(&mut self, stream: TcpStream) {
         let sides = BothSides::new(self.alloc, self.settings.clients, self.now);
+        let mut client = Client::new(stream, sides, self.now);
+        if self.settings.origin.is_some() {
+            client.note_address();
+        }
         // without memory, the connection is closed
-        if let Ok(key) = self.clients.put(Client::new(stream, sides, self.now)) {
+        if let Ok(key) = self.clients.put(client) {
             if self.loads.accept(key, self.now).is_ok() {
                 self.make_due(key);
             } else {

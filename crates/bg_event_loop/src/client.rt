@@ -10,11 +10,13 @@ use crate::tries::Tries;
 use bg_both_sides::{BothSides, Given};
 use bg_endpoint_side::GivingUp;
 use bg_forward::Route;
-use std::net::TcpStream;
+use std::net::{IpAddr, TcpStream};
 
 /// The connection of a client, with its socket.
 pub(crate) struct Client {
     pub(crate) stream: TcpStream,
+    /// Its address, if requests tell where they come from and the system gave it.
+    pub(crate) address: Option<IpAddr>,
     pub(crate) ready: Readiness,
     /// Whether the set watches it.
     pub(crate) is_watched: bool,
@@ -46,6 +48,7 @@ impl Drop for Client {
     fn drop(self) {
         let Client {
             stream: _,
+            address: _,
             ready: _,
             is_watched: _,
             sides: _,
@@ -68,6 +71,7 @@ impl Client {
     pub(crate) fn new(stream: TcpStream, sides: BothSides, now: u64) -> Client {
         Client {
             stream,
+            address: None,
             ready: Readiness {
                 input: true,
                 output: true,

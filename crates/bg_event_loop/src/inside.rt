@@ -41,7 +41,8 @@ impl<'a, P: EndpointPorts, L: RequestLog> EventLoop<'a, P, L> {
         let why = match ticket {
             Ok(ticket) => {
                 client.record.note_entered(ticket, self.now);
-                if self.endpoints.dials_for(client, ticket.port, self.now) {
+                let tells = client.tell_origin(self.alloc, self.settings.origin, ticket.number);
+                if tells && self.endpoints.dials_for(client, ticket.port, self.now) {
                     client.seat = Some(entered.seat);
                     self.endpoints.begin(client, entered.key, self.now);
                     return Ok(());

@@ -15,6 +15,8 @@ pub struct EndedRequest<'a> {
     pub served: Served,
     /// The method and the target, if the head of the request was parsed.
     pub line: Option<RequestLine<'a>>,
+    /// The id that its endpoint was told, at most its first 1,024 bytes; `None` if it was told none.
+    pub id: Option<&'a [u8]>,
     /// Whether the request was refused although its head passes all rules.
     pub is_head_sound: bool,
     /// The number of the request among those of its connection, from 1 on.

@@ -7,7 +7,7 @@ use bg_forward::{Route, Served};
 use bg_http::Request;
 use std::alloc::{AllocError, Global};
 
-/// The most bytes that are kept of a method and of a target.
+/// The most bytes that are kept of a method, of a target and of an id.
 const MOST_BYTES: usize = 1_024;
 
 /// Copies of the method and the target of a request.
@@ -41,6 +41,8 @@ pub(crate) struct RequestRecord {
     /// Whether the request is whole.
     is_whole: bool,
     line: Option<OwnedLine>,
+    /// The id that its endpoint is told, if it is told one.
+    id: Option<Vec<u8>>,
     /// What the request got when it entered, and when it did.
     ticket: Option<Ticket>,
     entered: u64,
@@ -60,6 +62,7 @@ impl Drop for RequestRecord {
             bytes: _,
             is_whole: _,
             line: _,
+            id: _,
             ticket: _,
             entered: _,
             is_reused: _,
@@ -78,6 +81,7 @@ impl RequestRecord {
             bytes: 0,
             is_whole: false,
             line: None,
+            id: None,
             ticket: None,
             entered: 0,
             is_reused: None,
@@ -158,6 +162,14 @@ impl RequestRecord {
         self.line = OwnedLine::of(alloc, request).ok();
     }
 
+    /// Keeps the id that its endpoint is told. Without memory, it is not logged.
+    pub(crate) fn keep_id(&mut self, alloc: Global, id: Option<&[u8]>) {
+        self.id = match id {
+            Some(id) => first_bytes(alloc, id).ok(),
+            None => None,
+        };
+    }
+
     /// The time from when the request entered to the first bytes of its answer, which is given now if it was not passed on.
     pub(crate) fn millis_to_answer(&self, now: u64) -> Option<u64> {
         let at = self.passed_on_at.unwrap_or(now);
@@ -187,6 +199,10 @@ impl RequestRecord {
                 reason: ended.outcome.reason,
             },
             line,
+            id: match &self.id {
+                Some(id) => Some(id.as_slice()),
+                None => None,
+            },
             is_head_sound: ended.is_head_sound,
             place: self.ended.saturating_add(1),
             is_reused: self.is_reused,

@@ -42,6 +42,17 @@ pub struct KeptSettings {
     pub endpoint_millis: u64,
 }
 
+/// How requests tell their endpoints where they come from (RFC 7239).
+#[derive(Clone, Copy, Drop)]
+pub struct OriginSettings {
+    /// Whether clients are trusted: they are proxies, whose own fields of this kind go on.
+    pub trusts_clients: bool,
+    /// The first half of the ids that requests get, which differs from run to run of the program.
+    pub run: u64,
+    /// What is added to the number of a request in the book, in its id.
+    pub number_offset: u64,
+}
+
 /// The settings of an event loop.
 #[derive(Clone, Copy, Drop)]
 pub struct LoopSettings {
@@ -49,6 +60,8 @@ pub struct LoopSettings {
     pub service: Service,
     pub clients: ClientSettings,
     pub endpoints: EndpointSettings,
+    /// How requests tell their endpoints where they come from; `None` if they do not.
+    pub origin: Option<OriginSettings>,
     /// The bounds on its connections and on what they take.
     pub loads: LoadSettings,
     /// The most requests that may wait for a seat. Each further one is refused with 503.
@@ -66,13 +79,14 @@ pub struct LoopSettings {
 
 impl LoopSettings {
     /// The usual settings: endpoints are at 127.0.0.1, each connection, of either side, carries one request, a response is passed on
-    /// once it is whole, a refusal has an empty body, and the gate is asked whether requests go on.
+    /// once it is whole, a request does not tell where it comes from, a refusal has an empty body, and the gate is asked whether requests go on.
     pub fn usual(service: Service) -> LoopSettings
         ensures service { result.service ≡ service }
         ensures clients { keeps result.clients.persistence ≡ false }
         ensures endpoints { keeps result.endpoints.persistence ≡ false }
         ensures address { IsLocalhost result.endpoints.address }
         ensures stream { result.endpoints.stream ≡ None }
+        ensures origin { result.origin ≡ None }
         ensures refusals { result.clients.refusal_body ≡ body.Empty }
         ensures drains { result.limits_drains ≡ true }
     {
@@ -96,6 +110,7 @@ impl LoopSettings {
                 kept_millis: 60_000,
                 stream: None,
             },
+            origin: None,
             loads: LoadSettings {
                 loops: 1,
                 connections: 1_024,

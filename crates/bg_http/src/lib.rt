@@ -38,7 +38,7 @@ pub use fields::{FieldIter, Fields};
 pub use memory_stream::MemoryStream;
 pub use persistence::Persistence;
 pub use refusal::{RefusalBody, RefusalPage, write_refusal_with};
-pub use removed::says_close;
+pub use removed::{is_forwarded, says_close};
 pub use request::{Request, RequestHead};
 pub use request_fault::RequestFault;
 pub use request_rules::{Framing, MOST_REQUEST_BODY, judge_request, owes_continue};

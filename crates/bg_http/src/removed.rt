@@ -1,12 +1,12 @@
 //! The fields that are not forwarded, and what Connection fields name.
-ghost use Rattle.std.specs.Prelude.{◌≡◌, codes};
+ghost use Rattle.std.specs.Prelude.{◌≡◌, codes, not};
 ghost use Rattle.std.specs.List.{list_any};
 ghost use Rattle.std.specs.Str.{str_eq_ignore_ascii_case};
 ghost use Rattle.bg_http.specs.Elements.{has_field as has_named};
 ghost use Rattle.bg_http.specs.Held.{elements_left};
 ghost use Rattle.bg_http.specs.Removed as spec;
 
-use crate::elements::{Elements, elements_named, is_same_name};
+use crate::elements::{Elements, elements_named, has_field, is_same_name};
 use crate::field::Field;
 use crate::fields::Fields;
 use crate::names::RuledName;
@@ -21,6 +21,15 @@ pub(crate) fn is_removed(fields: &Fields, has_connection: bool, field: &Field<'_
     is_of_connection(field)
         || (!field.is(RuledName::Host)
             && is_named_by_connection(fields, has_connection, field.name()))
+}
+
+/// Whether a field of a request is forwarded (RFC 9110 section 7.6.1). `fields` are all fields of the request. It is not if it
+/// is Connection or Connection names it, except Host; if it is Keep-Alive, Proxy-Connection, TE, Transfer-Encoding, Upgrade,
+/// Trailer or Content-Length; or if it is an Expect whose value is `100-continue`.
+pub fn is_forwarded(fields: &Fields, field: &Field<'_>) -> bool
+    ensures { result ≡ not (spec.is_removed_from_request fields.now field.now) }
+{
+    !is_removed_from_request(fields, has_field(fields, RuledName::Connection), field)
 }
 
 /// Whether the field of a request is not forwarded.

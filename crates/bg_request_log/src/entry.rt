@@ -24,6 +24,8 @@ pub struct ConnectionFacts<'a> {
     /// The method and the target of the request, or of one that was refused after its head was parsed.
     pub method: Option<CowStr<'a>>,
     pub target: Option<CowStr<'a>>,
+    /// The id that the endpoint was told of the request.
+    pub id: Option<CowStr<'a>>,
     /// Whether a request may be dialled at another port than its ticket's.
     pub redispatches: bool,
     /// Whether connections are kept.
@@ -61,6 +63,7 @@ pub fn entry_of<'a>(ended: &EndedRequest, facts: ConnectionFacts<'a>) -> LogEntr
         ≡ (if facts.entry.keeps_connections then Some ended.now.place else None) }
     ensures reused { result.upstream_reused
         ≡ (if facts.entry.keeps_connections then ended.now.is_reused else None) }
+    ensures id { result.request_id ≡ facts.entry.id }
 {
     let served = &ended.served;
     let entered = served.entered;
@@ -88,6 +91,7 @@ pub fn entry_of<'a>(ended: &EndedRequest, facts: ConnectionFacts<'a>) -> LogEntr
         idle_connections: facts.idle_connections,
         connection_request: place,
         upstream_reused: is_reused,
+        request_id: facts.id,
     }
 }
 

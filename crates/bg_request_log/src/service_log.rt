@@ -62,6 +62,7 @@ impl<R: Clock + Wait> ServiceLog<'_, R> {
             service: self.service,
             method: ended.line.and_then(|line| text_of(alloc, line.method)),
             target: ended.line.and_then(|line| text_of(alloc, line.target)),
+            id: ended.id.and_then(|id| text_of(alloc, id)),
             redispatches: self.redispatches,
             keeps_connections: self.keeps_connections,
             number_offset: self.number_offset,

@@ -33,6 +33,8 @@ pub struct ServeContext<'a, R> {
     pub log: Option<&'a AccessLog>,
     /// What the log adds to the numbers of requests in the book: 0 without a journal.
     pub number_offset: u64,
+    /// The first half of the ids of requests, which differs from run to run: the nanoseconds from 1970 to the start.
+    pub run: u64,
     /// The endpoints of the revisions, if a request may be dialled at another one than its ticket's.
     pub directory: Option<&'a Directory>,
     /// What refusals have as their bodies.

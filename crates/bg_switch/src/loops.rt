@@ -1,5 +1,5 @@
 //! Serves the clients of both services by event loops.
-ghost use Rattle.std.specs.Prelude.{◌≡◌, ◌*◌, ◌<◌, ◌^◌, IfSome, is_some, true};
+ghost use Rattle.std.specs.Prelude.{◌≡◌, ◌*◌, ◌<◌, ◌^◌, if◌then◌else◌, IfSome, None, Some, is_some, true, unwrap_or};
 ghost use Rattle.bg_command_line.specs.MessageTimeout.{seconds_of};
 ghost use Rattle.bg_event_loop.specs.Seats.{AllServed};
 ghost use Rattle.bg_forward.specs.Seats.{AllOut};
@@ -13,7 +13,8 @@ use bg_command_line::{KeepAlive, MessageTimeout};
 use bg_endpoint_side::Timeouts;
 use bg_endpoints::ResponseTimeout;
 use bg_event_loop::{
-    BookPorts, EndpointSettings, KeptSettings, LoopContext, LoopSettings, run_event_loops,
+    BookPorts, EndpointSettings, KeptSettings, LoopContext, LoopSettings, OriginSettings,
+    run_event_loops,
 };
 use bg_forward::DeskGate;
 use bg_ledger::{Names, Seat};
@@ -119,7 +120,12 @@ fn settings_of<R>(context: &ServeContext<R>, service: Service) -> LoopSettings
     ensures limits { IfSome result.endpoints.stream AreStreamLimits }
     ensures duration { context.now.words.now.stream ≡ true → result.endpoints.timeouts.response ≡ 18446744073709551615 }
     ensures silence { context.now.words.now.stream ≡ true → seconds_of context.now.timeout < 2 ^ 32
-        → result.endpoints.timeouts.idle ≡ seconds_of context.now.timeout * 1000 }
+        → result.endpoints.timeouts.idle ≡ unwrap_or context.now.words.now.silence (seconds_of context.now.timeout) * 1000 }
+    ensures origin { result.origin ≡ (if context.now.words.now.forwarded then Some (record {
+      trusts_clients = context.now.words.now.trust_forwarded;
+      run = context.now.run;
+      number_offset = context.now.number_offset;
+    }) else None) }
     ensures grace { result.grace_millis ≡ context.now.words.now.shutdown_grace * 1000 }
     ensures closing { result.closing_millis ≡ context.now.words.now.shutdown_timeout * 1000 }
 {
@@ -132,10 +138,11 @@ fn settings_of<R>(context: &ServeContext<R>, service: Service) -> LoopSettings
         },
         endpoints: EndpointSettings {
             address: context.words.endpoint_address,
-            timeouts: timeouts_of(context.timeout, context.words.stream),
+            timeouts: timeouts_of(context.timeout, context.words.silence, context.words.stream),
             stream: stream_limits(context.words.stream),
             ..usual.endpoints
         },
+        origin: origin_of(context),
         loads: LoadSettings {
             loops: u64::from(context.loops.of_service(service)),
             ..bounds
@@ -147,6 +154,24 @@ fn settings_of<R>(context: &ServeContext<R>, service: Service) -> LoopSettings
         closing_millis: millis(u64::from(context.words.shutdown_timeout)),
         ..usual
     }
+}
+
+/// How requests tell their endpoints where they come from, if the words say so.
+fn origin_of<R>(context: &ServeContext<R>) -> Option<OriginSettings>
+    ensures { result ≡ (if context.now.words.now.forwarded then Some (record {
+      trusts_clients = context.now.words.now.trust_forwarded;
+      run = context.now.run;
+      number_offset = context.now.number_offset;
+    }) else None) }
+{
+    if !context.words.forwarded {
+        return None;
+    }
+    Some(OriginSettings {
+        trusts_clients: context.words.trust_forwarded,
+        run: context.run,
+        number_offset: context.number_offset,
+    })
 }
 
 /// The limits of responses that are passed on as they come, if they are. Their bodies may have any length.
@@ -204,14 +229,15 @@ fn most_kept_endpoints<R>(context: &ServeContext<R>, service: Service) -> usize 
 
 /// The timeouts of a request at its endpoint. Of a response that is passed on as it comes, only silence is limited: it may last
 /// for any time.
-fn timeouts_of(timeout: MessageTimeout, is_streamed: bool) -> Timeouts
+fn timeouts_of(timeout: MessageTimeout, silence: Option<u16>, is_streamed: bool) -> Timeouts
     ensures response { is_streamed ≡ true → result.response ≡ 18446744073709551615 }
-    ensures idle { is_streamed ≡ true → seconds_of timeout < 2 ^ 32 → result.idle ≡ seconds_of timeout * 1000 }
+    ensures idle { is_streamed ≡ true → seconds_of timeout < 2 ^ 32
+        → result.idle ≡ unwrap_or silence (seconds_of timeout) * 1000 }
 {
     if is_streamed {
         return Timeouts {
             response: u64::MAX,
-            idle: millis(timeout.seconds()),
+            idle: millis(silence_seconds(timeout, silence)),
         };
     }
     let response = ResponseTimeout {
@@ -221,6 +247,17 @@ fn timeouts_of(timeout: MessageTimeout, is_streamed: bool) -> Timeouts
     Timeouts {
         response: millis(response.seconds),
         idle: millis(response.idle_seconds()),
+    }
+}
+
+/// For how many seconds an endpoint may be silent whose response is passed on as it comes.
+fn silence_seconds(timeout: MessageTimeout, silence: Option<u16>) -> u64
+    ensures value { result ≡ unwrap_or silence (seconds_of timeout) }
+    ensures range { seconds_of timeout < 2 ^ 32 → result < 2 ^ 32 }
+{
+    match silence {
+        Some(seconds) => u64::from(seconds),
+        None => timeout.seconds(),
     }
 }
 

@@ -25,7 +25,7 @@ use std::net::{Net, TcpListener, TcpStream};
 use std::rt::Files;
 use std::sync::Wait;
 use std::thread::Threads;
-use std::time::Clock;
+use std::time::{Clock, SystemTime};
 
 /// The greatest number of seats of a book.
 const MOST_SEATS: u32 = 2_048;
@@ -184,11 +184,23 @@ where
         timeout: settings.timeout,
         log: settings.log,
         number_offset: 0,
+        run: run_number(rt),
         directory: directory.as_ref(),
         refusal_body: RefusalBody::of_pages(words.error_pages),
         notices: &notices,
     };
     serve_in_context(&context, settings.journal, output)
+}
+
+/// The nanoseconds from 1970 to now; 0 if the system does not give the time.
+fn run_number<R: Clock>(rt: &R) -> u64 {
+    let Ok(now) = SystemTime::now(rt) else {
+        return 0;
+    };
+    match now.duration_since(SystemTime::UNIX_EPOCH) {
+        Ok(passed) => u64::try_from(passed.as_nanos()).unwrap_or(0),
+        Err(_) => 0,
+    }
 }
 
 /// Serves operators and clients by what they share, with the journal that this opens, if it is there.

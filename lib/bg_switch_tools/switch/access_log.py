@@ -51,6 +51,7 @@ OPTIONAL: Mapping[str, tuple[type, ...]] = {
     "idle_connections": (*COUNT, NOTHING),
     "connection_request": (*COUNT, NOTHING),
     "upstream_reused": (*FLAG, NOTHING),
+    "request_id": (*TEXT, NOTHING),
 }
 TYPES = {**MEMBERS, **OPTIONAL}
 NUMBERS = frozenset(NUMBER)
@@ -68,6 +69,7 @@ class LogEntry(NamedTuple):
     ended before it without having sent a byte, which are no requests. If connections are kept,
     `connection_request` is its number among the requests of its connection, from 1 on, and
     `upstream_reused` whether the connection to its endpoint had carried a request before.
+    `request_id` is the id that the endpoint was told.
     """
 
     time: float
@@ -89,6 +91,7 @@ class LogEntry(NamedTuple):
     idle_connections: int | None = None
     connection_request: int | None = None
     upstream_reused: bool | None = None
+    request_id: str | None = None
 
     @property
     def is_error(self) -> bool:

@@ -1,0 +1,5 @@
+pub mod Forwardeds
+pub mod Laws
+pub mod OriginFields
+pub mod OriginNames
+pub mod RequestIds
