@@ -1,0 +1,7 @@
+pub mod AcceptanceLemmas
+pub mod ElementLists
+pub mod LawLemmas
+pub mod ReadHeads
+pub mod SentFields
+pub mod TextLemmas
+mod WorkedUpgrades
