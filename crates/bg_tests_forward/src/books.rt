@@ -4,46 +4,39 @@ ghost use Rattle.bg_ledger.specs.Blanks.{AreAllFor};
 ghost use Rattle.bg_rollout.specs.Changes.{NewSeats};
 ghost use Rattle.bg_rollout.specs.Gathering.{are_all};
 
-use bg_book::{
-    Book, Control, ControlFault, Desk, Limits, OpenFault, Question, RolloutOpening, SeatLimit,
-};
+use bg_book::{Book, Control, Desk, Question, RolloutOpening, SeatLimit};
 use bg_history::History;
 use bg_ledger::{Blanks, Names, Seat};
-use bg_strategy::Strategy;
 use std::alloc::Global;
 use std::sync::Wait;
+use std::test::Fail;
 
-/// Opens a book of this many seats. Gives its desk and the seats.
-pub fn open<N: Names>(
+/// Opens a book of which this many endpoints become available. Gives its desk and the seats.
+pub fn open<N: Names, R: Wait>(
+    rt: &R,
     alloc: Global,
-    strategy: &Strategy,
-    seats: u32,
-    limits: Limits,
+    opening: &RolloutOpening,
+    available: u32,
     blanks: Blanks,
-) -> Result<(Desk<N>, Vec<Seat<N>>), OpenFault>
+) -> Result<(Desk<N>, Vec<Seat<N>>), Fail>
     requires blanks { AreAllFor N.Names blanks }
-    requires seats { N.seats ≡ seats }
-    ensures seats { IfOk result (λ r. NewSeats seats r.1.items) }
+    requires seats { N.seats ≡ opening.now.seats }
+    ensures seats { IfOk result (λ r. NewSeats opening.now.seats r.1.items) }
     ensures all { IfOk result (λ r. are_all N.seats r.1.items ≡ true) }
 {
-    let opening = RolloutOpening {
-        strategy,
-        name: "v1",
-        ports: &[9001, 9002],
-        seats,
-        limits,
+    let event = Control::Available {
+        revision: 1,
+        size: available,
     };
-    let (book, seats) = Book::open(alloc, SeatLimit::Few, &opening, blanks)?;
-    Ok((Desk::new(book), seats))
-}
-
-/// Reports to the book that this many of its endpoints are available.
-pub fn tell_available<N: Names, R: Wait>(
-    rt: &R,
-    desk: &Desk<N>,
-    size: u32,
-) -> Result<u64, ControlFault> {
-    desk.control_with_compaction(rt, &Control::Available { revision: 1, size })
+    let (book, seats) = Book::open(alloc, SeatLimit::Few, opening, blanks)?;
+    let desk = Desk::new(book);
+    match desk.control_with_compaction(rt, &event) {
+        Ok(_outcomes) => Ok((desk, seats)),
+        Err(fault) => {
+            let _history = close(desk, seats);
+            Err(fault.into())
+        }
+    }
 }
 
 /// The number of open requests at the first revision.

@@ -4,12 +4,12 @@ ghost use Rattle.bg_forward.specs.Buffers.{held};
 ghost use Rattle.bg_rollout.specs.Gathering.{indices};
 ghost use Rattle.bg_ledger.specs.Blanks.{AreAllFor};
 
-use crate::books::{close, open, open_requests, tell_available};
+use crate::books::{close, open, open_requests};
 use crate::fakes::{Asked, Endpoint, FakeStream, Pace, STEADY, Seen, Shut, Uses};
 use crate::messages::{CHUNKS, GET, GET_ON};
-use crate::samples::strategy;
+use crate::samples::{opening, strategy};
 use bg_audit::audit;
-use bg_book::{Desk, Limits, laws as book_laws};
+use bg_book::{Desk, laws as book_laws};
 use bg_forward::{
     Buffered, DeskGate, Dial, End, Gate, Reason, RefusalBody, Served, Worker, serve_one,
     serve_received,
@@ -263,13 +263,13 @@ fn serve_over<N: Names, R: Wait, D: Dial>(
     requires empty { held client.old ≡ [] }
 {
     book_laws::lent();
-    let (desk, mut seats) = open::<N>(trial.alloc, strategy, 1, Limits::usual(), blanks)?;
-    let told = tell_available(trial.rt, &desk, trial.setting.available);
+    let opening = opening(strategy, 1);
+    let available = trial.setting.available;
+    let (desk, mut seats) = open::<N, R>(trial.rt, trial.alloc, &opening, available, blanks)?;
     let served = serve_at(trial, &desk, seats.as_mut_slice(), client);
     let (calls, is_out) = state_of_first(&seats);
     let open = open_requests(trial.rt, &desk);
     let history = close(desk, seats);
-    let _outcomes = told?;
     Ok(Closed {
         served,
         calls,

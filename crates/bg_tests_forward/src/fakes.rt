@@ -126,14 +126,19 @@ impl<'a> FakeStream<'a> {
     }
 }
 
+/// Counts a use. Returns whether it is the one that fails.
+fn fails(uses: &mut u64, failing: Option<u64>) -> bool {
+    let place = *uses;
+    *uses = place.saturating_add(1);
+    failing == Some(place)
+}
+
 impl Read for FakeStream<'_> {
     fn read(&mut self, buf: &mut [u8]) -> io::Result<usize> {
         if self.interrupts_read() {
             return Err(io::Error::from(ErrorKind::Interrupted));
         }
-        let place = self.uses.reads;
-        self.uses.reads = place.saturating_add(1);
-        if self.pace.failing_read == Some(place) {
+        if fails(&mut self.uses.reads, self.pace.failing_read) {
             return Err(io::Error::from(ErrorKind::ConnectionReset));
         }
         if self.input.is_empty() && self.shows() == CONTINUE.as_bytes() {
@@ -150,9 +155,7 @@ impl Write for FakeStream<'_> {
         if self.interrupts_write() {
             return Err(io::Error::from(ErrorKind::Interrupted));
         }
-        let place = self.uses.writes;
-        self.uses.writes = place.saturating_add(1);
-        if self.pace.failing_write == Some(place) {
+        if fails(&mut self.uses.writes, self.pace.failing_write) {
             return Err(io::Error::from(ErrorKind::BrokenPipe));
         }
         let most = buf.len().min(self.pace.most);

@@ -4,10 +4,10 @@ ghost use Rattle.std.specs.Prelude.{◌≡◌};
 ghost use Rattle.bg_rollout.specs.Gathering.{indices};
 ghost use Rattle.bg_ledger.specs.Blanks.{AreAllFor};
 
-use crate::books::{close, entry_count, open, tell_available};
-use crate::samples::strategy;
+use crate::books::{close, entry_count, open};
+use crate::samples::{opening, strategy};
 use bg_audit::audit;
-use bg_book::{Desk, Limits, laws as book_laws};
+use bg_book::{Desk, Limits, RolloutOpening, laws as book_laws};
 use bg_forward::{DeskGate, Gate};
 use bg_ledger::{Blanks, Names, Seat};
 use bg_revisions::Service;
@@ -103,20 +103,17 @@ struct Ended {
 fn pass<N: Names, R: Wait>(
     rt: &R,
     alloc: Global,
+    opening: &RolloutOpening,
     requests: u64,
-    limits: Limits,
     blanks: Blanks,
 ) -> Result<Ended, Fail>
     requires blanks { AreAllFor N.Names blanks }
-    requires seats { N.seats ≡ 1 }
+    requires seats { N.seats ≡ opening.now.seats }
 {
     book_laws::lent();
-    let strategy = strategy(alloc)?;
-    let (desk, mut seats) = open::<N>(alloc, &strategy, 1, limits, blanks)?;
-    let told = tell_available(rt, &desk, 2);
+    let (desk, mut seats) = open::<N, R>(rt, alloc, opening, 2, blanks)?;
     let passed = pass_at_first(rt, &desk, seats.as_mut_slice(), requests);
     let history = close(desk, seats);
-    let _outcomes = told?;
     let Some(passed) = passed else {
         return Err(Fail::new("the book has no seat"));
     };
@@ -124,7 +121,7 @@ fn pass<N: Names, R: Wait>(
         passed,
         closed: history.closed(0),
         entries: history.len(),
-        is_legal: audit(alloc, &history, &strategy)?,
+        is_legal: audit(alloc, &history, opening.strategy)?,
     })
 }
 
@@ -134,7 +131,12 @@ fn with_new_names<R: Wait>(
     requests: u64,
     limits: Limits,
 ) -> Result<Ended, Fail> {
-    pass::<Brand, R>(rt, alloc, requests, limits, Blanks::new())
+    let strategy = strategy(alloc)?;
+    let opening = RolloutOpening {
+        limits,
+        ..opening(&strategy, 1)
+    };
+    pass::<Brand, R>(rt, alloc, &opening, requests, Blanks::new())
 }
 
 #[test]

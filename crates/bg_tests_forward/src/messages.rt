@@ -65,6 +65,15 @@ impl<'a> Expected<'a> {
             calls: 2,
         }
     }
+
+    /// The end of a connection whose request does not enter.
+    pub fn outside(end: End, written: &'a str) -> Expected<'a> {
+        Expected {
+            end,
+            written,
+            calls: 0,
+        }
+    }
 }
 
 /// The outcome of a connection with this end, to whose client this answer was written, or a front of it. Its seat made

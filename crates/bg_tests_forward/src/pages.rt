@@ -54,37 +54,44 @@ fn paged(request: &str) -> Setting<'_> {
     }
 }
 
+/// The same, where the endpoint gives no response.
+fn broken(request: &str) -> Setting<'_> {
+    Setting {
+        response: "",
+        ..paged(request)
+    }
+}
+
+/// A refusal with this page. Only a request to which the endpoint gives no response has entered.
+fn refused(status: u16, page: &str) -> Expected<'_> {
+    let end = End::Refused(status);
+    match status {
+        502 => Expected::entered(end, page),
+        _ => Expected::outside(end, page),
+    }
+}
+
 #[test]
 fn refused_requests_have_pages(rt: HostRuntime) -> Result<(), Fail> {
     for (request, bad_gateway, unavailable) in PAGES {
-        let broken = Setting {
-            response: "",
-            ..paged(request)
-        };
-        let expected = Expected::entered(End::Refused(502), bad_gateway);
-        expect(&rt, rt.alloc(), &broken, expected)?;
+        expect(&rt, rt.alloc(), &broken(request), refused(502, bad_gateway))?;
         let shut = Setting {
             shut: true,
             ..paged(request)
         };
-        let expected = Expected {
-            end: End::Refused(503),
-            written: unavailable,
-            calls: 0,
-        };
-        expect(&rt, rt.alloc(), &shut, expected)?;
+        expect(&rt, rt.alloc(), &shut, refused(503, unavailable))?;
     }
     Ok(())
 }
 
 #[test]
 fn a_head_request_gets_the_head_alone(rt: HostRuntime) -> Result<(), Fail> {
-    let broken = Setting {
-        response: "",
-        ..paged(HEAD_OF_BROWSER)
-    };
-    let expected = Expected::entered(End::Refused(502), HEAD_502);
-    expect(&rt, rt.alloc(), &broken, expected)?;
+    expect(
+        &rt,
+        rt.alloc(),
+        &broken(HEAD_OF_BROWSER),
+        refused(502, HEAD_502),
+    )?;
     Ok(())
 }
 
@@ -101,23 +108,16 @@ fn faults_have_texts(rt: HostRuntime) -> Result<(), Fail> {
         receiving: Receiving::Fault(RequestFault::OutOfMemory),
         ..paged(OF_BROWSER)
     };
-    let expected = Expected {
-        end: End::Refused(503),
-        written: TEXT_503,
-        calls: 0,
-    };
-    expect(&rt, rt.alloc(), &fault, expected)?;
+    expect(&rt, rt.alloc(), &fault, refused(503, TEXT_503))?;
     Ok(())
 }
 
 #[test]
 fn refusals_without_pages_stay(rt: HostRuntime) -> Result<(), Fail> {
-    let broken = Setting {
-        response: "",
+    let without_page = Setting {
         refusal_body: RefusalBody::Empty,
-        ..paged(OF_BROWSER)
+        ..broken(OF_BROWSER)
     };
-    let expected = Expected::entered(End::Refused(502), refusal(502));
-    expect(&rt, rt.alloc(), &broken, expected)?;
+    expect(&rt, rt.alloc(), &without_page, refused(502, refusal(502)))?;
     Ok(())
 }

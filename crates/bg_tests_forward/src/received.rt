@@ -40,12 +40,7 @@ fn faults_end_their_connections(rt: HostRuntime) -> Result<(), Fail> {
             End::Refused(status) => refusal(status),
             _ => "",
         };
-        let expected = Expected {
-            end,
-            written,
-            calls: 0,
-        };
-        let outcome = expect(&rt, rt.alloc(), &setting, expected)?;
+        let outcome = expect(&rt, rt.alloc(), &setting, Expected::outside(end, written))?;
         assert_eq!(rt; outcome.reads_while_served, 0, "{fault:?}");
     }
     Ok(())

@@ -5,12 +5,12 @@ ghost use Rattle.bg_rollout.specs.Gathering.{indices};
 ghost use Rattle.bg_forward.specs.Seats.{AllOut};
 ghost use Rattle.bg_ledger.specs.Blanks.{AreAllFor};
 
-use crate::books::{close, open, tell_available};
+use crate::books::{close, open};
 use crate::fakes::{FakeStream, STEADY};
 use crate::messages::{CHUNKS, GET};
 use crate::ports::{Counts, NextClient, Ports, RisingCounts};
-use crate::samples::strategy;
-use bg_book::{Desk, Limits, laws as book_laws};
+use crate::samples::{opening, strategy};
+use bg_book::{Desk, laws as book_laws};
 use bg_forward::{DeskGate, Dial, Dialled, WorkerContext, run_workers};
 use bg_ledger::{Blanks, Names, Seat};
 use bg_revisions::Service;
@@ -74,11 +74,9 @@ fn open_and_work_both<N: Names + Send + Sync, R: Threads + Wait + Sync>(
 {
     book_laws::lent();
     let strategy = strategy(alloc)?;
-    let (desk, mut seats) = open::<N>(alloc, &strategy, 2, Limits::usual(), blanks)?;
-    let told = tell_available(rt, &desk, 2);
+    let (desk, mut seats) = open::<N, R>(rt, alloc, &opening(&strategy, 2), 2, blanks)?;
     work_both(rt, &desk, seats.as_mut_slice(), ports, count);
     let _history = close(desk, seats);
-    let _outcomes = told?;
     Ok(())
 }
 

@@ -6,11 +6,11 @@ ghost use Rattle.bg_http.specs.declared.refusal.RefusalBody.TheVariants as body;
 ghost use Rattle.bg_forward.specs.Seats.{AllOut, AllWorked};
 ghost use Rattle.bg_ledger.specs.Blanks.{AreAllFor};
 
-use crate::books::{close, open, tell_available};
+use crate::books::{close, open};
 use crate::fakes::{FakeStream, STEADY};
 use crate::messages::{CHUNKS, CHUNKS_ON, GET};
-use crate::samples::strategy;
-use bg_book::{Control, Desk, EnterFault, GoOn, Left, Limits, Ticket, laws as book_laws};
+use crate::samples::{opening, strategy};
+use bg_book::{Control, Desk, EnterFault, GoOn, Left, Ticket, laws as book_laws};
 use bg_forward::{
     Accept, Arrived, ClientStream, DeskGate, Dial, Dialled, Gate, RefusalBody, Served,
     WorkerContext, receive_in_memory, run_workers,
@@ -72,7 +72,7 @@ impl<N: Names, G: Gate<N>> Gate<N> for Counted<'_, G> {
 }
 
 /// Clients that all ask the same.
-#[derive(Drop)]
+#[derive(Clone, Copy, Drop)]
 struct Clients<'a> {
     alloc: Global,
     counts: &'a WorkerCounts,
@@ -206,57 +206,62 @@ impl<'a> Dial for WaitingEndpoint<'a> {
     }
 }
 
-/// Runs workers on the seats at the gate of a desk.
+/// Runs workers on the seats at a gate, one for each service.
+fn run<N: Names + Send + Sync, R: Threads + Wait + Sync, G: Gate<N> + Sync>(
+    rt: &R,
+    gate: &G,
+    seats: &mut [Seat<N>],
+    services: &[Service],
+    clients: Clients,
+)
+    requires services { length services.now ≡ length seats.old }
+    requires out { AllOut seats.old }
+    ensures { AllWorked 1 seats.old seats.new }
+{
+    let Clients { alloc, counts } = clients;
+    let endpoint = WaitingEndpoint { alloc, counts };
+    let context = WorkerContext {
+        alloc,
+        gate,
+        accept: &clients,
+        dial: &endpoint,
+    };
+    run_workers(rt, &context, seats, services, 1);
+}
+
+/// Runs workers on the seats at the gate of a desk, one for each service.
 fn work<N: Names + Send + Sync, R: Threads + Wait + Sync>(
     rt: &R,
-    alloc: Global,
     desk: &Desk<N>,
     seats: &mut [Seat<N>],
-    counts: &WorkerCounts,
+    services: &[Service],
+    clients: Clients,
 )
-    requires two { length seats.old ≡ 2 }
+    requires services { length services.now ≡ length seats.old }
     requires out { AllOut seats.old }
     ensures { indices seats.new ≡ indices seats.old }
 {
     book_laws::same_order();
     let desk_gate = DeskGate::new(rt, desk);
-    let clients = Clients { alloc, counts };
-    let endpoint = WaitingEndpoint { alloc, counts };
-    let services = [Service::Active, Service::Active];
     let gate = Counted {
         behind: &desk_gate,
-        counts,
+        counts: clients.counts,
     };
-    let context = WorkerContext {
-        alloc,
-        gate: &gate,
-        accept: &clients,
-        dial: &endpoint,
-    };
-    run_workers(rt, &context, seats, &services, 1);
+    run(rt, &gate, seats, services, clients);
 }
 
 /// Runs workers without seats.
 fn work_none<N: Names + Send + Sync, R: Threads + Wait + Sync>(
     rt: &R,
-    alloc: Global,
     desk: &Desk<N>,
     seats: &mut [Seat<N>],
-    counts: &WorkerCounts,
+    clients: Clients,
 )
     ensures { indices seats.new ≡ indices seats.old }
 {
     book_laws::same_order();
     let desk_gate = DeskGate::new(rt, desk);
-    let clients = Clients { alloc, counts };
-    let endpoint = WaitingEndpoint { alloc, counts };
-    let context = WorkerContext {
-        alloc,
-        gate: &desk_gate,
-        accept: &clients,
-        dial: &endpoint,
-    };
-    run_workers(rt, &context, &mut seats[..0], &[], 1);
+    run(rt, &desk_gate, &mut seats[..0], &[], clients);
 }
 
 /// Makes the ticks.
@@ -269,10 +274,9 @@ fn tick<N: Names, R: Wait>(rt: &R, desk: &Desk<N>) {
 /// Runs workers on the seats, and makes the ticks in parallel.
 fn work_and_tick<N: Names + Send + Sync, R: Threads + Wait + Sync>(
     rt: &R,
-    alloc: Global,
     desk: &Desk<N>,
     seats: &mut [Seat<N>],
-    counts: &WorkerCounts,
+    clients: Clients,
 )
     requires two { length seats.old ≡ 2 }
     requires out { AllOut seats.old }
@@ -283,7 +287,15 @@ fn work_and_tick<N: Names + Send + Sync, R: Threads + Wait + Sync>(
         &mut ||
             requires { (length seats.now ≡ 2) × AllOut seats.now }
             ensures { indices seats.exit.now ≡ indices seats.entry.now }
-        { work(rt, alloc, desk, seats, counts) },
+        {
+            work(
+                rt,
+                desk,
+                seats,
+                &[Service::Active, Service::Active],
+                clients,
+            )
+        },
         &mut || tick(rt, desk),
     );
 }
@@ -316,14 +328,13 @@ fn open_and_work<N: Names + Send + Sync, R: Threads + Wait + Sync>(
 {
     book_laws::lent();
     let strategy = strategy(alloc)?;
-    let (desk, mut seats) = open::<N>(alloc, &strategy, 2, Limits::usual(), blanks)?;
-    let told = tell_available(rt, &desk, 2);
-    work_and_tick(rt, alloc, &desk, seats.as_mut_slice(), counts);
-    work_none(rt, alloc, &desk, seats.as_mut_slice(), counts);
+    let (desk, mut seats) = open::<N, R>(rt, alloc, &opening(&strategy, 2), 2, blanks)?;
+    let clients = Clients { alloc, counts };
+    work_and_tick(rt, &desk, seats.as_mut_slice(), clients);
+    work_none(rt, &desk, seats.as_mut_slice(), clients);
     let dialled = counts.dialled.load(Ordering::SeqCst);
     let calls = calls_of_both(&seats);
     let history = close(desk, seats);
-    let _outcomes = told?;
     Ok(Worked {
         dialled,
         calls,

@@ -143,6 +143,9 @@ pub const CLOSED: Outcome<'static> = Outcome::Refused(RequestFault::Closed);
 /// The name of a message, its bytes, and its outcome.
 pub type Row<'a> = (&'a str, &'a [u8], Outcome<'a>);
 
+/// The name of a message that is malformed, and its bytes.
+pub type BadRow<'a> = (&'a str, &'a [u8]);
+
 /// Whether the message that was read has this outcome.
 fn is_outcome(alloc: Global, read: &Result<Message, RequestFault>, outcome: Outcome<'_>) -> bool {
     match read {
@@ -186,6 +189,16 @@ fn comes_of(alloc: Global, kind: Kind<'_>, input: &[u8], outcome: Outcome<'_>) -
 pub fn first_wrong<'a>(alloc: Global, kind: Kind<'_>, rows: &[Row<'a>]) -> Option<&'a str> {
     for (name, input, outcome) in rows {
         if !comes_of(alloc, kind, input, *outcome) {
+            return Some(*name);
+        }
+    }
+    None
+}
+
+/// The name of the first message that is not refused as malformed.
+pub fn first_not_bad<'a>(alloc: Global, kind: Kind<'_>, rows: &[BadRow<'a>]) -> Option<&'a str> {
+    for (name, input) in rows {
+        if !comes_of(alloc, kind, input, BAD) {
             return Some(*name);
         }
     }

@@ -77,16 +77,27 @@ fn heads_tell_how_their_bodies_end(rt: HostRuntime) -> Result<(), Fail> {
     Ok(())
 }
 
-/// A relay with a window of four bytes, which was fed a response of ten bytes in one piece, and the number of bytes that it took.
-fn fed(alloc: Global, request: &Request) -> Result<(ResponseRelay, usize), StreamFault> {
+/// A relay with such a window, which was fed this in one piece, and the number of bytes that it took.
+fn fed_with(
+    alloc: Global,
+    request: &Request,
+    window: usize,
+    input: &[u8],
+) -> Result<(ResponseRelay, usize), StreamFault> {
     let way = Way {
         pieces: Pieces::Uneven,
-        window: 4,
+        window,
         reads_chunks: true,
     };
     let mut relay = ResponseRelay::new(alloc, request, way.terms());
-    let taken = relay.feed(b"HTTP/1.1 200 OK\r\nContent-Length: 10\r\n\r\n0123456789")?;
+    let taken = relay.feed(input)?;
     Ok((relay, taken))
+}
+
+/// A relay with a window of four bytes, which was fed a response of ten bytes.
+fn fed(alloc: Global, request: &Request) -> Result<(ResponseRelay, usize), StreamFault> {
+    let response = b"HTTP/1.1 200 OK\r\nContent-Length: 10\r\n\r\n0123456789";
+    fed_with(alloc, request, 4, response)
 }
 
 #[test]
@@ -153,23 +164,12 @@ fn a_connection_goes_back_after_a_whole_response_by_its_own_framing(
 /// of the end of the input.
 fn after_a_fault(alloc: Global, written: usize) -> Result<[Option<StreamFault>; 3], Fail> {
     let request = request_in(alloc, GET)?;
-    let (mut relay, _) = fed_chunks(alloc, &request)?;
+    let head = b"HTTP/1.1 200 OK\r\nTransfer-Encoding: chunked\r\n\r\n";
+    let (mut relay, _) = fed_with(alloc, &request, 100, head)?;
     relay.wrote(written);
     let first = relay.feed(b"x\r\n").err();
     let more = relay.feed(b"0\r\n\r\n").err();
     Ok([first, more, relay.end_input().err()])
-}
-
-/// A relay that was fed the head of a response in chunks, and the number of bytes that it took.
-fn fed_chunks(alloc: Global, request: &Request) -> Result<(ResponseRelay, usize), StreamFault> {
-    let way = Way {
-        pieces: Pieces::Uneven,
-        window: 100,
-        reads_chunks: true,
-    };
-    let mut relay = ResponseRelay::new(alloc, request, way.terms());
-    let taken = relay.feed(b"HTTP/1.1 200 OK\r\nTransfer-Encoding: chunked\r\n\r\n")?;
-    Ok((relay, taken))
 }
 
 #[test]

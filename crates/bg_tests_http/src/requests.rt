@@ -8,13 +8,14 @@ mod lengths;
 mod line_ends;
 mod request_lines;
 
-use crate::passing::{Kind, Outcome, first_wrong};
-use chunks::CHUNKS;
-use codings::CODINGS;
+use crate::passing::{BadRow, Kind, Outcome, Row, first_not_bad, first_wrong};
+use chunks::{BAD_CHUNKS, CHUNKS};
+use codings::{BAD_CODINGS, CODINGS};
 use fields::FIELDS;
-use lengths::LENGTHS;
-use line_ends::LINE_ENDS;
-use request_lines::REQUEST_LINES;
+use lengths::{BAD_LENGTHS, LENGTHS};
+use line_ends::{BAD_LINE_ENDS, LINE_ENDS};
+use request_lines::{BAD_REQUEST_LINES, REQUEST_LINES};
+use std::alloc::Global;
 
 /// A request without a body.
 const GOT: Outcome<'static> = Outcome::GoesOn(
@@ -26,30 +27,38 @@ const HI: Outcome<'static> = Outcome::GoesOn(
     b"POST / HTTP/1.1\r\nHost: x\r\nVia: 1.1 bg-switch\r\nContent-Length: 2\r\nConnection: close\r\n\r\nhi",
 );
 
+/// The name of the first request with another outcome.
+fn wrong_request<'a>(alloc: Global, rows: &[Row<'a>], bad: &[BadRow<'a>]) -> Option<&'a str> {
+    match first_wrong(alloc, Kind::Request, rows) {
+        Some(name) => Some(name),
+        None => first_not_bad(alloc, Kind::Request, bad),
+    }
+}
+
 #[test]
 fn requests_with_lengths(rt: HostRuntime) {
-    assert_eq!(rt; first_wrong(rt.alloc(), Kind::Request, &LENGTHS), None);
+    assert_eq!(rt; wrong_request(rt.alloc(), &LENGTHS, &BAD_LENGTHS), None);
 }
 
 #[test]
 fn requests_with_codings(rt: HostRuntime) {
-    assert_eq!(rt; first_wrong(rt.alloc(), Kind::Request, &CODINGS), None);
+    assert_eq!(rt; wrong_request(rt.alloc(), &CODINGS, &BAD_CODINGS), None);
 }
 
 #[test]
 fn requests_in_chunks(rt: HostRuntime) {
-    assert_eq!(rt; first_wrong(rt.alloc(), Kind::Request, &CHUNKS), None);
+    assert_eq!(rt; wrong_request(rt.alloc(), &CHUNKS, &BAD_CHUNKS), None);
 }
 
 #[test]
 fn requests_with_line_ends(rt: HostRuntime) {
-    assert_eq!(rt; first_wrong(rt.alloc(), Kind::Request, &LINE_ENDS), None);
+    assert_eq!(rt; wrong_request(rt.alloc(), &LINE_ENDS, &BAD_LINE_ENDS), None);
 }
 
 #[test]
 fn requests_with_request_lines(rt: HostRuntime) {
     assert_eq!(rt;
-        first_wrong(rt.alloc(), Kind::Request, &REQUEST_LINES),
+        wrong_request(rt.alloc(), &REQUEST_LINES, &BAD_REQUEST_LINES),
         None
     );
 }

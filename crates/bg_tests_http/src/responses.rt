@@ -4,7 +4,7 @@ mod answers;
 mod refused;
 mod to_head;
 
-use crate::passing::{Kind, Outcome, first_wrong};
+use crate::passing::{Kind, Outcome, first_not_bad, first_wrong};
 
 /// A response whose body is `hi`.
 const HI: Outcome<'static> = Outcome::GoesOn(
@@ -19,6 +19,7 @@ fn responses(rt: HostRuntime) {
     let head = Kind::ResponseTo(b"HEAD");
     assert_eq!(rt; first_wrong(alloc, get, answers::rows()), None);
     assert_eq!(rt; first_wrong(alloc, get, refused::rows()), None);
+    assert_eq!(rt; first_not_bad(alloc, get, refused::bad_rows()), None);
     assert_eq!(rt;
         first_wrong(alloc, head_in_small_letters, answers::rows()),
         None

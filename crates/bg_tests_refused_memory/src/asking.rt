@@ -28,19 +28,32 @@ pub fn change<R: Print + Eprint, S: Subject>(
     say_made(rt, name)
 }
 
-/// Makes a call, and repeats it if it was refused. A refused call must not change the display of the subject; if it does, standard output says so.
+/// Makes a call, and repeats it if it was refused.
 pub fn make<R: Print + Eprint, S: Subject>(
     rt: &R,
     name: &str,
     subject: &mut S,
     call: &S::Call,
 ) -> Result<(), Stop> {
+    repeated(rt, name, subject, |subject| subject.make(call))
+}
+
+/// The answer of a call that is made, and repeated if it was refused. A refused call must not change the display of the
+/// subject; if it does, standard output says so.
+pub fn repeated<R: Print + Eprint, S: Display, T: Drop, F: Fn(&mut S) -> Result<T, Stop>>(
+    rt: &R,
+    name: &str,
+    subject: &mut S,
+    call: F,
+) -> Result<T, Stop>
+    requires { F.IsAlwaysCallable call }
+{
     let before = Page::of(subject)?;
-    match subject.make(call) {
+    match call(subject) {
         Err(Stop::OutOfMemory) => {
             say_refused(rt, name)?;
             compare(rt, name, &before, &Page::of(subject)?)?;
-            subject.make(call)
+            call(subject)
         }
         answer => answer,
     }
@@ -54,32 +67,21 @@ pub fn compare<R: Print>(rt: &R, name: &str, before: &Page, after: &Page) -> Res
     Ok(())
 }
 
-/// The result of a call; `None` if an allocation failed and the call has to be repeated.
-pub fn made<R: Print + Eprint, T: Drop>(
+/// The result of a call that is made, and repeated if it was refused.
+pub fn made<R: Print + Eprint, T: Drop, F: Fn() -> Result<T, Stop>>(
     rt: &R,
     name: &str,
-    answer: Result<T, Stop>,
-) -> Result<Option<T>, Stop> {
-    match answer {
-        Ok(value) => {
-            say_made(rt, name)?;
-            Ok(Some(value))
-        }
+    call: F,
+) -> Result<T, Stop>
+    requires { F.IsAlwaysCallable call }
+{
+    let value = match call() {
         Err(Stop::OutOfMemory) => {
             say_refused(rt, name)?;
-            Ok(None)
+            call()?
         }
-        Err(stop) => Err(stop),
-    }
-}
-
-/// The result of a repeated call.
-pub fn made_again<R: Print, T: Drop>(
-    rt: &R,
-    name: &str,
-    answer: Result<T, Stop>,
-) -> Result<T, Stop> {
-    let value = answer?;
+        answer => answer?,
+    };
     say_made(rt, name)?;
     Ok(value)
 }

@@ -1,6 +1,6 @@
 //! The call of `bg_audit`.
 
-use crate::asking::{made, made_again};
+use crate::asking::made;
 use crate::stop::Stop;
 use crate::strategies::base_strategy;
 use bg_audit::audit;
@@ -21,11 +21,11 @@ pub fn make_calls<R: AllocGlobal + Print + Eprint>(rt: &R) -> Result<(), Stop> {
 }
 
 fn make_history<R: AllocGlobal + Print + Eprint>(rt: &R) -> Result<History, Stop> {
-    let alloc = rt.alloc();
-    match made(rt, "History::new, History::reserve", new_history(alloc))? {
-        Some(history) => Ok(history),
-        None => made_again(rt, "History::new, History::reserve", new_history(alloc)),
-    }
+    made(
+        rt,
+        "History::new, History::reserve",
+        || new_history(rt.alloc()),
+    )
 }
 
 /// Revision 1 has both its endpoints, and a request enters and leaves.
@@ -56,11 +56,7 @@ fn available(revision: u64) -> Entry {
 const SWITCH: &str = "History::new, Name::new, Ports::new, History::reserve";
 
 fn make_switch<R: AllocGlobal + Print + Eprint>(rt: &R) -> Result<History, Stop> {
-    let alloc = rt.alloc();
-    match made(rt, SWITCH, new_switch(alloc))? {
-        Some(history) => Ok(history),
-        None => made_again(rt, SWITCH, new_switch(alloc)),
-    }
+    made(rt, SWITCH, || new_switch(rt.alloc()))
 }
 
 /// Revision 2 is deployed and switched to, and revision 1 is scaled down at its deadline.
@@ -89,11 +85,7 @@ fn audit_history<R: AllocGlobal + Print + Eprint>(
     history: &History,
     strategy: &Strategy,
 ) -> Result<bool, Stop> {
-    let alloc = rt.alloc();
-    match made(rt, "audit", new_answer(alloc, history, strategy))? {
-        Some(answer) => Ok(answer),
-        None => made_again(rt, "audit", new_answer(alloc, history, strategy)),
-    }
+    made(rt, "audit", || new_answer(rt.alloc(), history, strategy))
 }
 
 fn new_answer(alloc: Global, history: &History, strategy: &Strategy) -> Result<bool, Stop> {

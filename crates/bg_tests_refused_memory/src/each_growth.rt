@@ -1,25 +1,19 @@
 //! Rows of rows/, played over a book whose growths fail: by a call for each line, and by one run.
-ghost use Rattle.std.specs.Prelude.{◌≡◌};
-ghost use Rattle.bg_ledger.specs.Blanks.{AreAllFor};
 
-use crate::asking::{compare, refuse_all, refuse_none, say_made, say_refused, show};
+use crate::asking::{compare, refuse_all, refuse_none, repeated, say_made, say_refused, show};
+use crate::books::{Desk, Opening, Visit, enter, leave, visit_book};
 use crate::desks::make_deploy;
 use crate::page::Page;
-use crate::rooms::{Room, enter, leave};
 use crate::stop::Stop;
-use crate::strategies::strategy_of;
-use bg_book::{Call, Control, Reply};
-use bg_ledger::{Blanks, Names};
+use crate::strategies::{BASE, strategy_of};
+use bg_book::{Call, Control, OpenBook, Reply};
+use bg_ledger::Names;
 use bg_revisions::Service;
 use bg_strategy::Strategy;
-use std::marker::Brand;
 
 const BY_CALLS: &str = "each_growth by calls";
 
 const BY_RUN: &str = "each_growth by one run";
-
-const BASE: &str =
-    "{\"spec\": {\"replicas\": 2, \"strategy\": {\"blueGreen\": {\"activeService\": \"web\"}}}}";
 
 const BY_HAND_WITH_PREVIEW: &str =
     "{\"spec\": {\"replicas\": 2, \"strategy\": {\"blueGreen\": {\"activeService\": \"web\", \"autoPromotionEnabled\": false, \"previewService\": \"web-preview\"}}}}";
@@ -39,14 +33,7 @@ pub fn make_calls<R: AllocGlobal + Print + Eprint>(rt: &R) -> Result<(), Stop> {
 
 fn drains_before_scaling_down<R: AllocGlobal + Print + Eprint>(rt: &R) -> Result<(), Stop> {
     let second = make_deploy(rt, "v2", &[9101, 9102])?;
-    let calls = [
-        available(1),
-        enter(0, Service::Active),
-        Call::Control(second),
-        available(2),
-        tick(30),
-        leave(0),
-    ];
+    let calls = draining(second);
     play(rt, "drains_before_scaling_down", BASE, &calls)
 }
 
@@ -91,13 +78,14 @@ fn removes_when_the_last_request_leaves<R: AllocGlobal + Print + Eprint>(
 ) -> Result<(), Stop> {
     let second = make_deploy(rt, "v2", &[9101, 9102])?;
     let third = make_deploy(rt, "v1", &[9001, 9002])?;
+    let [first, entered, deployed, switched, scaled_down, left] = draining(second);
     let calls = [
-        available(1),
-        enter(0, Service::Active),
-        Call::Control(second),
-        available(2),
-        tick(30),
-        leave(0),
+        first,
+        entered,
+        deployed,
+        switched,
+        scaled_down,
+        left,
         Call::Control(third),
     ];
     play(
@@ -106,6 +94,18 @@ fn removes_when_the_last_request_leaves<R: AllocGlobal + Print + Eprint>(
         NO_OLD_REVISIONS,
         &calls,
     )
+}
+
+/// A request is open at the first revision while the second one takes over, up to its end after the delay.
+fn draining(second: Control) -> [Call; 6] {
+    [
+        available(1),
+        enter(0, Service::Active),
+        Call::Control(second),
+        available(2),
+        tick(30),
+        leave(0),
+    ]
 }
 
 /// A revision has both its endpoints.
@@ -214,49 +214,38 @@ fn play_once<R: AllocGlobal + Print + Eprint>(
     strategy: &Strategy,
     way: &Way,
 ) -> Result<Played, Stop> {
-    match work::<Brand, R>(rt, strategy, Blanks::new(), way) {
-        Ok(end) => end,
-        Err(Stop::OutOfMemory) => {
-            say_refused(rt, "Book::open")?;
-            work::<Brand, R>(rt, strategy, Blanks::new(), way)?
-        }
-        Err(stop) => Err(stop),
-    }
+    visit_book(rt, &Opening::of_few(strategy, 2), way)
 }
 
-/// Opens a room, plays in it, and gathers its seats while all allocations fail. The outer error is that of the opening.
-fn work<N: Names, R: AllocGlobal + Print + Eprint>(
-    rt: &R,
-    strategy: &Strategy,
-    blanks: Blanks,
-    way: &Way,
-) -> Result<Result<Played, Stop>, Stop>
-    requires blanks { AreAllFor N.Names blanks }
-    requires seats { N.seats ≡ 2 }
-{
-    let mut room = Room::<N>::open(rt.alloc(), strategy, blanks)?;
-    let end = match way {
-        Way::ByCalls(calls) => play_by_calls(rt, &mut room, calls),
-        Way::ByRuns(before, after) => play_by_runs(rt, &mut room, before, after),
-    };
-    let told = refuse_all(rt);
-    let is_gathered = room.gather();
-    told?;
-    refuse_none(rt)?;
-    if !is_gathered {
-        println!(rt; "not gathered")?;
+impl<R: AllocGlobal + Print + Eprint> Visit<R> for Way<'_> {
+    type End = Played;
+
+    /// Plays at a desk, and gathers its seats while all allocations fail.
+    fn visit<N: Names>(&self, rt: &R, opened: OpenBook<N>) -> Result<Played, Stop> {
+        let mut desk = Desk::new(opened);
+        let end = match self {
+            Way::ByCalls(calls) => play_by_calls(rt, &mut desk, calls),
+            Way::ByRuns(before, after) => play_by_runs(rt, &mut desk, before, after),
+        };
+        let told = refuse_all(rt);
+        let is_gathered = desk.gather();
+        told?;
+        refuse_none(rt)?;
+        if !is_gathered {
+            println!(rt; "not gathered")?;
+        }
+        end
     }
-    Ok(end)
 }
 
 fn play_by_calls<N: Names, R: AllocGlobal + Print + Eprint>(
     rt: &R,
-    room: &mut Room<N>,
+    desk: &mut Desk<N>,
     calls: &[Call],
 ) -> Result<Played, Stop> {
     let mut replies = replies_for(rt, calls.len())?;
     for call in calls {
-        let reply = answer(rt, room, call)?;
+        let reply = answer(rt, desk, call)?;
         if replies.push(reply).is_err() {
             return Err(Stop::OutOfMemory);
         }
@@ -264,7 +253,7 @@ fn play_by_calls<N: Names, R: AllocGlobal + Print + Eprint>(
     Ok(Played {
         replies,
         later: Vec::new(rt.alloc()),
-        state: Page::of(room)?,
+        state: Page::of(desk)?,
     })
 }
 
@@ -280,34 +269,34 @@ fn replies_for<R: AllocGlobal + Eprint>(rt: &R, count: usize) -> Result<Vec<Repl
 /// an allocation.
 fn answer<N: Names, R: Print + Eprint>(
     rt: &R,
-    room: &mut Room<N>,
+    desk: &mut Desk<N>,
     call: &Call,
 ) -> Result<Reply, Stop> {
     if matches!(call, Call::Leave { .. }) {
         refuse_all(rt)?;
-        let reply = room.reply(call);
+        let reply = desk.reply(call);
         refuse_none(rt)?;
         return Ok(reply);
     }
-    let before = Page::of(room)?;
-    let reply = room.reply(call);
+    let before = Page::of(desk)?;
+    let reply = desk.reply(call);
     if !is_refused(&reply) {
         return Ok(reply);
     }
     say_refused(rt, BY_CALLS)?;
-    compare(rt, BY_CALLS, &before, &Page::of(room)?)?;
-    Ok(room.reply(call))
+    compare(rt, BY_CALLS, &before, &Page::of(desk)?)?;
+    Ok(desk.reply(call))
 }
 
 fn play_by_runs<N: Names, R: Print + Eprint>(
     rt: &R,
-    room: &mut Room<N>,
+    desk: &mut Desk<N>,
     before: &[Call],
     after: &[Call],
 ) -> Result<Played, Stop> {
-    let replies = answer_run(rt, room, before)?;
-    let later = answer_run(rt, room, after)?;
-    let state = Page::of(room)?;
+    let replies = answer_run(rt, desk, before)?;
+    let later = answer_run(rt, desk, after)?;
+    let state = Page::of(desk)?;
     Ok(Played {
         replies,
         later,
@@ -319,16 +308,8 @@ fn play_by_runs<N: Names, R: Print + Eprint>(
 /// nothing.
 fn answer_run<N: Names, R: Print + Eprint>(
     rt: &R,
-    room: &mut Room<N>,
+    desk: &mut Desk<N>,
     calls: &[Call],
 ) -> Result<Vec<Reply>, Stop> {
-    let before = Page::of(room)?;
-    match room.run(calls) {
-        Err(Stop::OutOfMemory) => {
-            say_refused(rt, BY_RUN)?;
-            compare(rt, BY_RUN, &before, &Page::of(room)?)?;
-            room.run(calls)
-        }
-        answer => answer,
-    }
+    repeated(rt, BY_RUN, desk, |desk| desk.run(calls))
 }

@@ -1,25 +1,20 @@
 //! The call of `bg_forward`: a client is served in memory, by a book whose history has no room for its request.
 ghost use Rattle.std.specs.Prelude.{◌≡◌, ⊤};
 ghost use Rattle.bg_rollout.specs.Gathering.{indices};
-ghost use Rattle.bg_ledger.specs.Blanks.{AreAllFor};
 
-use crate::asking::{compare, made, made_again, refuse_all, refuse_none, say_made, say_refused};
+use crate::asking::{compare, made, refuse_all, refuse_none, say_made, say_refused};
+use crate::books::{Opening, Visit, visit_book};
 use crate::desks::available;
 use crate::input_stream::InputStream;
 use crate::page::Page;
 use crate::state::State;
 use crate::stop::Stop;
 use crate::strategies::base_strategy;
-use bg_book::{
-    Book, Desk, EnterFault, GoOn, Left, Limits, Question, RolloutOpening, SeatLimit, Ticket,
-    laws as book_laws,
-};
+use bg_book::{Book, Desk, EnterFault, GoOn, Left, OpenBook, Question, Ticket, laws as book_laws};
 use bg_forward::{DeskGate, Dial, Dialled, End, Gate, InMemoryResult, Worker, serve_in_memory};
-use bg_ledger::{Blanks, Names, Seat};
+use bg_ledger::{Names, Seat};
 use bg_revisions::Service;
 use bg_rollout::{MOST_ENTRIES, PLACES_OF_A_REQUEST};
-use bg_strategy::Strategy;
-use std::marker::Brand;
 use std::sync::Wait;
 use std::{fmt, io};
 
@@ -94,38 +89,24 @@ impl Question<Result<Page, fmt::Error>> for Whole {
 
 pub fn make_calls<R: AllocGlobal + Print + Eprint + Wait>(rt: &R) -> Result<(), Stop> {
     let strategy = base_strategy(rt)?;
-    match work::<Brand, R>(rt, &strategy, Blanks::new()) {
-        Ok(end) => end,
-        Err(Stop::OutOfMemory) => {
-            say_refused(rt, "Book::open")?;
-            work::<Brand, R>(rt, &strategy, Blanks::new())?
-        }
-        Err(stop) => Err(stop),
-    }
+    visit_book(rt, &Opening::of_few(&strategy, 1), &Serving)
 }
 
-/// Opens a book, serves at its seat, and ends the book. The outer error is that of the opening.
-fn work<N: Names, R: AllocGlobal + Print + Eprint + Wait>(
-    rt: &R,
-    strategy: &Strategy,
-    blanks: Blanks,
-) -> Result<Result<(), Stop>, Stop>
-    requires blanks { AreAllFor N.Names blanks }
-    requires seats { N.seats ≡ 1 }
-{
-    book_laws::lent();
-    let opening = RolloutOpening {
-        strategy,
-        name: "v1",
-        ports: &[9001, 9002],
-        seats: 1,
-        limits: Limits::usual(),
-    };
-    let (book, mut seats) = Book::<N>::open(rt.alloc(), SeatLimit::Few, &opening, blanks)?;
-    let desk = Desk::new(book);
-    let end = serve_first(rt, &desk, seats.as_mut_slice());
-    let _history = desk.into_book().close(seats);
-    Ok(end)
+/// A client is served at a seat of the book.
+#[derive(Drop)]
+struct Serving;
+
+impl<R: AllocGlobal + Print + Eprint + Wait> Visit<R> for Serving {
+    type End = ();
+
+    fn visit<N: Names>(&self, rt: &R, opened: OpenBook<N>) -> Result<(), Stop> {
+        book_laws::lent();
+        let (book, mut seats) = opened.into_parts();
+        let desk = Desk::new(book);
+        let end = serve_first(rt, &desk, seats.as_mut_slice());
+        let _history = desk.into_book().close(seats);
+        end
+    }
 }
 
 /// Serves at the first of the seats.
@@ -138,10 +119,7 @@ fn serve_first<N: Names, R: AllocGlobal + Print + Eprint + Wait>(
 {
     book_laws::same_order();
     say_made(rt, "Book::open")?;
-    let _outcomes = match made(rt, "Desk::control_with_compaction", record(rt, desk))? {
-        Some(outcomes) => outcomes,
-        None => made_again(rt, "Desk::control_with_compaction", record(rt, desk))?,
-    };
+    let _outcomes = made(rt, "Desk::control_with_compaction", || record(rt, desk))?;
     if seats.is_empty() {
         return Err(Stop::OtherFault);
     }

@@ -1,7 +1,7 @@
 //! The calls of `bg_history`.
 ghost use Rattle.std.specs.Prelude.{◌≡◌};
 
-use crate::asking::{Subject, change, made, made_again, show};
+use crate::asking::{Subject, change, made, show};
 use crate::stop::Stop;
 use bg_history::{Entry, History};
 use std::alloc::Global;
@@ -61,11 +61,7 @@ pub fn make_calls<R: AllocGlobal + Print + Eprint>(rt: &R) -> Result<(), Stop> {
 }
 
 fn make_entries<R: AllocGlobal + Print + Eprint>(rt: &R) -> Result<Entries, Stop> {
-    let alloc = rt.alloc();
-    match made(rt, "History::new", Entries::new(alloc))? {
-        Some(entries) => Ok(entries),
-        None => made_again(rt, "History::new", Entries::new(alloc)),
-    }
+    made(rt, "History::new", || Entries::new(rt.alloc()))
 }
 
 fn add_entries<R: Print + Eprint>(rt: &R, entries: &mut Entries) -> Result<(), Stop> {

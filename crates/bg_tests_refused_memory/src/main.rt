@@ -10,6 +10,7 @@
 
 mod asking;
 mod audits;
+mod books;
 mod desks;
 mod each_growth;
 mod forwarding;
@@ -20,8 +21,8 @@ mod messages;
 mod open_lists;
 mod page;
 mod readings;
-mod rooms;
 mod rosters;
+mod runs;
 mod state;
 mod stop;
 mod strategies;
@@ -36,7 +37,7 @@ fn main(rt: HostRuntime) -> Result<(), Stop> {
     open_lists::make_calls(&rt)?;
     desks::make_calls(&rt)?;
     many_seats::make_calls(&rt)?;
-    rooms::make_calls(&rt)?;
+    runs::make_calls(&rt)?;
     each_growth::make_calls(&rt)?;
     messages::make_calls(&rt)?;
     readings::make_calls(&rt)?;

@@ -1,6 +1,6 @@
 //! The calls of `bg_http` and `bg_http_read`.
 
-use crate::asking::{Subject, change, made, made_again, show};
+use crate::asking::{Subject, change, made, show};
 use crate::input_stream::InputStream;
 use crate::stop::Stop;
 use bg_http::{Bytes, Fields, Request, Response};
@@ -56,11 +56,7 @@ pub fn make_calls<R: AllocGlobal + Print + Eprint>(rt: &R) -> Result<(), Stop> {
 }
 
 fn make_bytes<R: AllocGlobal + Print + Eprint>(rt: &R) -> Result<Bytes, Stop> {
-    let alloc = rt.alloc();
-    match made(rt, "Bytes::new", new_bytes(alloc))? {
-        Some(bytes) => Ok(bytes),
-        None => made_again(rt, "Bytes::new", new_bytes(alloc)),
-    }
+    made(rt, "Bytes::new", || new_bytes(rt.alloc()))
 }
 
 fn new_bytes(alloc: Global) -> Result<Bytes, Stop> {
@@ -68,11 +64,7 @@ fn new_bytes(alloc: Global) -> Result<Bytes, Stop> {
 }
 
 fn make_fields<R: AllocGlobal + Print + Eprint>(rt: &R) -> Result<(), Stop> {
-    let alloc = rt.alloc();
-    let mut head = match made(rt, "Fields::new", new_head(alloc))? {
-        Some(head) => head,
-        None => made_again(rt, "Fields::new", new_head(alloc))?,
-    };
+    let mut head = made(rt, "Fields::new", || new_head(rt.alloc()))?;
     change(rt, "Fields::add", &mut head, b"abcdef")?;
     show(rt, &head)
 }
@@ -84,11 +76,7 @@ fn new_head(alloc: Global) -> Result<Head, Stop> {
 }
 
 fn make_request<R: AllocGlobal + Print + Eprint>(rt: &R, text: &str) -> Result<Request, Stop> {
-    let alloc = rt.alloc();
-    match made(rt, "read_request", new_request(alloc, text))? {
-        Some(request) => Ok(request),
-        None => made_again(rt, "read_request", new_request(alloc, text)),
-    }
+    made(rt, "read_request", || new_request(rt.alloc(), text))
 }
 
 fn new_request(alloc: Global, text: &str) -> Result<Request, Stop> {
@@ -103,11 +91,11 @@ fn make_response<R: AllocGlobal + Print + Eprint>(
     text: &str,
     request: &Request,
 ) -> Result<Response, Stop> {
-    let alloc = rt.alloc();
-    match made(rt, "read_response", new_response(alloc, text, request))? {
-        Some(response) => Ok(response),
-        None => made_again(rt, "read_response", new_response(alloc, text, request)),
-    }
+    made(
+        rt,
+        "read_response",
+        || new_response(rt.alloc(), text, request),
+    )
 }
 
 fn new_response(alloc: Global, text: &str, request: &Request) -> Result<Response, Stop> {

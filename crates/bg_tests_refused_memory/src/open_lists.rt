@@ -1,6 +1,6 @@
 //! The call of `bg_openlist` that allocates.
 
-use crate::asking::{made, made_again};
+use crate::asking::made;
 use crate::stop::Stop;
 use bg_openlist::OpenLists;
 use std::alloc::Global;
@@ -21,11 +21,7 @@ fn show_lists<R: Print>(rt: &R, lists: &OpenLists<u64>) -> Result<(), Stop> {
 }
 
 fn make_lists<R: AllocGlobal + Print + Eprint>(rt: &R) -> Result<OpenLists<u64>, Stop> {
-    let alloc = rt.alloc();
-    match made(rt, "OpenLists::new", new_lists(alloc))? {
-        Some(lists) => Ok(lists),
-        None => made_again(rt, "OpenLists::new", new_lists(alloc)),
-    }
+    made(rt, "OpenLists::new", || new_lists(rt.alloc()))
 }
 
 fn new_lists(alloc: Global) -> Result<OpenLists<u64>, Stop> {

@@ -1,6 +1,6 @@
 //! The calls of `bg_revisions`.
 
-use crate::asking::{Subject, change, made, made_again, show};
+use crate::asking::{Subject, change, made, show};
 use crate::stop::Stop;
 use bg_revisions::{Name, Ports, Roster};
 use std::alloc::Global;
@@ -88,11 +88,7 @@ fn show_parts<R: Print>(rt: &R, name: &Name, ports: &Ports) -> Result<(), Stop> 
 }
 
 fn make_name<R: AllocGlobal + Print + Eprint>(rt: &R) -> Result<Name, Stop> {
-    let alloc = rt.alloc();
-    match made(rt, "Name::new", new_name(alloc))? {
-        Some(name) => Ok(name),
-        None => made_again(rt, "Name::new", new_name(alloc)),
-    }
+    made(rt, "Name::new", || new_name(rt.alloc()))
 }
 
 fn new_name(alloc: Global) -> Result<Name, Stop> {
@@ -100,11 +96,7 @@ fn new_name(alloc: Global) -> Result<Name, Stop> {
 }
 
 fn make_ports<R: AllocGlobal + Print + Eprint>(rt: &R) -> Result<Ports, Stop> {
-    let alloc = rt.alloc();
-    match made(rt, "Ports::new", new_ports(alloc))? {
-        Some(ports) => Ok(ports),
-        None => made_again(rt, "Ports::new", new_ports(alloc)),
-    }
+    made(rt, "Ports::new", || new_ports(rt.alloc()))
 }
 
 fn new_ports(alloc: Global) -> Result<Ports, Stop> {
@@ -112,11 +104,7 @@ fn new_ports(alloc: Global) -> Result<Ports, Stop> {
 }
 
 fn make_roster<R: AllocGlobal + Print + Eprint>(rt: &R) -> Result<RosterSubject, Stop> {
-    let alloc = rt.alloc();
-    match made(rt, "Roster::new", RosterSubject::new(alloc))? {
-        Some(revisions) => Ok(revisions),
-        None => made_again(rt, "Roster::new", RosterSubject::new(alloc)),
-    }
+    made(rt, "Roster::new", || RosterSubject::new(rt.alloc()))
 }
 
 fn make_revisions<R: AllocGlobal + Print + Eprint>(rt: &R) -> Result<(), Stop> {

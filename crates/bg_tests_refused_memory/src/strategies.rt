@@ -1,6 +1,6 @@
 //! The calls of `bg_strategy`.
 
-use crate::asking::{made, made_again};
+use crate::asking::made;
 use crate::stop::Stop;
 use bg_strategy::{ServiceName, Strategy};
 use bg_strategy_text::read;
@@ -11,7 +11,7 @@ const MANY_FIELDS: &str =
     "{\"spec\": {\"replicas\": 3, \"revisionHistoryLimit\": 4, \"strategy\": {\"blueGreen\": {\"activeService\": \"web\", \"previewService\": \"web-preview\", \"previewReplicaCount\": 2, \"autoPromotionEnabled\": false, \"autoPromotionSeconds\": 5, \"scaleDownDelaySeconds\": 6, \"scaleDownDelayRevisionLimit\": 7, \"abortScaleDownDelaySeconds\": 8, \"drainLimitSeconds\": 9, \"prePromotionAnalysis\": {\"templates\": []}, \"postPromotionAnalysis\": {}}}}}";
 
 /// Two replicas, and no preview service.
-const BASE: &str =
+pub const BASE: &str =
     "{\"spec\": {\"replicas\": 2, \"strategy\": {\"blueGreen\": {\"activeService\": \"web\"}}}}";
 
 pub fn make_calls<R: AllocGlobal + Print + Eprint>(rt: &R) -> Result<(), Stop> {
@@ -31,11 +31,7 @@ fn show_names<R: Print>(rt: &R, name: &ServiceName, copy: &ServiceName) -> Resul
 }
 
 fn make_name<R: AllocGlobal + Print + Eprint>(rt: &R) -> Result<ServiceName, Stop> {
-    let alloc = rt.alloc();
-    match made(rt, "ServiceName::new", new_name(alloc))? {
-        Some(name) => Ok(name),
-        None => made_again(rt, "ServiceName::new", new_name(alloc)),
-    }
+    made(rt, "ServiceName::new", || new_name(rt.alloc()))
 }
 
 fn new_name(alloc: Global) -> Result<ServiceName, Stop> {
@@ -43,10 +39,7 @@ fn new_name(alloc: Global) -> Result<ServiceName, Stop> {
 }
 
 fn copy_of_name<R: Print + Eprint>(rt: &R, name: &ServiceName) -> Result<ServiceName, Stop> {
-    match made(rt, "ServiceName::clone", clone_name(name))? {
-        Some(copy) => Ok(copy),
-        None => made_again(rt, "ServiceName::clone", clone_name(name)),
-    }
+    made(rt, "ServiceName::clone", || clone_name(name))
 }
 
 fn clone_name(name: &ServiceName) -> Result<ServiceName, Stop> {
@@ -74,11 +67,11 @@ pub fn base_strategy<R: AllocGlobal + Print + Eprint>(rt: &R) -> Result<Strategy
 
 /// The strategy of a document.
 pub fn strategy_of<R: AllocGlobal + Print + Eprint>(rt: &R, text: &str) -> Result<Strategy, Stop> {
-    let alloc = rt.alloc();
-    match made(rt, "bg_strategy_text::read", read_strategy(alloc, text))? {
-        Some(strategy) => Ok(strategy),
-        None => made_again(rt, "bg_strategy_text::read", read_strategy(alloc, text)),
-    }
+    made(
+        rt,
+        "bg_strategy_text::read",
+        || read_strategy(rt.alloc(), text),
+    )
 }
 
 fn read_strategy(alloc: Global, text: &str) -> Result<Strategy, Stop> {
@@ -86,10 +79,7 @@ fn read_strategy(alloc: Global, text: &str) -> Result<Strategy, Stop> {
 }
 
 fn copy_of<R: Print + Eprint>(rt: &R, strategy: &Strategy) -> Result<Strategy, Stop> {
-    match made(rt, "Strategy::clone", clone_strategy(strategy))? {
-        Some(copy) => Ok(copy),
-        None => made_again(rt, "Strategy::clone", clone_strategy(strategy)),
-    }
+    made(rt, "Strategy::clone", || clone_strategy(strategy))
 }
 
 fn clone_strategy(strategy: &Strategy) -> Result<Strategy, Stop> {

@@ -1,8 +1,9 @@
 //! Scripts whose history becomes full, or whose numbers are spent.
 use super::samples::strategy;
-use crate::desk::rows::play_book;
+use crate::desk::rows::{Played, play_book};
 use crate::history::texts::lines_of;
 use bg_book::Limits;
+use std::alloc::Global;
 use std::io;
 use std::io::Write;
 use std::test::Fail;
@@ -82,20 +83,20 @@ Leave { seat: 0, number: 1, revision: 1 }
     ),
 ];
 
+/// Plays a script at a book with these limits.
+fn play(alloc: Global, limits: Limits, script: &str) -> Result<Played, Fail> {
+    let strategy = strategy(alloc)?;
+    play_book(alloc, &strategy, limits, &lines_of(alloc, script)?)
+}
+
 #[test]
 fn limits_are_kept(rt: HostRuntime) -> Result<(), Fail> {
-    let strategy = strategy(rt.alloc())?;
     for (entries, numbers, script, answers, shown) in &ROWS {
         let limits = Limits {
             entries: *entries,
             numbers: *numbers,
         };
-        let played = play_book(
-            rt.alloc(),
-            &strategy,
-            limits,
-            &lines_of(rt.alloc(), script)?,
-        )?;
+        let played = play(rt.alloc(), limits, script)?;
         let is_expected = played.answers.as_slice() == answers.as_bytes()
             && played.entries.as_slice() == shown.as_bytes();
         assert!(rt; is_expected, "{script}");
@@ -133,7 +134,6 @@ refused HistoryFull\nleft 65 revision 1\nleft 66 revision 1\nleft 67 revision 1"
 
 #[test]
 fn a_full_history_has_room_for_each_leaving(rt: HostRuntime) -> Result<(), Fail> {
-    let strategy = strategy(rt.alloc())?;
     let mut lines = Vec::new(rt.alloc());
     let mut answers = Vec::new(rt.alloc());
     write_full(&mut lines, &mut answers)?;
@@ -144,12 +144,7 @@ fn a_full_history_has_room_for_each_leaving(rt: HostRuntime) -> Result<(), Fail>
         entries: 141,
         numbers: 1 << 53,
     };
-    let played = play_book(
-        rt.alloc(),
-        &strategy,
-        limits,
-        &lines_of(rt.alloc(), script)?,
-    )?;
+    let played = play(rt.alloc(), limits, script)?;
     assert!(rt;
         played.answers == answers,
         "{}",

@@ -2,11 +2,9 @@
 ghost use Rattle.std.specs.Prelude.{◌≡◌, ◌≤◌};
 ghost use Rattle.bg_ledger.specs.Blanks.{AreAllFor};
 
-use super::samples::strategy;
+use super::samples::{opening, strategy};
 use crate::history::gathered::expect_audited;
-use bg_book::{
-    Book, Call, Control, Limits, OpenFault, Reply, RolloutOpening, SeatLimit, laws as book_laws,
-};
+use bg_book::{Book, Call, Control, OpenFault, Reply, SeatLimit, laws as book_laws};
 use bg_ledger::{Blanks, Names};
 use bg_revisions::Service;
 use bg_strategy::Strategy;
@@ -26,13 +24,7 @@ fn replies_of<N: Names>(
     requires seats { 1 ≤ count → count ≤ 2048 → N.seats ≡ count }
 {
     book_laws::lent();
-    let opening = RolloutOpening {
-        strategy,
-        name: "v1",
-        ports: &[9001, 9002],
-        seats: count,
-        limits: Limits::usual(),
-    };
+    let opening = opening(strategy, count);
     match Book::<N>::open(alloc, SeatLimit::Many, &opening, blanks) {
         Ok((mut book, mut seats)) => {
             let replies = book.run(seats.as_mut_slice(), calls);

@@ -2,9 +2,9 @@
 ghost use Rattle.std.specs.Prelude.{◌≡◌, ◌≤◌};
 ghost use Rattle.bg_ledger.specs.Blanks.{AreAllFor};
 
-use super::samples::strategy;
+use super::samples::{opening_within, strategy};
 use crate::history::gathered::expect_audited;
-use bg_book::{Book, Limits, OpenFault, RolloutOpening, SeatLimit, laws as book_laws};
+use bg_book::{Book, Limits, OpenFault, SeatLimit, laws as book_laws};
 use bg_ledger::{Blanks, Names};
 use std::alloc::Global;
 use std::marker::Brand;
@@ -69,13 +69,7 @@ fn fault_of<N: Names>(
 {
     book_laws::lent();
     let strategy = strategy(alloc)?;
-    let opening = RolloutOpening {
-        strategy: &strategy,
-        name: "v1",
-        ports: &[9001, 9002],
-        seats,
-        limits,
-    };
+    let opening = opening_within(&strategy, seats, limits);
     match Book::<N>::open(alloc, SeatLimit::Few, &opening, blanks) {
         Ok((book, seats)) => {
             expect_audited(alloc, &book.close(seats), &strategy)?;

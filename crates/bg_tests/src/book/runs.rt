@@ -3,11 +3,9 @@ ghost use Rattle.std.specs.Prelude.{◌≡◌, [], IfOk};
 ghost use Rattle.bg_history.specs.Requests.{open_requests};
 ghost use Rattle.bg_ledger.specs.Blanks.{AreAllFor};
 
-use super::samples::strategy;
+use super::samples::{available, opening, strategy};
 use crate::history::gathered::expect_audited;
-use bg_book::{
-    Book, Call, Control, Left, Limits, Reply, RolloutOpening, SeatLimit, Ticket, laws as book_laws,
-};
+use bg_book::{Book, Call, Left, Reply, SeatLimit, Ticket, laws as book_laws};
 use bg_history::History;
 use bg_ledger::{Blanks, Names};
 use bg_revisions::Service;
@@ -33,13 +31,7 @@ fn run_calls<N: Names>(
     ensures { IfOk result (λ r. open_requests r.1.past ≡ []) }
 {
     let strategy = strategy(alloc)?;
-    let opening = RolloutOpening {
-        strategy: &strategy,
-        name: "v1",
-        ports: &[9001, 9002],
-        seats: 4,
-        limits: Limits::usual(),
-    };
+    let opening = opening(&strategy, 4);
     let (mut book, mut seats) = Book::<N>::open(alloc, SeatLimit::Few, &opening, blanks)?;
     book_laws::lent();
     let answered = book.run(seats.as_mut_slice(), calls);
@@ -58,11 +50,12 @@ fn enter() -> Call {
 
 #[test]
 fn answers_a_list_of_calls(rt: HostRuntime) -> Result<(), Fail> {
-    let available = Call::Control(Control::Available {
-        revision: 1,
-        size: 2,
-    });
-    let calls = [available, enter(), enter(), Call::Leave { seat: 0 }];
+    let calls = [
+        Call::Control(available()),
+        enter(),
+        enter(),
+        Call::Leave { seat: 0 },
+    ];
     let (replies, history) = answer_all(rt.alloc(), &calls)?;
     let entered = Reply::Entered(Ticket {
         number: 1,

@@ -1,4 +1,7 @@
-//! The strategies of the books.
+//! What the books are opened with, and their first event.
+ghost use Rattle.std.specs.Prelude.{◌≡◌};
+
+use bg_book::{Control, Limits, RolloutOpening};
 use bg_strategy::Strategy;
 use bg_strategy_text::{StrategyFault, read};
 use std::alloc::Global;
@@ -21,4 +24,35 @@ pub(crate) fn strategy_with(alloc: Global, settings: &str) -> Result<Strategy, F
         r#"{{"spec": {{"replicas": 2, "strategy": {{"blueGreen": {{"activeService": "web"{settings}}}}}}}}}"#
     )?;
     Ok(read(alloc, &text)?)
+}
+
+/// The ports of revision 1.
+const PORTS: &[u16] = &[9001, 9002];
+
+/// The opening of a book of this many seats, with these limits.
+pub(crate) fn opening_within(strategy: &Strategy, seats: u32, limits: Limits) -> RolloutOpening<'_>
+    ensures { result.seats ≡ seats }
+{
+    RolloutOpening {
+        strategy,
+        name: "v1",
+        ports: PORTS,
+        seats,
+        limits,
+    }
+}
+
+/// The opening of a book of this many seats.
+pub(crate) fn opening(strategy: &Strategy, seats: u32) -> RolloutOpening<'_>
+    ensures { result.seats ≡ seats }
+{
+    opening_within(strategy, seats, Limits::usual())
+}
+
+/// Both endpoints of revision 1 are available.
+pub(crate) fn available() -> Control {
+    Control::Available {
+        revision: 1,
+        size: 2,
+    }
 }

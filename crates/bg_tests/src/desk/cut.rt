@@ -4,9 +4,9 @@ ghost use Rattle.bg_rollout.specs.Gathering.{indices};
 ghost use Rattle.bg_ledger.specs.Blanks.{AreAllFor};
 
 use super::calls::make;
-use crate::book::samples::strategy_with;
+use crate::book::samples::{opening, strategy_with};
 use crate::history::gathered::expect_audited;
-use bg_book::{Call, Desk, GoOn, Limits, OpenBook, RolloutOpening, SeatLimit, laws as book_laws};
+use bg_book::{Call, Control, Desk, GoOn, OpenBook, SeatLimit, laws as book_laws};
 use bg_ledger::{Blanks, Names, Seat};
 use bg_operator::{Command, LineFault, parse_line};
 use bg_strategy::Strategy;
@@ -15,57 +15,64 @@ use std::marker::Brand;
 use std::sync::Wait;
 use std::test::Fail;
 
-/// The settings of a book, and whether the seat's request goes on after each line.
-type Story = (&'static str, [(&'static str, GoOn); 10]);
-
-/// The draining request is at seat 0. Seat 2 has a request at the revision that took over.
-const STORIES: [Story; 3] = [
-    (
-        r#", "drainLimitSeconds": 10"#,
-        [
-            ("available 1 2", GoOn::Keep),
-            ("enter 0 active", GoOn::Keep),
-            ("deploy v2 9101 9102", GoOn::Keep),
-            ("available 2 2", GoOn::Keep),
-            ("enter 2 active", GoOn::Keep),
-            ("tick 29", GoOn::Keep),
-            ("tick 30", GoOn::Keep),
-            ("tick 39", GoOn::Keep),
-            ("tick 40", GoOn::Cut),
-            ("leave 0", GoOn::Keep),
-        ],
-    ),
-    (
-        r#", "drainLimitSeconds": 0"#,
-        [
-            ("available 1 2", GoOn::Keep),
-            ("enter 0 active", GoOn::Keep),
-            ("deploy v2 9101 9102", GoOn::Keep),
-            ("available 2 2", GoOn::Keep),
-            ("enter 2 active", GoOn::Keep),
-            ("tick 0", GoOn::Keep),
-            ("tick 29", GoOn::Keep),
-            ("tick 30", GoOn::Cut),
-            ("tick 31", GoOn::Cut),
-            ("leave 0", GoOn::Keep),
-        ],
-    ),
-    (
-        "",
-        [
-            ("available 1 2", GoOn::Keep),
-            ("enter 0 active", GoOn::Keep),
-            ("deploy v2 9101 9102", GoOn::Keep),
-            ("available 2 2", GoOn::Keep),
-            ("enter 2 active", GoOn::Keep),
-            ("tick 29", GoOn::Keep),
-            ("tick 30", GoOn::Keep),
-            ("tick 40", GoOn::Keep),
-            ("tick 9007199254740992", GoOn::Keep),
-            ("leave 0", GoOn::Keep),
-        ],
-    ),
+/// The first lines of each story. The request of seat 0 drains then, and seat 2 has a request at the revision that took
+/// over.
+const START: [&str; 5] = [
+    "available 1 2",
+    "enter 0 active",
+    "deploy v2 9101 9102",
+    "available 2 2",
+    "enter 2 active",
 ];
+
+/// What happens after the first lines. At last, the request of seat 0 leaves.
+#[derive(Clone, Copy, Drop)]
+struct Story {
+    /// The settings of the book.
+    settings: &'static str,
+    /// The ticks.
+    moments: [u64; 4],
+    /// The first moment at which the request of seat 0 is given up.
+    cut_at: Option<u64>,
+}
+
+const STORIES: [Story; 3] = [
+    Story {
+        settings: r#", "drainLimitSeconds": 10"#,
+        moments: [29, 30, 39, 40],
+        cut_at: Some(40),
+    },
+    Story {
+        settings: r#", "drainLimitSeconds": 0"#,
+        moments: [0, 29, 30, 31],
+        cut_at: Some(30),
+    },
+    Story {
+        settings: "",
+        moments: [29, 30, 40, 1 << 53],
+        cut_at: None,
+    },
+];
+
+/// A call, and whether the request of seat 0 goes on after it.
+type Step = (Call, GoOn);
+
+/// The calls of a story.
+fn steps_of(alloc: Global, story: &Story) -> Result<Vec<Step>, Fail> {
+    let mut steps = Vec::new(alloc);
+    for line in &START {
+        steps.push((call_of(alloc, line)?, GoOn::Keep))?;
+    }
+    for moment in &story.moments {
+        let goes_on = match story.cut_at {
+            Some(first) if *moment >= first => GoOn::Cut,
+            _ => GoOn::Keep,
+        };
+        steps.push((Call::Control(Control::Tick(*moment)), goes_on))?;
+    }
+    steps.push((Call::Leave { seat: 0 }, GoOn::Keep))?;
+    Ok(steps)
+}
 
 /// Whether the desk gives this answer to the seat at a place.
 fn is_told<N: Names, R: Wait>(
@@ -94,20 +101,13 @@ fn call_of(alloc: Global, line: &str) -> Result<Call, Fail> {
     }
 }
 
-/// The number of lines after which each seat got the expected answer.
-fn tell<N: Names, R: Wait>(
-    rt: &R,
-    alloc: Global,
-    desk: &Desk<N>,
-    seats: &mut [Seat<N>],
-    story: &Story,
-) -> Result<usize, Fail>
+/// The number of calls after which each seat got the expected answer.
+fn tell<N: Names, R: Wait>(rt: &R, desk: &Desk<N>, seats: &mut [Seat<N>], steps: &[Step]) -> usize
     ensures { indices seats.new ≡ indices seats.old }
 {
     let mut told: usize = 0;
-    for (line, expected) in &story.1 {
-        let call = call_of(alloc, line)?;
-        let _reply = make(rt, desk, seats, &call);
+    for (call, expected) in steps {
+        let _reply = make(rt, desk, seats, call);
         let first = is_told(rt, desk, seats, 0, *expected);
         let out = is_told(rt, desk, seats, 1, GoOn::Keep);
         let newer = is_told(rt, desk, seats, 2, GoOn::Keep);
@@ -115,47 +115,41 @@ fn tell<N: Names, R: Wait>(
             told = told.saturating_add(1);
         }
     }
-    Ok(told)
+    told
 }
 
 fn tell_at<N: Names, R: Wait>(
     rt: &R,
     alloc: Global,
     strategy: &Strategy,
-    story: &Story,
+    steps: &[Step],
     blanks: Blanks,
 ) -> Result<usize, Fail>
     requires blanks { AreAllFor N.Names blanks }
     requires seats { N.seats ≡ 4 }
 {
     book_laws::lent();
-    let opening = RolloutOpening {
-        strategy,
-        name: "v1",
-        ports: &[9001, 9002],
-        seats: 4,
-        limits: Limits::usual(),
-    };
-    let opened = OpenBook::<N>::open(alloc, SeatLimit::Few, &opening, blanks)?;
+    let opened = OpenBook::<N>::open(alloc, SeatLimit::Few, &opening(strategy, 4), blanks)?;
     let (book, mut seats) = opened.into_parts();
     let desk = Desk::new(book);
-    let told = tell(rt, alloc, &desk, seats.as_mut_slice(), story);
+    let told = tell(rt, &desk, seats.as_mut_slice(), steps);
     let history = desk.into_book().close(seats);
-    let told = told?;
     expect_audited(alloc, &history, strategy)?;
     Ok(told)
 }
 
 fn with_new_names<R: Wait>(rt: &R, alloc: Global, story: &Story) -> Result<usize, Fail> {
-    let strategy = strategy_with(alloc, story.0)?;
-    tell_at::<Brand, R>(rt, alloc, &strategy, story, Blanks::new())
+    let strategy = strategy_with(alloc, story.settings)?;
+    let steps = steps_of(alloc, story)?;
+    tell_at::<Brand, R>(rt, alloc, &strategy, &steps, Blanks::new())
 }
 
 #[test]
 fn desk_cut(rt: HostRuntime) -> Result<(), Fail> {
     for story in &STORIES {
         let told = with_new_names(&rt, rt.alloc(), story)?;
-        assert_eq!(rt; told, story.1.len(), "{}", story.0);
+        let steps = START.len() + story.moments.len() + 1;
+        assert_eq!(rt; told, steps, "{}", story.settings);
     }
     Ok(())
 }

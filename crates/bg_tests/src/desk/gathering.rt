@@ -2,9 +2,9 @@
 ghost use Rattle.std.specs.Prelude.{◌≡◌};
 ghost use Rattle.bg_ledger.specs.Blanks.{AreAllFor};
 
-use crate::book::samples::strategy;
+use crate::book::samples::{available, opening, strategy};
 use crate::history::gathered::expect_audited;
-use bg_book::{Book, Control, GatherFault, Limits, RolloutOpening, SeatLimit};
+use bg_book::{Book, GatherFault, SeatLimit};
 use bg_ledger::{Blanks, Names, Seat};
 use bg_revisions::Service;
 use std::alloc::Global;
@@ -81,19 +81,9 @@ fn gather_often<N: Names, R: Abort>(rt: &R, alloc: Global, blanks: Blanks) -> Re
     requires seats { N.seats ≡ 2 }
 {
     let strategy = strategy(alloc)?;
-    let available = Control::Available {
-        revision: 1,
-        size: 2,
-    };
-    let opening = RolloutOpening {
-        strategy: &strategy,
-        name: "v1",
-        ports: &[9001, 9002],
-        seats: 2,
-        limits: Limits::usual(),
-    };
+    let opening = opening(&strategy, 2);
     let (mut book, seats) = Book::<N>::open(alloc, SeatLimit::Few, &opening, blanks)?;
-    if book.control(&available).is_err() {
+    if book.control(&available()).is_err() {
         rt.abort();
     }
     let (mut book, mut seats, short) = refused_short(rt, book, seats);

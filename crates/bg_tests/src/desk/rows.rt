@@ -6,13 +6,10 @@ ghost use Rattle.bg_ledger.specs.Blanks.{AreAllFor};
 
 use super::calls::make;
 use super::scripts::SCRIPTS;
-use crate::book::samples::strategy_with;
+use crate::book::samples::{opening_within, strategy_with};
 use crate::history::gathered::expect_audited;
 use crate::history::texts::lines_of;
-use bg_book::{
-    Book, Call, Desk, Limits, OpenBook, Question, Reply, RolloutOpening, SeatLimit,
-    laws as book_laws,
-};
+use bg_book::{Book, Call, Desk, Limits, OpenBook, Question, Reply, SeatLimit, laws as book_laws};
 use bg_history::History;
 use bg_ledger::{Blanks, Names, Seat};
 use bg_operator::{Command, LineFault, Query, parse_line};
@@ -158,15 +155,17 @@ fn open<N: Names>(script: &Script, blanks: Blanks) -> Result<OpenBook<N>, Fail>
     requires blanks { AreAllFor N.Names blanks }
     requires seats { N.seats ≡ 4 }
 {
-    let opening = RolloutOpening {
-        strategy: script.strategy,
-        name: "v1",
-        ports: &[9001, 9002],
-        seats: SEATS,
-        limits: script.limits,
-    };
+    let opening = opening_within(script.strategy, SEATS, script.limits);
     let opened = OpenBook::open(script.alloc, SeatLimit::Few, &opening, blanks)?;
     Ok(opened)
+}
+
+/// The answers to a script, and the entries of its history, which is legal.
+fn with_entries(script: &Script, answers: Vec<u8>, history: &History) -> Result<Played, Fail> {
+    let mut entries = Vec::new(script.alloc);
+    expect_audited(script.alloc, history, script.strategy)?;
+    write_entries(history, &mut entries)?;
+    Ok(Played { answers, entries })
 }
 
 fn play_at_book<N: Names>(script: &Script, blanks: Blanks) -> Result<Played, Fail>
@@ -175,13 +174,10 @@ fn play_at_book<N: Names>(script: &Script, blanks: Blanks) -> Result<Played, Fai
 {
     let mut player = open::<N>(script, blanks)?;
     let mut answers = Vec::new(script.alloc);
-    let mut entries = Vec::new(script.alloc);
     let played = play(script.alloc, script.lines, &mut player, &mut answers);
     let history = player.close();
     played?;
-    expect_audited(script.alloc, &history, script.strategy)?;
-    write_entries(&history, &mut entries)?;
-    Ok(Played { answers, entries })
+    with_entries(script, answers, &history)
 }
 
 fn play_at_desk<N: Names, R: Wait>(rt: &R, script: &Script, blanks: Blanks) -> Result<Played, Fail>
@@ -190,7 +186,6 @@ fn play_at_desk<N: Names, R: Wait>(rt: &R, script: &Script, blanks: Blanks) -> R
 {
     let mut opened = open::<N>(script, blanks)?;
     let mut answers = Vec::new(script.alloc);
-    let mut entries = Vec::new(script.alloc);
     let before = play(script.alloc, script.before, &mut opened, &mut answers);
     let (book, seats) = opened.into_parts();
     let desk = Desk::new(book);
@@ -199,9 +194,7 @@ fn play_at_desk<N: Names, R: Wait>(rt: &R, script: &Script, blanks: Blanks) -> R
     let AtDesk { rt: _, desk, seats } = player;
     let history = desk.into_book().close(seats);
     played?;
-    expect_audited(script.alloc, &history, script.strategy)?;
-    write_entries(&history, &mut entries)?;
-    Ok(Played { answers, entries })
+    with_entries(script, answers, &history)
 }
 
 /// Plays a script at a book with these limits.

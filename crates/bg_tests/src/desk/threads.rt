@@ -1,16 +1,16 @@
 //! Threads at one desk.
-ghost use Rattle.std.specs.Prelude.{◌≡◌, IfOk};
+ghost use Rattle.std.specs.Prelude.{◌≡◌, ◌≤◌, IfOk};
 ghost use Rattle.bg_rollout.specs.Gathering.{indices};
 ghost use Rattle.bg_book.specs.Runs.{AreOut};
 ghost use Rattle.bg_ledger.specs.Blanks.{AreAllFor};
 
-use crate::book::samples::strategy;
+use crate::book::samples::{available, opening, strategy};
 use crate::history::gathered::expect_audited;
-use bg_book::{Book, Control, Desk, Limits, RolloutOpening, SeatLimit, laws as book_laws};
+use bg_book::{Book, Control, Desk, SeatLimit, laws as book_laws};
 use bg_history::History;
 use bg_ledger::{Blanks, Names, Seat};
 use bg_revisions::Service;
-use std::alloc::Global;
+use std::alloc::{AllocError, Global};
 use std::marker::Brand;
 use std::process::Abort;
 use std::sync::Wait;
@@ -90,68 +90,86 @@ pub(super) fn work_and_tick<N: Names + Send + Sync, R: Threads + Wait + Sync>(
     );
 }
 
-/// The results that the test checks.
+/// How the seats of a book are worked.
+#[derive(Clone, Copy, Drop)]
+pub(super) struct Plan {
+    pub(super) limit: SeatLimit,
+    pub(super) seats: u32,
+    /// Whether the entries of the closed requests are dropped before the seats are gathered.
+    pub(super) compacts: bool,
+}
+
+/// The results that the tests check: the number of calls of each seat, and the history.
 #[derive(Drop)]
-struct Worked {
-    calls: [u64; 2],
-    history: History,
+pub(super) struct Worked {
+    pub(super) calls: Vec<u64>,
+    pub(super) history: History,
 }
 
-/// The number of calls of each of both seats.
-fn calls_of_both<N: Names>(seats: &[Seat<N>]) -> [u64; 2] {
-    match seats {
-        [first, second] => [first.calls(), second.calls()],
-        _ => [0, 0],
+/// The number of calls of each seat.
+fn calls_of<N: Names>(alloc: Global, seats: &[Seat<N>]) -> Result<Vec<u64>, AllocError> {
+    let mut calls = Vec::new(alloc);
+    for seat in seats {
+        calls.push(seat.calls())?;
     }
+    Ok(calls)
 }
 
-/// Opens a book of two seats with both endpoints, serves its seats, and gathers them.
+/// Opens a book with both endpoints, serves its seats, and gathers them.
 fn open_and_work<N: Names + Send + Sync, R: Threads + Wait + Sync + Abort>(
     rt: &R,
     alloc: Global,
+    plan: Plan,
     blanks: Blanks,
 ) -> Result<Worked, Fail>
     requires blanks { AreAllFor N.Names blanks }
-    requires seats { N.seats ≡ 2 }
-    ensures { IfOk result (λ worked. worked.history.opening.seats ≡ 2) }
+    requires seats { N.seats ≡ plan.seats }
+    ensures { IfOk result (λ worked. worked.history.opening.seats ≡ plan.seats) }
 {
     book_laws::lent();
     let strategy = strategy(alloc)?;
-    let available = Control::Available {
-        revision: 1,
-        size: 2,
-    };
-    let opening = RolloutOpening {
-        strategy: &strategy,
-        name: "v1",
-        ports: &[9001, 9002],
-        seats: 2,
-        limits: Limits::usual(),
-    };
-    let (book, mut seats) = Book::<N>::open(alloc, SeatLimit::Few, &opening, blanks)?;
+    let opening = opening(&strategy, plan.seats);
+    let (book, mut seats) = Book::<N>::open(alloc, plan.limit, &opening, blanks)?;
     let desk = Desk::new(book);
-    let told = desk.control_with_compaction(rt, &available);
+    let told = desk.control_with_compaction(rt, &available());
     work_and_tick(rt, &desk, seats.as_mut_slice());
-    let calls = calls_of_both(&seats);
+    let calls = calls_of(alloc, &seats);
+    if plan.compacts {
+        let _dropped = desk.compact(rt);
+    }
     let history = match desk.into_book().gather(seats) {
         Ok(history) => history,
         Err(_handed_back) => rt.abort(),
     };
     let _outcomes = told?;
     expect_audited(alloc, &history, &strategy)?;
-    Ok(Worked { calls, history })
+    Ok(Worked {
+        calls: calls?,
+        history,
+    })
 }
 
-fn with_new_names<R: Threads + Wait + Sync + Abort>(rt: &R, alloc: Global) -> Result<Worked, Fail>
-    ensures { IfOk result (λ worked. worked.history.opening.seats ≡ 2) }
+pub(super) fn with_new_names<R: Threads + Wait + Sync + Abort>(
+    rt: &R,
+    alloc: Global,
+    plan: Plan,
+) -> Result<Worked, Fail>
+    requires least { 1 ≤ plan.seats }
+    requires most { plan.seats ≤ 2048 }
+    ensures { IfOk result (λ worked. worked.history.opening.seats ≡ plan.seats) }
 {
-    open_and_work::<Brand, R>(rt, alloc, Blanks::new())
+    open_and_work::<Brand, R>(rt, alloc, plan, Blanks::new())
 }
 
 #[test]
 fn desk_threads(rt: HostRuntime) -> Result<(), Fail> {
-    let worked = with_new_names(&rt, rt.alloc())?;
-    assert_eq!(rt; worked.calls, [2000, 2000]);
+    let plan = Plan {
+        limit: SeatLimit::Few,
+        seats: 2,
+        compacts: false,
+    };
+    let worked = with_new_names(&rt, rt.alloc(), plan)?;
+    assert_eq!(rt; worked.calls.as_slice(), [2000, 2000].as_slice());
     assert_eq!(rt; worked.history.len(), 4101);
     assert_eq!(rt; worked.history.closed(0), 0);
     assert_eq!(rt; worked.history.closed(1), 0);

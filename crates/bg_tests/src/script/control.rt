@@ -2,10 +2,10 @@
 ghost use Rattle.std.specs.Prelude.{◌≡◌, true};
 ghost use Rattle.bg_ledger.specs.Blanks.{AreAllFor};
 
-use crate::book::samples::strategy;
+use crate::book::samples::{opening_within, strategy};
 use crate::history::gathered::expect_audited;
 use crate::script::streams::Unflushed;
-use bg_book::{Book, Desk, Limits, RolloutOpening, SeatLimit};
+use bg_book::{Book, Desk, Limits, SeatLimit};
 use bg_ledger::{Blanks, Names};
 use bg_operator::{Line, OperatorLines};
 use bg_script::{
@@ -16,6 +16,7 @@ use std::alloc::{AllocError, Global};
 use std::cell::RefCell;
 use std::io::Write;
 use std::marker::Brand;
+use std::process::Abort;
 use std::sync::Wait;
 use std::sync::atomic::{AtomicU64, Ordering};
 use std::test::Fail;
@@ -143,13 +144,7 @@ fn answer<N: Names, R: Wait>(
     let strategy = strategy(alloc)?;
     let mut answers = Vec::new(alloc);
     let mut taken = OperatorLines::new(alloc);
-    let opening = RolloutOpening {
-        strategy: &strategy,
-        name: "v1",
-        ports: &[9001, 9002],
-        seats: 1,
-        limits,
-    };
+    let opening = opening_within(&strategy, 1, limits);
     let (book, seats) = Book::<N>::open(alloc, SeatLimit::Few, &opening, blanks)?;
     let desk = Desk::new(book);
     let refused = AtomicU64::new(0);
@@ -223,26 +218,34 @@ fn one_by_one<N: Names, R: Wait>(
     Ok(LinesEnd::End)
 }
 
+/// Answers lines, of which these are not read. The answers are as expected.
+fn expect_answers<R: Wait + Abort>(
+    rt: &R,
+    alloc: Global,
+    lines: &str,
+    answers: &str,
+    unread: &str,
+) -> Result<Answered, Fail> {
+    let mut reader = lines.as_bytes();
+    let answered = answer_lines(rt, alloc, &mut reader)?;
+    assert_eq!(rt; answered.answers.as_slice(), answers.as_bytes());
+    assert_eq!(rt; reader, unread.as_bytes());
+    Ok(answered)
+}
+
 #[test]
 fn answers_at_a_desk_up_to_quit(rt: HostRuntime) -> Result<(), Fail> {
-    let mut lines = AT_DESK.as_bytes();
-    let answered = answer_lines(&rt, rt.alloc(), &mut lines)?;
+    let answered = expect_answers(&rt, rt.alloc(), AT_DESK, AT_DESK_ANSWERS, "report\n")?;
     assert!(rt; matches!(answered.end, Ok(LinesEnd::Quit)));
-    assert_eq!(rt; answered.answers.as_slice(), AT_DESK_ANSWERS.as_bytes());
     assert_eq!(rt; answered.refused_for_room, 0);
-    assert_eq!(rt; lines, b"report\n".as_slice());
     Ok(())
 }
 
 #[test]
 fn a_control_connection_may_end_in_a_line(rt: HostRuntime) -> Result<(), Fail> {
-    let mut lines = "available 1 2\navailable 1".as_bytes();
-    let answered = answer_lines(&rt, rt.alloc(), &mut lines)?;
+    let lines = "available 1 2\navailable 1";
+    let answered = expect_answers(&rt, rt.alloc(), lines, "ok 0\nfault WrongCount\n", "")?;
     assert!(rt; matches!(answered.end, Ok(LinesEnd::End)));
-    assert_eq!(rt;
-        answered.answers.as_slice(),
-        b"ok 0\nfault WrongCount\n".as_slice()
-    );
     Ok(())
 }
 
@@ -292,14 +295,11 @@ fn hands_over_as_many_ports_as_a_line_can_name(rt: HostRuntime) -> Result<(), Fa
 
 #[test]
 fn a_request_of_a_browser_orders_nothing(rt: HostRuntime) -> Result<(), Fail> {
-    let mut lines = "jump\nPOST / HTTP/1.1\r\nHost: x\r\n\r\navailable 1 2\n".as_bytes();
-    let answered = answer_lines(&rt, rt.alloc(), &mut lines)?;
+    let lines = "jump\nPOST / HTTP/1.1\r\nHost: x\r\n\r\navailable 1 2\n";
+    let answers = "fault UnknownWord\nfault UnknownWord\n";
+    let unread = "Host: x\r\n\r\navailable 1 2\n";
+    let answered = expect_answers(&rt, rt.alloc(), lines, answers, unread)?;
     assert!(rt; matches!(answered.end, Ok(LinesEnd::SpeaksHttp)));
-    assert_eq!(rt;
-        answered.answers.as_slice(),
-        b"fault UnknownWord\nfault UnknownWord\n".as_slice()
-    );
-    assert_eq!(rt; lines, b"Host: x\r\n\r\navailable 1 2\n".as_slice());
     Ok(())
 }
 

@@ -16,10 +16,7 @@ fn gives_up_reading(rt: HostRuntime) -> Result<(), Fail> {
 /// The break of a line that is too long is found also if it is the last byte that was read.
 #[test]
 fn passes_over_a_long_line_by_byte(rt: HostRuntime) -> Result<(), Fail> {
-    let mut text = Vec::new(rt.alloc());
-    for _ in 0..5_000u64 {
-        text.push(b'a')?;
-    }
+    let mut text = vec![in rt.alloc(); b'a'; 5_000]?;
     text.extend_from_slice(b"\nquit\n")?;
     let mut input = BufReader::new(rt.alloc(), Slow::new(text.as_slice(), 6_000))?;
     let mut line = Vec::new(rt.alloc());

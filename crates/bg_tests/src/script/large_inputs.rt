@@ -12,10 +12,7 @@ const PIECE: usize = 8192;
 
 #[test]
 fn does_not_check_a_large_input_to_its_end(rt: HostRuntime) {
-    let mut reader = Endless {
-        byte: b' ',
-        count: 0,
-    };
+    let mut reader = Endless::of(b' ');
     let mut writer = Page::new();
     let status = check(rt.alloc(), &mut reader, &mut writer, &mut io::sink());
     assert_eq!(rt; status, Ok(1));
@@ -29,10 +26,7 @@ fn does_not_check_a_large_input_to_its_end(rt: HostRuntime) {
 
 #[test]
 fn does_not_replay_a_large_strategy_to_its_end(rt: HostRuntime) {
-    let mut reader = Endless {
-        byte: b' ',
-        count: 0,
-    };
+    let mut reader = Endless::of(b' ');
     let mut writer = Page::new();
     let status = replay(rt.alloc(), 4, &mut reader, &mut writer, &mut io::sink());
     assert_eq!(rt; status, Ok(1));

@@ -69,78 +69,97 @@ fn reads_and_writes_byte_by_byte(rt: HostRuntime) -> Result<(), Fail> {
 
 #[test]
 fn fails_with_each_read(rt: HostRuntime) {
-    for (command, input) in &RUNS {
-        assert!(rt;
-            0 < reads_taken(&rt, rt.alloc(), *command, input),
-            "{input}"
-        );
-    }
-}
-
-/// The number of reads of one byte that a run needs; with fewer it fails. 0 if it fails even with
-/// 1,000.
-fn reads_taken(rt: &impl Abort, alloc: Global, command: Command, input: &str) -> usize {
-    for reads_left in 0..1000usize {
-        let mut reader = Slow::new(input.as_bytes(), reads_left);
-        match run(alloc, command, &mut reader, &mut Page::new()) {
-            Ok(_) => return reads_left,
-            Err(end) => assert_eq!(rt; end, RunEnd::ReadFailed, "{reads_left} reads"),
-        }
-    }
-    0
+    fails_with_each_call(&rt, rt.alloc(), Calls::Reads, 1000, RunEnd::ReadFailed);
 }
 
 #[test]
 fn fails_with_each_write(rt: HostRuntime) {
+    fails_with_each_call(&rt, rt.alloc(), Calls::Writes, 200, RunEnd::WriteFailed);
+}
+
+/// The calls of which only some succeed.
+#[derive(Clone, Copy, Drop)]
+enum Calls {
+    /// Reads of one byte.
+    Reads,
+    Writes,
+}
+
+/// Runs a command of whose calls this many succeed.
+fn run_with(
+    alloc: Global,
+    calls: Calls,
+    count: usize,
+    command: Command,
+    input: &str,
+) -> Result<u8, RunEnd> {
+    let mut bytes = input.as_bytes();
+    match calls {
+        Calls::Reads => run(
+            alloc,
+            command,
+            &mut Slow::new(bytes, count),
+            &mut Page::new(),
+        ),
+        Calls::Writes => run(
+            alloc,
+            command,
+            &mut bytes,
+            &mut Failing { writes_left: count },
+        ),
+    }
+}
+
+/// Each run needs some calls, but fewer than `most`. With fewer calls than it needs, it ends in this way.
+fn fails_with_each_call(rt: &impl Abort, alloc: Global, calls: Calls, most: usize, end: RunEnd) {
     for (command, input) in &RUNS {
+        let needed = calls_needed(alloc, calls, most, end, (*command, *input));
+        assert!(rt; 0 < needed && needed < most, "{input}");
         assert!(rt;
-            0 < writes_taken(&rt, rt.alloc(), *command, input),
+            run_with(alloc, calls, needed, *command, input).is_ok(),
             "{input}"
         );
     }
 }
 
-/// The number of writes that a run needs; with fewer it fails. 0 if it fails even with 200.
-fn writes_taken(rt: &impl Abort, alloc: Global, command: Command, input: &str) -> usize {
-    for writes_left in 0..200usize {
-        let mut reader = input.as_bytes();
-        match run(alloc, command, &mut reader, &mut Failing { writes_left }) {
-            Ok(_) => return writes_left,
-            Err(end) => assert_eq!(rt; end, RunEnd::WriteFailed, "{writes_left} writes"),
+/// The number of calls with which a run doesn't end in this way; at most `most`.
+fn calls_needed(
+    alloc: Global,
+    calls: Calls,
+    most: usize,
+    end: RunEnd,
+    (command, input): (Command, &str),
+) -> usize {
+    for count in 0..most {
+        if run_with(alloc, calls, count, command, input) != Err(end) {
+            return count;
         }
     }
-    0
+    most
+}
+
+/// The status of a script that comes byte by byte, and what was not read of it.
+fn replay_slowly(alloc: Global, input: &str) -> (Result<u8, RunEnd>, &[u8]) {
+    let mut reader = Slow::new(input.as_bytes(), 1000);
+    let status = replay(alloc, 1, &mut reader, &mut Page::new(), &mut io::sink());
+    (status, reader.unread())
 }
 
 #[test]
 fn reads_nothing_after_quit(rt: HostRuntime) {
     let input =
         "{\"spec\":{\"strategy\":{\"blueGreen\":{\"activeService\":\"web\"}}}}\n---\nopen v1 9001\nquit\nreport\n";
-    let mut reader = Slow::new(input.as_bytes(), 1000);
-    let status = replay(
-        rt.alloc(),
-        1,
-        &mut reader,
-        &mut Page::new(),
-        &mut io::sink(),
-    );
+    let (status, unread) = replay_slowly(rt.alloc(), input);
     assert_eq!(rt; status, Ok(0));
-    assert_eq!(rt; reader.unread(), b"report\n".as_slice());
+    assert_eq!(rt; unread, b"report\n".as_slice());
 }
 
 #[test]
 fn reads_nothing_after_a_fault_of_the_strategy(rt: HostRuntime) {
     let input = "{\"spec\": 5}\n---\nopen v1 9001\n";
-    let mut reader = Slow::new(input.as_bytes(), 1000);
-    let status = replay(
-        rt.alloc(),
-        1,
-        &mut reader,
-        &mut Page::new(),
-        &mut io::sink(),
-    );
+    let (status, unread) = replay_slowly(rt.alloc(), input);
     assert_eq!(rt; status, Ok(1));
-    assert_eq!(rt; reader.unread(), b"open v1 9001\n".as_slice());
+    assert_eq!(rt; unread, b"open v1 9001\n".as_slice());
 }
 
 #[test]

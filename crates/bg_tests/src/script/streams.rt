@@ -62,8 +62,14 @@ impl Read for Interrupted {
 /// Gives the same byte forever, and counts the bytes that it gave.
 #[derive(Drop)]
 pub struct Endless {
-    pub byte: u8,
+    byte: u8,
     pub count: usize,
+}
+
+impl Endless {
+    pub fn of(byte: u8) -> Endless {
+        Endless { byte, count: 0 }
+    }
 }
 
 impl Read for Endless {

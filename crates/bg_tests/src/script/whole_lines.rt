@@ -61,10 +61,7 @@ fn a_whole_line_is_read_like_others(rt: HostRuntime) -> Result<(), Fail> {
 
 #[test]
 fn a_whole_line_may_be_too_long(rt: HostRuntime) -> Result<(), Fail> {
-    let mut bytes = Vec::new(rt.alloc());
-    for _ in 0..4_096u32 {
-        bytes.push(b' ')?;
-    }
+    let mut bytes = vec![in rt.alloc(); b' '; 4_096]?;
     let longest = Line::new(rt.alloc(), &bytes)?;
     assert!(rt; matches!(longest.read, Err(LineFault::Empty)));
     bytes.push(b'\n')?;
