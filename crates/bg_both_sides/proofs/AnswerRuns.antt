@@ -11,7 +11,7 @@ use Rattle.bg_client_side.specs.declared.reading.Fed.TheVariants as fed
 use Rattle.bg_client_side.specs.declared.stage.Stage.{Stage}
 use Rattle.bg_client_side.specs.declared.stage.Stage.TheVariants as stage
 use Rattle.bg_endpoint_side.specs.Dialing.{Dialing, Forwarded}
-use Rattle.bg_endpoint_side.specs.Forwarding.{failed, looked}
+use Rattle.bg_endpoint_side.specs.Forwarding.{looked}
 use Rattle.bg_endpoint_side.specs.Outcomes.{health_of, of_giving_up, refused}
 use Rattle.bg_endpoint_side.specs.declared.forwarded_request.Step.{Step}
 use Rattle.bg_endpoint_side.specs.declared.forwarded_request.Step.TheVariants as step

@@ -13,16 +13,13 @@ use Rattle.bg_streams.specs.declared.stream_fault.StreamFault.{StreamFault}
 use Rattle.bg_streams.specs.declared.stream_fault.StreamFault.TheVariants as stream_fault
 use Rattle.std.specs.Prelude.{⊤}
 use Rattle.bg_endpoint_side.specs.Dialing.{Dialing, Forwarded}
-use Rattle.bg_endpoint_side.specs.Forwarding.{again, is_sent, late_health, may_repeat, may_stay, renew_if, with_bytes}
-use Rattle.bg_endpoint_side.specs.Outcomes.{health_of, of_giving_up, refused}
+use Rattle.bg_endpoint_side.specs.Forwarding.{again, is_sent, late_health, may_repeat, renew_if, with_bytes}
+use Rattle.bg_endpoint_side.specs.Outcomes.{health_of, of_giving_up}
 use Rattle.bg_endpoint_side.specs.OutgoingTexts.{Outgoing}
-use Rattle.bg_endpoint_side.specs.StreamedSteps.{Becomes, EndsIf, EndsUnread, GoesOnBy, IsAnswerOf, TakesStreamed, broken, broken_by, faulty}
+use Rattle.bg_endpoint_side.specs.StreamedSteps.{Becomes, EndsIf, EndsUnread, GoesOnBy, IsAnswerOf, TakesStreamed, broken, broken_by}
 use Rattle.bg_endpoint_side.specs.Streaming.{Streamed, goes_back, is_awaited, is_late, stays}
 use Rattle.bg_endpoint_side.specs.Versions.{begins_with_version}
-use Rattle.bg_endpoint_side.specs.declared.forwarded_request.Step.TheVariants as step
-use Rattle.bg_endpoint_side.specs.declared.outcome.ForwardFault.{ForwardFault}
 use Rattle.bg_endpoint_side.specs.declared.outcome.ForwardFault.TheVariants as fault
-use Rattle.bg_endpoint_side.specs.declared.outcome.Health.{Health}
 use Rattle.bg_endpoint_side.specs.declared.streamed_step.StreamedAnswer.{StreamedAnswer}
 use Rattle.bg_endpoint_side.specs.declared.streamed_step.StreamedStep.{StreamedStep}
 use Rattle.bg_endpoint_side.specs.declared.streamed_step.StreamedStep.TheVariants as streamed

@@ -12,7 +12,7 @@ use Rattle.bg_streams.specs.declared.stream_fault.StreamFault.{StreamFault}
 use Rattle.bg_streams.specs.declared.stream_fault.StreamFault.TheVariants as stream_fault
 use Rattle.bg_endpoint_side.specs.Forwarding.{again, late_health, may_repeat}
 use Rattle.bg_endpoint_side.specs.Outcomes.{health_of, of_giving_up}
-use Rattle.bg_endpoint_side.specs.StreamedSteps.{Becomes, EndsIf, EndsUnread, GoesOnBy, TakesStreamed, broken, broken_by, faulty}
+use Rattle.bg_endpoint_side.specs.StreamedSteps.{Becomes, EndsIf, EndsUnread, GoesOnBy, TakesStreamed, broken, broken_by}
 use Rattle.bg_endpoint_side.specs.Streaming.{Streamed, is_late}
 use Rattle.bg_endpoint_side.specs.declared.outcome.ForwardFault.{ForwardFault}
 use Rattle.bg_endpoint_side.specs.declared.outcome.ForwardFault.TheVariants as fault

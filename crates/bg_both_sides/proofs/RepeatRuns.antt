@@ -4,7 +4,7 @@ use Rattle.bg_http.specs.Elements.{Field}
 use Rattle.bg_http.specs.declared.request.Request.{Request}
 use Rattle.bg_client_side.specs.Clients.{Client, stays_after}
 use Rattle.bg_endpoint_side.specs.Dialing.{Dialing, Forwarded, may_go_elsewhere}
-use Rattle.bg_endpoint_side.specs.Forwarding.{again, unread, with_end, wrote}
+use Rattle.bg_endpoint_side.specs.Forwarding.{unread, with_end, wrote}
 use Rattle.bg_both_sides.specs.Answers.{Reply}
 use Rattle.bg_both_sides.specs.ClientEvents.{entered_as}
 use Rattle.bg_both_sides.specs.EndpointEvents.{Dials, DialsElsewhere, RefusesEntered, begins, on_forwarded, takes_connection, with_fields}

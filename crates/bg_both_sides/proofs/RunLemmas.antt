@@ -9,7 +9,6 @@ use Rattle.bg_client_side.specs.declared.reading.Fed.{Fed}
 use Rattle.bg_endpoint_side.specs.Dialing.{Forwarded}
 use Rattle.bg_endpoint_side.specs.Forwarding.{Ends, Receives, failed, unread, with_end, wrote}
 use Rattle.bg_endpoint_side.specs.Laws.{TextStays}
-use Rattle.bg_endpoint_side.specs.Outcomes.{refused}
 use Rattle.bg_both_sides.proofs.ClientLemmas.{IsAt, closing_alike, continued_alike, continued_at, discarded_alike, ended_alike, failed_alike, fault_alike, fed_alike, fed_at, looked_alike, wrote_alike, wrote_at}
 use Rattle.bg_both_sides.proofs.SoundLemmas.{begins_sound, changed_sound, dialing_sound, dials_sound, ending_is, ends_is, entered_sound, fails_is, forwarded_sound, gives_up_sound, looks_sound, receives_is, refuses_sound, sound_alike, unread_is, wrote_is}
 use Rattle.bg_both_sides.specs.Answers.{Reply}

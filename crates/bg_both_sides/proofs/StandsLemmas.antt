@@ -1,5 +1,5 @@
 -- What a response that is passed on stands for.
-use Rattle.std.proofs.Common.{◌≡◌, ◌∙◌, ℕ, Bool, true, false, cond, not, ◌&&◌, List, [], ◌∷◌, ◌++◌, length, take, refl, sym, ap, subst, append-nil, nat_le, OnOk, Option, Some, None, Result, Ok, Err}
+use Rattle.std.proofs.Common.{◌≡◌, ◌∙◌, ℕ, Bool, true, false, cond, not, ◌&&◌, List, [], ◌∷◌, ◌++◌, length, take, refl, sym, ap, subst, append-nil, nat_le, OnOk, Option, Some, None}
 use Rattle.std.specs.Prelude.{⊤}
 use Rattle.std.proofs.Math.Seq.{take-append_seam}
 use Rattle.bg_http.specs.Elements.{Field}
@@ -7,13 +7,12 @@ use Rattle.bg_http.specs.declared.request.Request.{Request}
 use Rattle.bg_client_side.specs.Clients.{Client, passed_at, stays_after}
 use Rattle.bg_client_side.specs.Stages.{is_passing_on, waiting_request}
 use Rattle.bg_client_side.specs.declared.facts.ClientSettings.{ClientSettings}
-use Rattle.bg_streams.specs.ResponseRelays.{is_whole, passing_of, rest_of}
+use Rattle.bg_streams.specs.ResponseRelays.{passing_of, rest_of}
 use Rattle.bg_streams.specs.ResponseStreams.{StandsFor, is_begun, relay_of}
-use Rattle.bg_streams.specs.declared.stream_fault.StreamFault.{StreamFault}
 use Rattle.bg_endpoint_side.specs.Dialing.{Dialing, Forwarded, may_go_elsewhere}
 use Rattle.bg_endpoint_side.specs.Forwarding.{again, late_health, looked, may_repeat, unread, with_end, wrote}
 use Rattle.bg_endpoint_side.specs.Outcomes.{health_of, of_giving_up, refused}
-use Rattle.bg_endpoint_side.specs.StreamedSteps.{Becomes, EndsIf, EndsUnread, GoesOnBy, TakesStreamed, broken, broken_by}
+use Rattle.bg_endpoint_side.specs.StreamedSteps.{EndsIf, EndsUnread, TakesStreamed, broken, broken_by}
 use Rattle.bg_endpoint_side.specs.Streaming.{Streamed, is_late}
 use Rattle.bg_endpoint_side.specs.declared.forwarded_request.Step.{Step}
 use Rattle.bg_endpoint_side.specs.declared.forwarded_request.Step.TheVariants as step

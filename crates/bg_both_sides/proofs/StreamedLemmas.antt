@@ -1,9 +1,6 @@
 -- What events make of a request whose response is passed on.
-use Rattle.std.proofs.Common.{◌≡◌, ◌∙◌, ℕ, Bool, true, false, cond, not, ◌&&◌, List, [], ◌∷◌, ◌++◌, length, refl, sym, ap, subst, nat_lt, OnOk, Option, Some, None, Result, Ok, Err}
+use Rattle.std.proofs.Common.{◌≡◌, ℕ, Bool, true, false, cond, not, ◌&&◌, refl, sym, subst, OnOk, Result, Ok, Err}
 use Rattle.std.specs.Prelude.{⊤}
-use Rattle.bg_http.specs.declared.persistence.Persistence.{Persistence}
-use Rattle.bg_http.specs.declared.request.Request.{Request}
-use Rattle.bg_http.specs.declared.response_fault.ResponseFault.TheVariants as response_fault
 use Rattle.bg_streams.specs.ResponseRelays.{is_whole, passing_of}
 use Rattle.bg_streams.specs.ResponseStreams.{is_begun, relay_of}
 use Rattle.bg_streams.specs.declared.stream_fault.StreamFault.{StreamFault}
@@ -11,7 +8,7 @@ use Rattle.bg_streams.specs.declared.stream_fault.StreamFault.TheVariants as str
 use Rattle.bg_endpoint_side.specs.Dialing.{Dialing, Forwarded}
 use Rattle.bg_endpoint_side.specs.Forwarding.{again, late_health, may_repeat, renew_if, with_bytes}
 use Rattle.bg_endpoint_side.specs.Outcomes.{health_of, of_giving_up}
-use Rattle.bg_endpoint_side.specs.StreamedSteps.{Becomes, EndsIf, EndsUnread, GoesOnBy, ReceivesStreamed, TakesStreamed, broken, broken_by, faulty}
+use Rattle.bg_endpoint_side.specs.StreamedSteps.{Becomes, EndsIf, EndsUnread, GoesOnBy, TakesStreamed, broken, broken_by, faulty}
 use Rattle.bg_endpoint_side.specs.Streaming.{Streamed, is_awaited, is_late}
 use Rattle.bg_endpoint_side.specs.declared.outcome.ForwardFault.{ForwardFault}
 use Rattle.bg_endpoint_side.specs.declared.outcome.ForwardFault.TheVariants as fault

@@ -1,27 +1,19 @@
 -- What a step of a request whose response is passed on makes of the two sides.
-use Rattle.std.proofs.Common.{◌≡◌, ◌∙◌, ℕ, Bool, true, false, cond, ◌&&◌, List, [], ◌∷◌, ◌++◌, length, refl, sym, ap, subst, Option, Some, None}
-use Rattle.std.specs.Prelude.{⊤, vec_capacity}
+use Rattle.std.proofs.Common.{◌≡◌, ◌∙◌, ℕ, Bool, true, false, cond, refl, sym, ap, subst, Option, Some, None}
+use Rattle.std.specs.Prelude.{vec_capacity}
 use Rattle.bg_http.specs.declared.persistence.Persistence.{Persistence}
 use Rattle.bg_http.specs.declared.request.Request.{Request}
-use Rattle.bg_client_side.specs.Clients.{Client, begun_passing_on, cut_off, left, may_pass_on, passed_at, passing_on}
-use Rattle.bg_client_side.specs.Runs.{Runs}
+use Rattle.bg_client_side.specs.Clients.{Client, cut_off, left, may_pass_on, passed_at, passing_on}
 use Rattle.bg_client_side.specs.Stages.{is_inside, is_passing_on}
 use Rattle.bg_client_side.specs.declared.stage.Stage.{Stage}
 use Rattle.bg_client_side.specs.declared.stage.Stage.TheVariants as stage
-use Rattle.bg_endpoint_side.specs.Dialing.{Dialing}
-use Rattle.bg_endpoint_side.specs.Outcomes.{refused}
-use Rattle.bg_endpoint_side.specs.Streaming.{Streamed}
-use Rattle.bg_endpoint_side.specs.declared.forwarded_request.Step.TheVariants as step
-use Rattle.bg_endpoint_side.specs.declared.outcome.ForwardFault.{ForwardFault}
-use Rattle.bg_endpoint_side.specs.declared.outcome.Health.{Health}
 use Rattle.bg_endpoint_side.specs.declared.streamed_step.StreamedStep.{StreamedStep}
 use Rattle.bg_endpoint_side.specs.declared.streamed_step.StreamedStep.TheVariants as streamed
 use Rattle.bg_both_sides.proofs.ClientLemmas.{replied_outside}
 use Rattle.bg_both_sides.proofs.StreamedLemmas.{OnStep}
-use Rattle.bg_both_sides.specs.Answers.{Reply, says}
-use Rattle.bg_both_sides.specs.Runs.{telling_calls}
+use Rattle.bg_both_sides.specs.Answers.{says}
 use Rattle.bg_both_sides.specs.Sides.{Sides}
-use Rattle.bg_both_sides.specs.StreamedEvents.{CutsIf, Ends, FollowsStreamed, Refuses, Shows, Telling, begun_by, cuts, nothing, refuses, shown, shows}
+use Rattle.bg_both_sides.specs.StreamedEvents.{CutsIf, FollowsStreamed, Telling, begun_by, shown}
 use Rattle.bg_both_sides.specs.declared.endpoint_side.EndpointSide.{EndpointSide}
 use Rattle.bg_both_sides.specs.declared.endpoint_side.EndpointSide.TheVariants as side
 use Rattle.bg_both_sides.specs.declared.endpoint_step.EndpointStep.{EndpointStep}

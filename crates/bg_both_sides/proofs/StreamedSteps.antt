@@ -3,7 +3,7 @@ use Rattle.std.proofs.Common.{◌≡◌, ℕ, Bool, true, false, ◌&&◌, List,
 use Rattle.bg_http.specs.declared.request.Request.{Request}
 use Rattle.std.specs.Prelude.{⊤}
 use Rattle.bg_http.specs.declared.persistence.Persistence.{Persistence}
-use Rattle.bg_client_side.specs.Clients.{Client, begun_passing_on, passed_at, taken}
+use Rattle.bg_client_side.specs.Clients.{Client, begun_passing_on, passed_at}
 use Rattle.bg_client_side.specs.Runs.{Runs}
 use Rattle.bg_client_side.specs.Stages.{is_inside, is_passing_on}
 use Rattle.bg_endpoint_side.specs.Dialing.{Dialing, Forwarded}

@@ -1,8 +1,8 @@
 -- What one more text adds to the addresses that texts write, and what its fault says of all texts.
-use Rattle.std.proofs.Common.{◌≡◌, ◌∙◌, ◌<◌, ◌≤◌, ℕ, ◌+◌, suc, arith, List, [], ◌∷◌, ◌++◌, ap, sym, subst, get_or, length, map, take, drop, take-append-drop, add-one}
+use Rattle.std.proofs.Common.{◌≡◌, ◌∙◌, ◌<◌, ℕ, ◌+◌, suc, arith, List, [], ◌∷◌, ◌++◌, ap, sym, get_or, length, map, take, drop, take-append-drop, add-one}
 use Rattle.std.proofs.Math.Seq.{drop-cons, take-suc}
 use Rattle.std.proofs.lemmas.List.{length_push, map-append}
-use Rattle.std.proofs.lemmas.List.Elements.{All-head, All-push, All-tail, length_all_zip}
+use Rattle.std.proofs.lemmas.List.Elements.{All-push}
 use Rattle.std.proofs.lemmas.List.Kept.{AllPairs-cons}
 use Rattle.std.specs.Borrow.{Bor}
 use Rattle.std.specs.List.{AllZip}
