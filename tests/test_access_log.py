@@ -107,6 +107,13 @@ class Lines(unittest.TestCase):
             entry = ANSWERED._replace(connection_request=number)
             self.assertIs(entry.is_on_kept_connection, is_kept, number)
 
+    def test_how_long_an_answer_took(self) -> None:
+        """A tunnel lasts for as long as its peers want: its answer is its head, if that was written."""
+        self.assertEqual(ANSWERED.answer_ms, ANSWERED.duration_ms)
+        tunnel = ANSWERED._replace(status=101, tunnel="whole", duration_ms=86_400_000.0)
+        self.assertEqual(tunnel.answer_ms, ANSWERED.upstream_ms)
+        self.assertIsNone(tunnel._replace(upstream_ms=None).answer_ms)
+
     def test_when_a_request_began(self) -> None:
         """Of a later request of a connection the duration counts from its first byte on."""
         for number in (None, 1, 2):

@@ -53,6 +53,13 @@ def requests(
     ]
 
 
+def tunnels(count: int, upstream: float) -> list[LogEntry]:
+    """`count` requests that were tunnels for a day, after heads that took so many milliseconds."""
+    return [
+        one._replace(status=101, tunnel="whole") for one in requests(count, 0, 86.4e6, upstream)
+    ]
+
+
 class Measured(unittest.TestCase):
     def test_quantiles(self) -> None:
         values = [float(number) for number in range(1, 201)]
@@ -80,6 +87,8 @@ class Measured(unittest.TestCase):
                 ("no endpoint has answered",),
             ),
             (requests(100, 0, 9, None), Limits(0.01, None, 1, 0, True), ()),
+            (tunnels(100, 299), Limits(None, 300, 1, 0), ()),
+            (tunnels(100, 301), Limits(None, 300, 1, 0), ("p99 is above 300 ms",)),
         ):
             self.assertEqual(
                 measure([request_of(entry, limits) for entry in told], limits).problems, expected

@@ -169,6 +169,15 @@ class Counted(unittest.TestCase):
             (True, False, ("+Inf", 0.0)),
         )
 
+    def test_a_tunnel_lasts_until_its_head(self) -> None:
+        counted = Totals()
+        tunnel = ANSWERED._replace(status=101, tunnel="whole", duration_ms=86_400_000.0)
+        counted.add(tunnel._replace(upstream_ms=30.0), "a")
+        counted.add(tunnel._replace(upstream_ms=None), "a")
+        found = counted.counted[Labels("active", "a", "1xx")]
+        self.assertEqual((found.requests, found.durations.sum), (2, 0.03))
+        self.assertEqual(found.durations.buckets()[-1], ("+Inf", 1.0))
+
     def test_each_end_of_a_bucket_belongs_to_it(self) -> None:
         for place, end in enumerate(totals.BUCKETS):
             tally = DurationTally()

@@ -51,6 +51,7 @@ SCRIPTS = (
     "live_containers",
     "live_streams",
     "live_forwarded",
+    "live_upgrade",
 )
 # The first port of the scripts, and the first that the system gives to connections of itself.
 FIRST_PORT, SYSTEM_PORT = 19_500, 32_768

@@ -81,6 +81,7 @@ abbrev pub optional_members : LogEntry → List Token
 optional_members e =
     flat_map (λ m. optional_member m.0 m.1) (optional_values e)
     ++ optional_text_member (codes "request_id") (option_map cow_str_bytes e.request_id)
+    ++ optional_text_member (codes "tunnel") (option_map (λ t. t.now) e.tunnel)
 
 -- the object
 abbrev pub object : LogEntry → List Token

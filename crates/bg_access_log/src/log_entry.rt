@@ -59,6 +59,8 @@ pub struct LogEntry<'a> {
     /// The id that the endpoint was told of the request. The program gives it only with `--forwarded`, at most its first 1,024
     /// bytes.
     pub request_id: Option<CowStr<'a>>,
+    /// How the tunnel ended that the request became; `None` if it became none.
+    pub tunnel: Option<&'static str>,
 }
 
 impl LogEntry<'_> {
@@ -137,7 +139,8 @@ impl LogEntry<'_> {
             ("upstream_reused", OptionalValue::Flag(self.upstream_reused)),
         ];
         add_optionals(line, &members)?;
-        add_optional_text(line, "request_id", as_text(&self.request_id))
+        add_optional_text(line, "request_id", as_text(&self.request_id))?;
+        add_optional_text(line, "tunnel", self.tunnel)
     }
 }
 

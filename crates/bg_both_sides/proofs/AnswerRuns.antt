@@ -35,7 +35,7 @@ runs_on [] ys a b c first second = subst (λ (s : Client). Runs s ys c) (sym fir
 runs_on (x ∷ xs) ys a b c first second = (first.0, first.1, runs_on xs ys first.0 b c first.2 second)
 
 -- an answer is given by calls of the client's connection
-answer_runs : (inside : Bool) (answer : Answer) (now : ℕ) (old new : Client) → awaits_answer old.stage ≡ true
+pub answer_runs : (inside : Bool) (answer : Answer) (now : ℕ) (old new : Client) → awaits_answer old.stage ≡ true
     → awaits_answer (failed_at old.stage old).stage ≡ inside → new ≡ with_answer answer now old
     → Runs old (answer_calls inside answer now) new
 answer_runs inside (says text weight persistence) now old new awaits after is = (new, (sym awaits, is), refl)

@@ -18,11 +18,12 @@ use Rattle.bg_endpoint_side.specs.declared.outcome.Outcome.{Outcome}
 use Rattle.bg_both_sides.proofs.RepeatLemmas.{looks_again, marked_ends, marked_fails, receives_again}
 use Rattle.bg_both_sides.proofs.StreamedLemmas.{steps_on, takes_on}
 use Rattle.bg_both_sides.proofs.StreamedRuns.{follows_end}
+use Rattle.bg_both_sides.proofs.UpgradeLemmas.{after_upgrade}
 use Rattle.bg_both_sides.specs.Answers.{Reply}
 use Rattle.bg_both_sides.specs.ClientEvents.{entered_as}
 use Rattle.bg_both_sides.specs.EndpointEvents.{Dials, DialsElsewhere, Follows, LooksDialing, RefusesEntered, begins, dial_failed, dialing_elsewhere, dialing_for, on_forwarded, takes_connection, with_fields}
 use Rattle.bg_both_sides.specs.Laws.{GoesElsewhereUnsent, begun}
-use Rattle.bg_both_sides.specs.Runs.{EndpointEvent, SidesCall, SidesCalls, SidesRun, Happens, StepsBy, breaks, client_takes, comes, connects, connects_streamed, dial_fails, dials, endpoint_gives, endpoint_is_ending, endpoint_reads_no_more, endpoint_writes, ends, enters, given_up, notes, passes, reads, refuses, streams, written_by, written_of, replaces_fields}
+use Rattle.bg_both_sides.specs.Runs.{EndpointEvent, SidesCall, SidesCalls, SidesRun, Happens, StepsBy, breaks, client_takes, comes, connects, connects_streamed, dial_fails, dials, endpoint_gives, endpoint_is_ending, endpoint_reads_no_more, endpoint_writes, ends, enters, given_up, notes, passes, reads, refuses, streams, written_by, written_of, replaces_fields, accepts_upgrade}
 use Rattle.bg_both_sides.specs.Sides.{Sides, to_endpoint}
 use Rattle.bg_both_sides.specs.StreamedEvents.{AtStreamed, ClientTakes, ClientTakesOf, ConnectsStreamed, Telling}
 use Rattle.bg_both_sides.specs.declared.stream_limits.StreamLimits.{StreamLimits}
@@ -299,6 +300,8 @@ unsent_step old (streams event now told telling) new written unsent is =
     streams_unsent event old.endpoint now old.client told telling new written is
 unsent_step old (client_takes passed bytes now told telling) new written unsent is =
     takes_unsent old.endpoint (length bytes) now old.client told telling new written unsent is.2
+unsent_step old (accepts_upgrade bytes now weight upgraded) new written unsent is =
+    after_upgrade (λ e. Unsent e written) old bytes now weight upgraded new unsent tt is
 
 unsent_run : (calls : List SidesCall) (old new : Sides) (written : List ℕ) → Unsent old.endpoint written
     → SidesRun old calls new → Unsent new.endpoint (written_of written calls)

@@ -17,3 +17,5 @@ pub mod StreamedRuns
 pub mod StreamedSteps
 pub mod TextLemmas
 pub mod TrackLemmas
+pub mod TunnelLemmas
+pub mod UpgradeLemmas

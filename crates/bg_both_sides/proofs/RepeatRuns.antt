@@ -5,11 +5,12 @@ use Rattle.bg_http.specs.declared.request.Request.{Request}
 use Rattle.bg_client_side.specs.Clients.{Client, stays_after}
 use Rattle.bg_endpoint_side.specs.Dialing.{Dialing, Forwarded, may_go_elsewhere}
 use Rattle.bg_endpoint_side.specs.Forwarding.{unread, with_end, wrote}
+use Rattle.bg_both_sides.proofs.UpgradeLemmas.{after_upgrade}
 use Rattle.bg_both_sides.specs.Answers.{Reply}
 use Rattle.bg_both_sides.specs.ClientEvents.{entered_as}
 use Rattle.bg_both_sides.specs.EndpointEvents.{Dials, DialsElsewhere, RefusesEntered, begins, on_forwarded, takes_connection, with_fields}
 use Rattle.bg_both_sides.specs.Laws.{none_enters}
-use Rattle.bg_both_sides.specs.Runs.{SidesCall, SidesCalls, SidesRun, again_by, again_in, client_takes, connects, connects_streamed, dials, endpoint_gives, endpoint_is_ending, endpoint_reads_no_more, endpoint_writes, enters, enters_none, notes, one_if, reads, refuses, streams, replaces_fields}
+use Rattle.bg_both_sides.specs.Runs.{SidesCall, SidesCalls, SidesRun, again_by, again_in, client_takes, connects, connects_streamed, dials, endpoint_gives, endpoint_is_ending, endpoint_reads_no_more, endpoint_writes, enters, enters_none, notes, one_if, reads, refuses, streams, replaces_fields, accepts_upgrade}
 use Rattle.bg_both_sides.specs.Sides.{Sides}
 use Rattle.bg_both_sides.specs.declared.endpoint_side.EndpointSide.{EndpointSide}
 use Rattle.bg_both_sides.specs.declared.endpoint_side.EndpointSide.TheVariants as side
@@ -113,6 +114,9 @@ left_step old (streams event now told telling) new none is =
     streams_left event old.endpoint now old.client told telling new is
 left_step old (client_takes passed bytes now told telling) new none is =
     takes_left old.endpoint (length bytes) now old.client told telling new is.2
+left_step old (accepts_upgrade bytes now weight upgraded) new none is =
+    let few = after_upgrade (λ e. left e ≤ left old.endpoint) old bytes now weight upgraded new (omega arith) (omega arith) is in
+    omega (arith, few)
 
 both : (a b : Bool) → (a && b) ≡ true → (a ≡ true) × (b ≡ true)
 both true b is = (refl, is)

@@ -11,11 +11,12 @@ use Rattle.bg_endpoint_side.specs.Forwarding.{Ends, Receives, failed, unread, wi
 use Rattle.bg_endpoint_side.specs.Laws.{TextStays}
 use Rattle.bg_both_sides.proofs.ClientLemmas.{IsAt, closing_alike, continued_alike, continued_at, discarded_alike, ended_alike, failed_alike, fault_alike, fed_alike, fed_at, looked_alike, wrote_alike, wrote_at}
 use Rattle.bg_both_sides.proofs.SoundLemmas.{begins_sound, changed_sound, dialing_sound, dials_sound, ending_is, ends_is, entered_sound, fails_is, forwarded_sound, gives_up_sound, looks_sound, receives_is, refuses_sound, sound_alike, unread_is, wrote_is}
+use Rattle.bg_both_sides.proofs.UpgradeLemmas.{accepts_runs}
 use Rattle.bg_both_sides.specs.Answers.{Reply}
 use Rattle.bg_both_sides.specs.ClientEvents.{entered_as}
 use Rattle.bg_both_sides.specs.EndpointEvents.{IsOnce, dial_failed, on_forwarded, takes_connection, with_fields}
 use Rattle.bg_both_sides.specs.Laws.{RunsItsClient}
-use Rattle.bg_both_sides.specs.Runs.{EndpointEvent, SidesCall, SidesCalls, Happens, IsReading, breaks, client_calls, client_calls_in, StepsBy, client_takes, comes, connects, connects_streamed, dial_fails, dials, endpoint_gives, endpoint_is_ending, endpoint_reads_no_more, endpoint_writes, ends, enters, given_up, is_note, notes, passes, reads, refuses, reply_calls, streams, replaces_fields}
+use Rattle.bg_both_sides.specs.Runs.{EndpointEvent, SidesCall, SidesCalls, Happens, IsReading, breaks, client_calls, client_calls_in, StepsBy, client_takes, comes, connects, connects_streamed, dial_fails, dials, endpoint_gives, endpoint_is_ending, endpoint_reads_no_more, endpoint_writes, ends, enters, given_up, is_note, notes, passes, reads, refuses, reply_calls, streams, replaces_fields, accepts_upgrade}
 use Rattle.bg_both_sides.specs.Sides.{IsSound, Sides, is_streaming}
 use Rattle.bg_both_sides.specs.StreamedEvents.{AtStreamed, Telling}
 use Rattle.bg_both_sides.specs.declared.endpoint_side.EndpointSide.TheVariants as side
@@ -204,6 +205,8 @@ runs_step law old (client_takes passing bytes now told telling) new sound is = (
   takes_runs old.endpoint passing bytes now old.client told telling new is.0 sound is.2,
   takes_sound old.endpoint (length bytes) now old.client told telling new sound is.2,
 )
+runs_step law old (accepts_upgrade bytes now weight upgraded) new sound is =
+    accepts_runs old bytes now weight upgraded new sound is
 
 pub runs_its_client : StayLaw → (calls : List SidesCall) (old new : Sides) → RunsItsClient old calls new
 runs_its_client law [] old new sound is =

@@ -1,9 +1,7 @@
 -- What keeps the two sides of a client's connection together.
-use Rattle.std.proofs.Common.{◌≡◌, ◌∙◌, ℕ, Bool, true, false, cond, not, nat_le, nat_lt, List, ◌++◌, refl, sym, ap, subst, Option, Some, None}
+use Rattle.std.proofs.Common.{◌≡◌, ◌∙◌, ℕ, Bool, true, false, cond, ◌&&◌, not, nat_le, nat_lt, List, ◌++◌, refl, sym, ap, subst, Option, Some, None}
 use Rattle.std.specs.Prelude.{⊤}
 use Rattle.bg_http.specs.Codings.{is_empty}
-use Rattle.bg_http.specs.Persistences.{keeps}
-use Rattle.bg_http.specs.Texts.{request_text}
 use Rattle.bg_http.specs.declared.request.Request.{Request}
 use Rattle.bg_client_side.specs.Clients.{Client}
 use Rattle.bg_client_side.specs.Stages.{is_inside}
@@ -19,11 +17,12 @@ use Rattle.bg_endpoint_side.specs.declared.outcome.GivingUp.{GivingUp}
 use Rattle.bg_endpoint_side.specs.declared.outcome.Health.TheVariants as health
 use Rattle.bg_endpoint_side.specs.declared.outcome.Outcome.{Outcome}
 use Rattle.bg_endpoint_side.specs.declared.terms.Terms.{Terms}
+use Rattle.bg_upgrade.specs.Upgrades.{asks_for_upgrade}
 use Rattle.bg_both_sides.proofs.ClientLemmas.{replied_outside}
 use Rattle.bg_both_sides.specs.Answers.{Replies, Reply}
 use Rattle.bg_both_sides.specs.ClientEvents.{entered_as}
-use Rattle.bg_both_sides.specs.EndpointEvents.{AtDialing, AtForwarded, Dials, DialsElsewhere, Follows, GivesUp, Looks, LooksDialing, RefusesEntered, begins, dial_failed, given_in, on_forwarded}
-use Rattle.bg_both_sides.specs.Sides.{IsDialed, IsForwarded, IsSound, Sides}
+use Rattle.bg_both_sides.specs.EndpointEvents.{AtDialing, AtForwarded, Dials, DialsElsewhere, Follows, GivesUp, Looks, LooksDialing, RefusesEntered, begins, dial_failed, given_in, on_forwarded, terms_on}
+use Rattle.bg_both_sides.specs.Sides.{IsDialed, IsForwarded, IsSound, Sides, forwarded_text}
 use Rattle.bg_both_sides.specs.declared.endpoint_step.Given.{Given}
 use Rattle.bg_both_sides.specs.declared.endpoint_step.EndpointStep.{EndpointStep}
 use Rattle.bg_both_sides.specs.declared.endpoint_side.EndpointSide.{EndpointSide}
@@ -40,7 +39,7 @@ sound_alike old new (side.Forwarding request forwarded) alike sound = (alike ∙
 sound_alike old new (side.Streaming request s) alike sound = (alike ∙ sound.0, sound.1)
 
 pub renewed_is : (b : Bool) (request : Request) (f : Forwarded) (now : ℕ) → IsForwarded request f → IsForwarded request (renew_if b f now)
-renewed_is true request f now is = record { read_is = is.read_is; text_is = is.text_is; idempotent_is = is.idempotent_is }
+renewed_is true request f now is = record { read_is = is.read_is; text_is = is.text_is; idempotent_is = is.idempotent_is; asks_is = is.asks_is }
 renewed_is false request f now is = is
 
 -- the text stays that of the request
@@ -48,8 +47,9 @@ pub wrote_is : (request : Request) (f : Forwarded) (count now : ℕ) → whole (
     → IsForwarded request f → IsForwarded request (wrote f count now)
 wrote_is request f count now same is = record {
   read_is = request_stays (nat_lt 0 count) ∙ is.read_is;
-  text_is = same ∙ is.text_is ∙ ap (λ (t : Terms). request_text (keeps t.persistence) request t.port) (sym (terms_stay (nat_lt 0 count)));
+  text_is = same ∙ is.text_is ∙ ap (λ (t : Terms). forwarded_text t request) (sym (terms_stay (nat_lt 0 count)));
   idempotent_is = ap (λ (t : Terms). t.is_idempotent) (terms_stay (nat_lt 0 count)) ∙ is.idempotent_is;
+  asks_is = λ asks. is.asks_is (sym (ap (λ (t : Terms). t.asks_for_upgrade) (terms_stay (nat_lt 0 count))) ∙ asks);
 } where
   after : Bool → Forwarded
   after b = renew_if b (record f { text = with_written f.text count }) now
@@ -66,7 +66,7 @@ pub came_is : (request : Request) (f : Forwarded) (bytes : List ℕ) (now : ℕ)
     → IsForwarded request (with_bytes f bytes now)
 came_is request f bytes now is =
     renewed_is (not (is_empty bytes)) request (record f { came = f.came ++ bytes }) now
-    (record { read_is = is.read_is; text_is = is.text_is; idempotent_is = is.idempotent_is })
+    (record { read_is = is.read_is; text_is = is.text_is; idempotent_is = is.idempotent_is; asks_is = is.asks_is })
 
 -- what a step leads to is the request still
 abbrev pub IsOf : Request → Step → Type 0
@@ -75,7 +75,7 @@ IsOf request (step.Again dialing) = IsDialed request dialing
 IsOf request (step.Over outcome) = ⊤
 
 pub again_is : (request : Request) (f : Forwarded) (now : ℕ) → IsForwarded request f → IsDialed request (again f now)
-again_is request f now is = record { read_is = is.read_is; text_is = is.text_is; idempotent_is = is.idempotent_is }
+again_is request f now is = record { read_is = is.read_is; text_is = is.text_is; idempotent_is = is.idempotent_is; asks_is = is.asks_is }
 
 pub receives_is : (request : Request) (f : Forwarded) (bytes : List ℕ) (now : ℕ) (next : Step) → IsForwarded request f
     → Receives f bytes now next → IsOf request next
@@ -133,16 +133,25 @@ elsewhere_sound : (unsent does : Bool) (request : Request) (dialing : Dialing) (
     → DialsElsewhere unsent does request dialing route now new → IsSound client new
 elsewhere_sound true true request dialing route now client new sound is =
     subst (IsSound client) (sym is)
-    (sound.0, record { read_is = sound.1.read_is; text_is = refl; idempotent_is = sound.1.idempotent_is })
+    (sound.0, record { read_is = sound.1.read_is; text_is = refl; idempotent_is = sound.1.idempotent_is; asks_is = sound.1.asks_is })
 elsewhere_sound true false request dialing route now client new sound is = subst (IsSound client) (sym is) sound
 elsewhere_sound false does request dialing route now client new sound is = subst (IsSound client) (sym is.1) sound
+
+-- a request is forwarded as one that asks for an upgrade only if it does
+both_hold : (a b : Bool) → (a && b) ≡ true → b ≡ true
+both_hold true b is = is
+both_hold false b is = absurd (cc)
+
+asks_on : (request : Request) (route : Route) → (terms_on request route).asks_for_upgrade ≡ true
+    → asks_for_upgrade request ≡ true
+asks_on request route is = both_hold route.upgrades (asks_for_upgrade request) is
 
 -- a request that entered is dialled for with its text
 pub dials_sound : (endpoint : EndpointSide) (route : Route) (now : ℕ) (does : Bool) (client : Client) (new : EndpointSide)
     → IsSound client endpoint → Dials endpoint route now does new → IsSound client new
 dials_sound side.NoRequest route now does client new sound is = subst (IsSound client) (sym is.1) sound
 dials_sound (side.Entered request) route now true client new sound is =
-    subst (IsSound client) (sym is) (sound, record { read_is = refl; text_is = refl; idempotent_is = refl })
+    subst (IsSound client) (sym is) (sound, record { read_is = refl; text_is = refl; idempotent_is = refl; asks_is = asks_on request route })
 dials_sound (side.Entered request) route now false client new sound is = subst (IsSound client) (sym is) sound
 dials_sound (side.Dialing request dialing) route now does client new sound is =
     elsewhere_sound (may_go_elsewhere dialing now) does request dialing route now client new sound is
@@ -155,7 +164,7 @@ pub begins_sound : (endpoint : EndpointSide) (taken is_kept : Bool) (now : ℕ) 
 begins_sound side.NoRequest true is_kept now client sound = sound
 begins_sound (side.Entered request) true is_kept now client sound = sound
 begins_sound (side.Dialing request dialing) true is_kept now client sound =
-    (sound.0, record { read_is = sound.1.read_is; text_is = sound.1.text_is; idempotent_is = sound.1.idempotent_is })
+    (sound.0, record { read_is = sound.1.read_is; text_is = sound.1.text_is; idempotent_is = sound.1.idempotent_is; asks_is = sound.1.asks_is })
 begins_sound (side.Forwarding request f) true is_kept now client sound = sound
 begins_sound (side.Streaming request s) true is_kept now client sound = sound
 begins_sound endpoint false is_kept now client sound = sound
@@ -171,10 +180,10 @@ changed_sound change (side.Forwarding request f) client stays sound = (sound.0, 
 changed_sound change (side.Streaming request s) client stays sound = (sound.0, stays request s.forwarded sound.1)
 
 pub unread_is : (now : ℕ) (request : Request) (f : Forwarded) → IsForwarded request f → IsForwarded request (unread f now)
-unread_is now request f is = record { read_is = is.read_is; text_is = is.text_is; idempotent_is = is.idempotent_is }
+unread_is now request f is = record { read_is = is.read_is; text_is = is.text_is; idempotent_is = is.idempotent_is; asks_is = is.asks_is }
 
 pub ending_is : (request : Request) (f : Forwarded) → IsForwarded request f → IsForwarded request (with_end f)
-ending_is request f is = record { read_is = is.read_is; text_is = is.text_is; idempotent_is = is.idempotent_is }
+ending_is request f is = record { read_is = is.read_is; text_is = is.text_is; idempotent_is = is.idempotent_is; asks_is = is.asks_is }
 
 pub stays_sound : (client : Client) (endpoint : EndpointSide) (new : Sides) → IsSound client endpoint
     → new ≡ record { client = client; endpoint = endpoint } → IsSound new.client new.endpoint

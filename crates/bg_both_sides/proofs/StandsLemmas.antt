@@ -24,11 +24,12 @@ use Rattle.bg_endpoint_side.specs.declared.streamed_step.StreamedStep.TheVariant
 use Rattle.bg_both_sides.proofs.RunLemmas.{StayLaw, runs_step}
 use Rattle.bg_both_sides.proofs.StreamedLemmas.{OnStep, becomes_ok, broken_on}
 use Rattle.bg_both_sides.proofs.StreamedRuns.{follows_end}
+use Rattle.bg_both_sides.proofs.UpgradeLemmas.{after_upgrade}
 use Rattle.bg_both_sides.specs.ClientEvents.{entered_as}
 use Rattle.bg_both_sides.specs.Answers.{Reply}
 use Rattle.bg_both_sides.specs.EndpointEvents.{Dials, DialsElsewhere, Follows, LooksDialing, RefusesEntered, begins, dial_failed, dialing_elsewhere, dialing_for, on_forwarded, takes_connection, with_fields}
 use Rattle.bg_both_sides.specs.Laws.{PassesOnItsResponse, begun}
-use Rattle.bg_both_sides.specs.Runs.{EndpointEvent, SidesCall, SidesCalls, SidesRun, Happens, StepsBy, breaks, came_by, came_in, client_takes, comes, connects, connects_streamed, dial_fails, dials, endpoint_gives, endpoint_is_ending, endpoint_reads_no_more, endpoint_writes, ends, enters, given_up, notes, passed_by, passed_in, passes, reads, refuses, streams, replaces_fields}
+use Rattle.bg_both_sides.specs.Runs.{EndpointEvent, SidesCall, SidesCalls, SidesRun, Happens, StepsBy, breaks, came_by, came_in, client_takes, comes, connects, connects_streamed, dial_fails, dials, endpoint_gives, endpoint_is_ending, endpoint_reads_no_more, endpoint_writes, ends, enters, given_up, notes, passed_by, passed_in, passes, reads, refuses, streams, replaces_fields, accepts_upgrade}
 use Rattle.bg_both_sides.specs.Sides.{IsSound, Sides, is_streaming, to_client}
 use Rattle.bg_both_sides.specs.StreamedEvents.{AtStreamed, ClientTakes, ClientTakesOf, ConnectsStreamed, Telling}
 use Rattle.bg_both_sides.specs.declared.endpoint_side.EndpointSide.{EndpointSide}
@@ -371,6 +372,8 @@ stands_step law old (streams event now told telling) new came passed sound stand
     streams_stands event old.endpoint now old.client told telling new came passed stands is
 stands_step law old (client_takes passing bytes now told telling) new came passed sound stands is =
     takes_stands old.endpoint passing bytes is.1.0 now old.client told telling new came passed is.0 is.1.1 stands is.2
+stands_step law old (accepts_upgrade bytes now weight upgraded) new came passed sound stands is =
+    after_upgrade (λ e. Stands e came passed) old bytes now weight upgraded new stands tt is
 
 pub stands_run : StayLaw → (calls : List SidesCall) (old new : Sides) (came passed : List ℕ) → IsSound old.client old.endpoint
     → Stands old.endpoint came passed → SidesRun old calls new → Stands new.endpoint (came_in came calls) (passed_in passed calls)

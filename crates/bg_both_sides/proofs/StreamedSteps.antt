@@ -161,7 +161,7 @@ connects_sound (side.Dialing request d) is_kept limits now goes_on true client n
     subst (IsSound client) (sym is.2.2) (
       sound.0,
       subst (IsForwarded request) (sym is.2.1.1.forwarded_is)
-          (record { read_is = sound.1.read_is; text_is = sound.1.text_is; idempotent_is = sound.1.idempotent_is }),
+          (record { read_is = sound.1.read_is; text_is = sound.1.text_is; idempotent_is = sound.1.idempotent_is; asks_is = sound.1.asks_is }),
     )
 connects_sound (side.Forwarding request f) is_kept limits now goes_on true client new sound is = absurd is
 connects_sound (side.Streaming request s) is_kept limits now goes_on true client new sound is = absurd is

@@ -8,7 +8,7 @@ use Rattle.bg_client_side.specs.declared.reading.Fed.{Fed}
 use Rattle.bg_both_sides.proofs.RunLemmas.{StayLaw, runs_its_client}
 use Rattle.bg_both_sides.specs.Answers.{Answer, Reply, lacks, says}
 use Rattle.bg_both_sides.specs.Laws.{WritesItsAnswers}
-use Rattle.bg_both_sides.specs.Runs.{SidesCall, SidesCalls, SidesRun, IsReading, answer_calls, client_calls, client_calls_in, client_takes, connects, connects_streamed, dials, endpoint_gives, endpoint_is_ending, endpoint_reads_no_more, endpoint_writes, enters, fault_calls, fault_text, is_note, notes, reads, refuses, reply_calls, reply_text, streams, taken_calls, telling_calls, telling_text, text_of, texts_by, texts_in, replaces_fields}
+use Rattle.bg_both_sides.specs.Runs.{SidesCall, SidesCalls, SidesRun, IsReading, answer_calls, client_calls, client_calls_in, client_takes, connects, connects_streamed, dials, endpoint_gives, endpoint_is_ending, endpoint_reads_no_more, endpoint_writes, enters, fault_calls, fault_text, is_note, notes, reads, refuses, reply_calls, reply_text, streams, taken_calls, telling_calls, telling_text, text_of, texts_by, texts_in, replaces_fields, accepts_upgrade}
 use Rattle.bg_both_sides.specs.Sides.{Sides}
 use Rattle.bg_both_sides.specs.StreamedEvents as streamed
 use Rattle.bg_both_sides.specs.StreamedEvents.{Telling}
@@ -93,6 +93,8 @@ call_given old (endpoint_gives event now told reply) new is = reply_given reply 
 call_given old (connects_streamed is_kept limits now taken) new is = refl
 call_given old (streams event now told telling) new is = telling_given telling now
 call_given old (client_takes passed bytes now told telling) new is = taken_given passed bytes telling now
+call_given old (accepts_upgrade bytes now weight None) new is = refl
+call_given old (accepts_upgrade bytes now weight (Some upgraded)) new is = refl
 
 texts_given : (calls : List SidesCall) (old new : Sides) → SidesRun old calls new
     → given_in (client_calls_in calls) ≡ texts_in calls

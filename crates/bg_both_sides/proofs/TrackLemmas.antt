@@ -20,10 +20,11 @@ use Rattle.bg_endpoint_side.specs.declared.outcome.Health.TheVariants as health
 use Rattle.bg_endpoint_side.specs.declared.outcome.Outcome.{Outcome}
 use Rattle.bg_both_sides.proofs.StreamedLemmas.{came_with, steps_on, takes_on}
 use Rattle.bg_both_sides.proofs.StreamedRuns.{follows_end}
+use Rattle.bg_both_sides.proofs.UpgradeLemmas.{after_upgrade}
 use Rattle.bg_both_sides.specs.Answers.{Reply}
 use Rattle.bg_both_sides.specs.ClientEvents.{entered_as}
 use Rattle.bg_both_sides.specs.EndpointEvents.{Dials, DialsElsewhere, Follows, LooksDialing, RefusesEntered, begins, dial_failed, dialing_elsewhere, dialing_for, on_forwarded, takes_connection, with_fields}
-use Rattle.bg_both_sides.specs.Runs.{EndpointEvent, SidesCall, SidesCalls, SidesRun, Happens, StepsBy, breaks, came_by, came_in, client_takes, comes, connects, connects_streamed, dial_fails, dials, endpoint_gives, endpoint_is_ending, endpoint_reads_no_more, endpoint_writes, ends, enters, given_up, notes, passes, reads, refuses, sent_by, sent_in, streams, replaces_fields}
+use Rattle.bg_both_sides.specs.Runs.{EndpointEvent, SidesCall, SidesCalls, SidesRun, Happens, StepsBy, breaks, came_by, came_in, client_takes, comes, connects, connects_streamed, dial_fails, dials, endpoint_gives, endpoint_is_ending, endpoint_reads_no_more, endpoint_writes, ends, enters, given_up, notes, passes, reads, refuses, sent_by, sent_in, streams, replaces_fields, accepts_upgrade}
 use Rattle.bg_both_sides.specs.Sides.{Sides, to_endpoint}
 use Rattle.bg_both_sides.specs.StreamedEvents.{AtStreamed, ClientTakes, ClientTakesOf, ConnectsStreamed, Telling}
 use Rattle.bg_both_sides.specs.declared.stream_limits.StreamLimits.{StreamLimits}
@@ -395,6 +396,8 @@ tracks_step old (streams event now told telling) new sent came tracks is =
     streams_tracks event old.endpoint now old.client told telling new sent came tracks is
 tracks_step old (client_takes passed bytes now told telling) new sent came tracks is =
     takes_tracks old.endpoint (length bytes) now old.client told telling new sent came tracks is.2
+tracks_step old (accepts_upgrade bytes now weight upgraded) new sent came tracks is =
+    after_upgrade (λ e. Tracks e sent came) old bytes now weight upgraded new tracks tt is
 
 -- what was written and what came over calls
 pub tracks_run : (calls : List SidesCall) (old new : Sides) (sent came : List ℕ) → Tracks old.endpoint sent came

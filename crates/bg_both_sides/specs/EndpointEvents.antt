@@ -1,8 +1,6 @@
 -- What happens to the request at its endpoint.
 use Rattle.std.specs.Prelude.{◌≡◌, ℕ, Bool, true, false, ◌&&◌, not, nat_le, List, Option, Some, None, Ok, IsFalse}
 use Rattle.bg_http.specs.Elements.{Field}
-use Rattle.bg_http.specs.Persistences.{keeps}
-use Rattle.bg_http.specs.Texts.{request_text}
 use Rattle.bg_http.specs.declared.request.Request.{Request}
 use Rattle.bg_client_side.specs.Clients.{Client}
 use Rattle.bg_endpoint_side.specs.Deadlines.{deadlines_from}
@@ -18,8 +16,10 @@ use Rattle.bg_endpoint_side.specs.declared.outcome.GivingUp.{GivingUp}
 use Rattle.bg_endpoint_side.specs.declared.outcome.ForwardFault.TheVariants as fault
 use Rattle.bg_endpoint_side.specs.declared.outcome.Health.TheVariants as health
 use Rattle.bg_endpoint_side.specs.declared.outcome.Outcome.{Outcome}
+use Rattle.bg_endpoint_side.specs.declared.terms.Terms.{Terms}
+use Rattle.bg_upgrade.specs.Upgrades.{asks_for_upgrade}
 use Rattle.bg_both_sides.specs.Answers.{IsRefusal, Replies, Reply, page_of, with_answer}
-use Rattle.bg_both_sides.specs.Sides.{Sides}
+use Rattle.bg_both_sides.specs.Sides.{Sides, forwarded_text}
 use Rattle.bg_both_sides.specs.declared.endpoint_step.Ending.{Ending}
 use Rattle.bg_both_sides.specs.declared.endpoint_step.Given.{Given}
 use Rattle.bg_both_sides.specs.declared.endpoint_step.Given.TheVariants as given
@@ -36,16 +36,21 @@ abbrev pub with_fields : List Field → EndpointSide → EndpointSide
 with_fields fields (side.Entered request) = side.Entered (record request { fields = fields })
 with_fields fields other = other
 
+-- what a request means for the connection to its endpoint on this route
+abbrev pub terms_on : Request → Route → Terms
+terms_on request route = record {
+  port = route.port;
+  persistence = route.persistence;
+  is_idempotent = is_idempotent request.method;
+  asks_for_upgrade = route.upgrades && asks_for_upgrade request;
+}
+
 -- a request is dialled for, with the text in which it is forwarded
 abbrev pub dialing_for : Request → Route → ℕ → Dialing
 dialing_for request route now = record {
   request = request;
-  text = request_text (keeps route.persistence) request route.port;
-  terms = record {
-    port = route.port;
-    persistence = route.persistence;
-    is_idempotent = is_idempotent request.method;
-  };
+  text = forwarded_text (terms_on request route) request;
+  terms = terms_on request route;
   deadlines = deadlines_from route.timeouts now;
   is_again = false;
 }
@@ -55,11 +60,14 @@ abbrev pub DialsFor : Bool → Request → Route → ℕ → EndpointSide → Ty
 DialsFor true request route now new = new ≡ side.Dialing request (dialing_for request route now)
 DialsFor false request route now new = new ≡ side.Entered request
 
+-- the terms of a request on another route
+abbrev pub terms_elsewhere : Terms → Route → Terms
+terms_elsewhere terms route = record terms { port = route.port; persistence = route.persistence }
+
 -- a request that is dialled for is dialled for at another endpoint, with its text as it is forwarded there
 abbrev pub dialing_elsewhere : Request → Dialing → Route → ℕ → Dialing
 dialing_elsewhere request dialing route now =
-    elsewhere dialing (request_text (keeps route.persistence) request route.port)
-    (record dialing.terms { port = route.port; persistence = route.persistence }) now
+    elsewhere dialing (forwarded_text (terms_elsewhere dialing.terms route) request) (terms_elsewhere dialing.terms route) now
 
 -- it is, if it may be; or it stays, since it may not be, or since there was no memory for its text
 abbrev pub DialsElsewhere : Bool → Bool → Request → Dialing → Route → ℕ → EndpointSide → Type 0

@@ -1,11 +1,9 @@
 -- The laws of both sides of a client's connection.
 use Rattle.std.specs.Prelude.{◌≡◌, ℕ, ◌≤◌, Bool, true, false, ◌&&◌, List, [], ◌∷◌, ◌++◌, Option, Some}
-use Rattle.bg_http.specs.Persistences.{keeps}
-use Rattle.bg_http.specs.Texts.{request_text}
 use Rattle.bg_http.specs.declared.request.Request.{Request}
 use Rattle.bg_client_side.specs.Clients.{accepted}
 use Rattle.bg_client_side.specs.Runs.{Runs, written_in}
-use Rattle.bg_client_side.specs.Stages.{has_left, is_inside, to_write}
+use Rattle.bg_client_side.specs.Stages.{has_left, is_inside, is_passing_on, to_write}
 use Rattle.bg_client_side.specs.declared.facts.ClientSettings.{ClientSettings}
 use Rattle.bg_endpoint_side.specs.Dialing.{Dialing, Forwarded}
 use Rattle.bg_endpoint_side.specs.Forwarding.{IsDecided, again, may_repeat}
@@ -15,18 +13,22 @@ use Rattle.bg_streams.specs.ResponseRelays.{is_whole, passing_of, whole_rest}
 use Rattle.bg_streams.specs.ResponseStreams.{StandsFor, relay_of}
 use Rattle.bg_streams.specs.declared.response_stream.ResponseStream.{ResponseStream}
 use Rattle.bg_http.specs.declared.persistence.Persistence.{Persistence}
+use Rattle.bg_upgrade.specs.HeadTexts.{upgrade_text}
+use Rattle.bg_upgrade.specs.Upgrades.{asks_for_upgrade}
 use Rattle.bg_both_sides.specs.Answers.{IsAnswerTo, Reply}
 use Rattle.bg_both_sides.specs.EndpointEvents.{given_in}
-use Rattle.bg_both_sides.specs.Runs.{EndpointEvent, SidesCall, SidesCalls, SidesRun, again_in, came_by, came_in, client_calls_in, client_takes, comes, dials, endpoint_gives, enters_none, passed_in, sent_in, streams, texts_in, written_of}
-use Rattle.bg_both_sides.specs.Sides.{IsForwarded, IsSound, Sides}
+use Rattle.bg_both_sides.specs.Runs.{EndpointEvent, SidesCall, SidesCalls, SidesRun, accepts_upgrade, again_in, came_by, came_in, client_calls_in, client_takes, comes, dials, endpoint_gives, enters_none, passed_in, sent_in, streams, texts_in, written_of}
+use Rattle.bg_both_sides.specs.Sides.{IsForwarded, IsSound, Sides, forwarded_text, request_of}
 use Rattle.bg_both_sides.specs.StreamedEvents as streamed
 use Rattle.bg_both_sides.specs.StreamedEvents.{Telling}
+use Rattle.bg_both_sides.specs.UpgradeEvents.{Begins}
 use Rattle.bg_both_sides.specs.declared.endpoint_step.Ending.{Ending}
 use Rattle.bg_both_sides.specs.declared.endpoint_step.Given.{Given}
 use Rattle.bg_both_sides.specs.declared.endpoint_step.EndpointStep.{EndpointStep}
 use Rattle.bg_both_sides.specs.declared.endpoint_step.EndpointStep.TheVariants as steps
 use Rattle.bg_both_sides.specs.declared.endpoint_side.EndpointSide.TheVariants as side
 use Rattle.bg_both_sides.specs.declared.route.Route.{Route}
+use Rattle.bg_both_sides.specs.declared.upgrading.Upgraded.{Upgraded}
 
 -- a client's connection that was accepted, and no request
 abbrev pub begun : ClientSettings → ℕ → Sides
@@ -66,8 +68,7 @@ AnswersByItsResponse old bytes now step reply new =
 pub record IsOfItsRequest (sent came : List ℕ) (request : Request) (forwarded : Forwarded) : Type 0 where
   pub sent_is : forwarded.text.sent ≡ sent
   pub came_is : forwarded.came ≡ came
-  pub text_is : sent ++ forwarded.text.rest
-      ≡ request_text (keeps forwarded.state.terms.persistence) request forwarded.state.terms.port
+  pub text_is : sent ++ forwarded.text.rest ≡ forwarded_text forwarded.state.terms request
 
 abbrev pub SendsItsRequest : ClientSettings → ℕ → List SidesCall → Sides → Request → Forwarded → Type 0
 SendsItsRequest settings now calls new request forwarded =
@@ -119,8 +120,7 @@ pub record WasWhole (old : Sides) : Type 0 where
   pub request : Request
   pub forwarded : Forwarded
   pub is_there : old.endpoint ≡ side.Forwarding request forwarded
-  pub text_is : forwarded.text.sent
-      ≡ request_text (keeps forwarded.state.terms.persistence) request forwarded.state.terms.port
+  pub text_is : forwarded.text.sent ≡ forwarded_text forwarded.state.terms request
 
 abbrev pub GoesBackWhole : Sides → EndpointEvent → ℕ → Ending → Option Reply → Sides → Type 0
 GoesBackWhole old event now ending reply new =
@@ -132,8 +132,7 @@ pub record WasStreamedWhole (old : Sides) : Type 0 where
   pub request : Request
   pub s : Streamed
   pub is_there : old.endpoint ≡ side.Streaming request s
-  pub text_is : s.forwarded.text.sent
-      ≡ request_text (keeps s.forwarded.state.terms.persistence) request s.forwarded.state.terms.port
+  pub text_is : s.forwarded.text.sent ≡ forwarded_text s.forwarded.state.terms request
 
 abbrev pub StreamGoesBackWhole : Sides → EndpointEvent → ℕ → Ending → Telling → Sides → Type 0
 StreamGoesBackWhole old event now ending telling new =
@@ -203,3 +202,21 @@ abbrev pub GoesElsewhereUnsent : ClientSettings → ℕ → List SidesCall → S
 GoesElsewhereUnsent settings now calls old request dialing route at new =
     SidesRun (begun settings now) calls old → old.endpoint ≡ side.Dialing request dialing
     → SidesCalls old (dials route at true) new → written_of [] calls ≡ []
+
+-- a tunnel follows an acceptance: the whole text of a request that asks for an upgrade was written to its connection, and nothing else;
+-- the tunnel begins with all bytes that came there, and with those that are unread behind the request; nothing of another response was
+-- passed on; and the client's connection has left
+pub record FollowsAcceptance (sent came : List ℕ) (old : Sides) (upgraded : Upgraded) (new : Sides) : Type 0 where
+  pub request : Request
+  pub request_is : request_of old.endpoint ≡ Some request
+  pub asks : asks_for_upgrade request ≡ true
+  pub sent_is : sent ≡ upgrade_text request
+  pub begins : Begins request came old.client.since upgraded
+  pub none_passed : is_passing_on old.client.stage ≡ false
+  pub no_request : new.endpoint ≡ side.NoRequest
+  pub left : has_left new.client.stage ≡ true
+
+abbrev pub BeginsTunnel : ClientSettings → ℕ → List SidesCall → Sides → List ℕ → ℕ → ℕ → Upgraded → Sides → Type 0
+BeginsTunnel settings now calls old bytes at weight upgraded new =
+    SidesRun (begun settings now) calls old → SidesCalls old (accepts_upgrade bytes at weight (Some upgraded)) new
+    → FollowsAcceptance (sent_in [] calls) (came_in [] calls ++ bytes) old upgraded new

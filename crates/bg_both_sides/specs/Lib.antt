@@ -5,3 +5,4 @@ pub mod Laws
 pub mod Runs
 pub mod Sides
 pub mod StreamedEvents
+pub mod UpgradeEvents

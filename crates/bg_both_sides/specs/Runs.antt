@@ -19,7 +19,9 @@ use Rattle.bg_both_sides.specs.EndpointEvents.{AtDialing, AtForwarded, Dials, Gi
 use Rattle.bg_both_sides.specs.Sides.{Sides, to_client, to_endpoint}
 use Rattle.bg_both_sides.specs.StreamedEvents.{AtStreamed, ClientTakes, ConnectsStreamed, IsOnceStreamed, Telling, passes_here}
 use Rattle.bg_both_sides.specs.StreamedEvents as streamed
+use Rattle.bg_both_sides.specs.UpgradeEvents.{AcceptsUpgrade}
 use Rattle.bg_both_sides.specs.declared.stream_limits.StreamLimits.{StreamLimits}
+use Rattle.bg_both_sides.specs.declared.upgrading.Upgraded.{Upgraded}
 use Rattle.bg_both_sides.specs.declared.endpoint_step.EndpointStep.{EndpointStep}
 use Rattle.bg_both_sides.specs.declared.endpoint_step.EndpointStep.TheVariants as steps
 use Rattle.bg_both_sides.specs.declared.route.Route.{Route}
@@ -61,6 +63,8 @@ pub data SidesCall : Type 0 where
   streams : EndpointEvent → ℕ → EndpointStep → Telling → SidesCall
   -- whether a response is passed on, and the client took these bytes of it; what this made of it, and what its connection was told
   client_takes : Bool → List ℕ → ℕ → EndpointStep → Telling → SidesCall
+  -- these bytes came from the endpoint, and whether it accepted an upgrade with them, which handed both connections over
+  accepts_upgrade : List ℕ → ℕ → ℕ → Option Upgraded → SidesCall
 
 -- a call of the client's connection that reads, with this result and at this moment
 abbrev pub IsReading : ClientCall → Fed → ℕ → Type 0
@@ -132,6 +136,7 @@ SidesCalls old (streams event now told telling) new =
 SidesCalls old (client_takes passed bytes now told telling) new =
     (passed ≡ passes_here old) × ((rest : List ℕ) × (to_client old.endpoint ≡ bytes ++ rest))
     × ClientTakes old.endpoint (length bytes) now old.client told telling new
+SidesCalls old (accepts_upgrade bytes now weight upgraded) new = AcceptsUpgrade old bytes now weight upgraded new
 
 -- these calls, one after the other
 abbrev pub SidesRun : Sides → List SidesCall → Sides → Type 0
@@ -167,6 +172,10 @@ abbrev pub taken_calls : Bool → List ℕ → ℕ → List ClientCall
 taken_calls true bytes now = passes_on bytes true now true ∷ []
 taken_calls false bytes now = []
 
+abbrev pub upgrade_calls : ℕ → Option Upgraded → ℕ → List ClientCall
+upgrade_calls weight None now = []
+upgrade_calls weight (Some upgraded) now = answer_calls true (lacks weight) now
+
 -- the calls of the client's connection that a call makes, and that calls make in their sequence
 abbrev pub client_calls : SidesCall → List ClientCall
 client_calls (reads call result now answer) = call ∷ fault_calls answer now
@@ -176,6 +185,7 @@ client_calls (refuses now told reply) = reply_calls reply now
 client_calls (endpoint_gives event now told reply) = reply_calls reply now
 client_calls (streams event now told telling) = telling_calls telling now
 client_calls (client_takes passed bytes now told telling) = taken_calls passed bytes now ++ telling_calls telling now
+client_calls (accepts_upgrade bytes now weight upgraded) = upgrade_calls weight upgraded now
 client_calls other = []
 
 abbrev pub client_calls_in : List SidesCall → List ClientCall

@@ -1,5 +1,5 @@
 -- A client's connection together with the request that it has at an endpoint.
-use Rattle.std.specs.Prelude.{◌≡◌, ⊤, ℕ, Bool, true, false, List, [], Option, Some, None, nat_le}
+use Rattle.std.specs.Prelude.{◌≡◌, ⊤, ℕ, Bool, true, false, List, [], Option, Some, None, if◌then◌else◌, nat_le}
 use Rattle.bg_http.specs.Persistences.{keeps}
 use Rattle.bg_http.specs.Texts.{request_text}
 use Rattle.bg_http.specs.declared.request.Request.{Request}
@@ -12,6 +12,8 @@ use Rattle.bg_endpoint_side.specs.OutgoingTexts.{whole}
 use Rattle.bg_endpoint_side.specs.declared.terms.Terms.{Terms}
 use Rattle.bg_streams.specs.ResponseRelays.{passing_of, rest_of}
 use Rattle.bg_streams.specs.ResponseStreams.{relay_of, wants_input}
+use Rattle.bg_upgrade.specs.HeadTexts.{upgrade_text}
+use Rattle.bg_upgrade.specs.Upgrades.{asks_for_upgrade}
 use Rattle.bg_both_sides.specs.declared.endpoint_side.EndpointSide.{EndpointSide}
 use Rattle.bg_both_sides.specs.declared.endpoint_side.EndpointSide.TheVariants as side
 
@@ -59,6 +61,12 @@ abbrev pub is_dial_late : EndpointSide → ℕ → Bool
 is_dial_late (side.Dialing request dialing) now = nat_le dialing.deadlines.until now
 is_dial_late other now = false
 
+-- the request as it is forwarded on the connection that belongs to it
+abbrev pub as_forwarded : EndpointSide → Option Forwarded
+as_forwarded (side.Forwarding request forwarded) = Some forwarded
+as_forwarded (side.Streaming request streamed) = Some streamed.forwarded
+as_forwarded other = None
+
 -- what is to be written to the endpoint now
 abbrev pub to_endpoint : EndpointSide → List ℕ
 to_endpoint (side.Forwarding request forwarded) = to_write forwarded
@@ -76,11 +84,17 @@ reads_endpoint (side.Forwarding request forwarded) = true
 reads_endpoint (side.Streaming request streamed) = wants_input streamed.stream
 reads_endpoint other = false
 
+-- the text of the request as it is forwarded under these terms
+abbrev pub forwarded_text : Terms → Request → List ℕ
+forwarded_text terms request =
+    if terms.asks_for_upgrade then upgrade_text request else request_text (keeps terms.persistence) request terms.port
+
 -- the text is that of the request as it is forwarded under these terms, and its response is read as the one to it
 pub record IsSentAs (request read : Request) (terms : Terms) (text : List ℕ) : Type 0 where
   pub read_is : read ≡ request
-  pub text_is : text ≡ request_text (keeps terms.persistence) request terms.port
+  pub text_is : text ≡ forwarded_text terms request
   pub idempotent_is : terms.is_idempotent ≡ is_idempotent request.method
+  pub asks_is : terms.asks_for_upgrade ≡ true → asks_for_upgrade request ≡ true
 
 -- what is dialled for, and what is forwarded, is the request
 abbrev pub IsDialed : Request → Dialing → Type 0
@@ -96,6 +110,12 @@ IsReadAsItself (side.Dialing request dialing) = request ≡ dialing.request
 IsReadAsItself (side.Forwarding request forwarded) = request ≡ forwarded.request
 IsReadAsItself (side.Streaming request streamed) = request ≡ streamed.forwarded.request
 IsReadAsItself other = ⊤
+
+-- the request that is dialled for as one that asks for an upgrade does ask
+abbrev pub AsksAsItself : EndpointSide → Type 0
+AsksAsItself (side.Dialing request dialing) =
+    dialing.terms.asks_for_upgrade ≡ true → asks_for_upgrade request ≡ true
+AsksAsItself other = ⊤
 
 -- exactly if the client's connection has a request inside, it is there; and it is sent as it is
 abbrev pub IsSound : Client → EndpointSide → Type 0

@@ -101,7 +101,7 @@ fn refuse_with(
 }
 
 /// Has the client's connection leave without an answer.
-fn leave_unanswered(client: &mut ClientConnection, alloc: Global, now: u64)
+pub(crate) fn leave_unanswered(client: &mut ClientConnection, alloc: Global, now: u64)
     ensures { (weight : ℕ) × (client.new ≡ with_answer (lacks weight) now client.old) }
 {
     client.fail();

@@ -7,11 +7,13 @@ mod kept;
 mod large_bodies;
 mod pages;
 mod streaming;
+mod upgrades;
 
 use crate::both_sides::BothSides;
 use crate::endpoint_step::{EndpointStep, Given};
 use crate::route::Route;
 use crate::stream_limits::StreamLimits;
+use crate::upgrading::Upgraded;
 use bg_client_side::ClientSettings;
 use bg_endpoint_side::{DialFault, GivingUp, Timeouts};
 use bg_http::{Persistence, RefusalBody};
@@ -33,6 +35,7 @@ const ROUTE: Route = Route {
         response: 60_000,
         idle: 30_000,
     },
+    upgrades: false,
 };
 
 /// Few bytes of a body are held at a time.
@@ -53,6 +56,8 @@ enum Event {
     Enter,
     Refuse(u64),
     Dial(u64),
+    /// The endpoint is dialled, and an upgrade may be passed on.
+    DialToUpgrade(u64),
     /// Another endpoint, at this port, is dialled.
     DialElsewhere(u16, u64),
     OnNew(u64),
@@ -132,6 +137,16 @@ impl World {
                 self.sides.dial(ROUTE, *now);
                 Ok(())
             }
+            Event::DialToUpgrade(now) => {
+                self.sides.dial(
+                    Route {
+                        upgrades: true,
+                        ..ROUTE
+                    },
+                    *now,
+                );
+                Ok(())
+            }
             Event::DialElsewhere(port, now) => {
                 self.sides.dial(
                     Route {
@@ -163,7 +178,10 @@ impl World {
                 EndpointStep::GoesOn
             }
             Event::DialFailed(why, now) => self.sides.dial_failed(*why, *now),
-            Event::Gave(bytes, now) => self.sides.receive(bytes, *now),
+            Event::Gave(bytes, now) => match self.sides.accept_upgrade(bytes, *now) {
+                Some(upgraded) => return self.begin_tunnel(upgraded),
+                None => self.sides.receive(bytes, *now),
+            },
             Event::EndpointEnded(now) => self.sides.endpoint_ended(*now),
             Event::EndpointFailed(now) => self.sides.endpoint_failed(*now),
             Event::Late(now) => self.sides.look_at_endpoint(*now),
@@ -188,6 +206,13 @@ impl World {
             },
         };
         self.to_endpoint.extend_from_slice(mark)
+    }
+
+    /// Both connections become a tunnel, which takes what it begins with.
+    fn begin_tunnel(&mut self, upgraded: Upgraded) -> Result<(), AllocError> {
+        self.to_endpoint.extend_from_slice(b"[tunnel]")?;
+        self.to_endpoint.extend_from_slice(&upgraded.for_endpoint)?;
+        self.to_client.extend_from_slice(&upgraded.for_client)
     }
 
     fn connect(&mut self, is_kept: bool, now: u64, mark: &[u8]) -> Result<(), AllocError> {

@@ -1,5 +1,5 @@
 //! The request of a client's connection at its endpoint.
-ghost use Rattle.std.specs.Prelude.{◌≡◌, IfErr, IfOk, None, OnErr, Option, false, true};
+ghost use Rattle.std.specs.Prelude.{◌≡◌, IfErr, IfOk, IfSome, None, OnErr, Option, false, true};
 ghost use Rattle.bg_endpoint_side.specs.Forwarding.{Ends, Receives, failed, unread, with_end, wrote};
 ghost use Rattle.bg_endpoint_side.specs.StreamedSteps.{EndsStreamed, ReceivesStreamed, failed_streamed, given_up_streamed, looked_streamed};
 ghost use Rattle.bg_both_sides.specs.StreamedEvents.{AtStreamed, ClientTakes, ConnectsStreamed, IsOnceStreamed, Telling};
@@ -7,8 +7,10 @@ ghost use Rattle.bg_http.specs.Persistences.{keeps};
 ghost use Rattle.bg_both_sides.specs.Answers.{Reply};
 ghost use Rattle.bg_both_sides.specs.EndpointEvents.{AtDialing, AtForwarded, Dials, GivesUp, IsOnce, Looks, dial_failed, on_forwarded};
 ghost use Rattle.bg_endpoint_side.specs.OutgoingTexts.{IsFirstPiece};
-ghost use Rattle.bg_both_sides.specs.Sides.{IsReadAsItself, as_dialing, as_entered, has_connection, is_streaming};
+ghost use Rattle.bg_both_sides.specs.Sides.{AsksAsItself, IsReadAsItself, as_dialing, as_entered, has_connection, is_streaming};
 ghost use Rattle.bg_both_sides.specs.Sides.{reads_endpoint, request_of, to_client, to_endpoint};
+ghost use Rattle.bg_both_sides.specs.UpgradeEvents.{Asks};
+ghost use Rattle.bg_endpoint_side.specs.Dialing.{Forwarded};
 ghost use Rattle.bg_both_sides.specs.declared.endpoint_side.EndpointSide.TheVariants as side;
 ghost use Rattle.std.specs.Option.{option_copied};
 
@@ -100,6 +102,22 @@ impl EndpointSide {
         }
     }
 
+    /// The request that was written whole as one that asks for an upgrade, and all bytes that came on its connection, if they are kept.
+    pub(crate) fn upgrade_asked(&self) -> Option<(&Request, &[u8])>
+        ensures { IfSome result (λ asked. (forwarded : Forwarded) × Asks self.now asked.0.now forwarded
+            × (asked.1.now ≡ forwarded.came)) }
+    {
+        match self {
+            EndpointSide::Forwarding(request, forwarded) if forwarded.is_sent() => {
+                Some((request, forwarded.arrived()?))
+            }
+            EndpointSide::Streaming(request, streamed) if streamed.is_sent() => {
+                Some((request, streamed.arrived()?))
+            }
+            _ => None,
+        }
+    }
+
     /// Whether a connection to an endpoint belongs to the request.
     pub(crate) fn has_connection(&self) -> bool
         ensures { result ≡ has_connection self.now }
@@ -133,7 +151,8 @@ impl EndpointSide {
 
     /// The same after the request is dialled for, and whether it is.
     pub(crate) fn dial(self, alloc: Global, route: Route, now: u64) -> (EndpointSide, bool)
-        requires { IsReadAsItself self }
+        requires itself { IsReadAsItself self }
+        requires asks { AsksAsItself self }
         ensures { Dials self route now result.1 result.0 }
     {
         match self {

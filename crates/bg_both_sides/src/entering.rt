@@ -1,10 +1,11 @@
 //! How a request enters, is refused, and is sent to an endpoint.
-ghost use Rattle.std.specs.Prelude.{◌≡◌, Option, is_some};
+ghost use Rattle.std.specs.Prelude.{◌≡◌, Option, is_some, true};
 ghost use Rattle.bg_client_side.specs.Stages.{waiting_request};
 ghost use Rattle.bg_endpoint_side.specs.Dialing.{may_go_elsewhere};
 ghost use Rattle.bg_both_sides.specs.Answers.{Reply};
 ghost use Rattle.bg_both_sides.specs.ClientEvents.{entered};
-ghost use Rattle.bg_both_sides.specs.EndpointEvents.{Dials, DialsElsewhere, DialsFor, RefusesEntered, begins, connected, takes_connection, with_fields};
+ghost use Rattle.bg_both_sides.specs.EndpointEvents.{Dials, DialsElsewhere, DialsFor, RefusesEntered, begins, connected, takes_connection, terms_on as terms_of_route, with_fields};
+ghost use Rattle.bg_upgrade.specs.Upgrades.{asks_for_upgrade as asks};
 ghost use Rattle.bg_both_sides.specs.Sides.{as_entered};
 ghost use Rattle.bg_both_sides.specs.declared.endpoint_side.EndpointSide.TheVariants as side;
 
@@ -15,6 +16,7 @@ use crate::route::Route;
 use crate::texts::request_front;
 use bg_endpoint_side::{DialingRequest, Terms, is_idempotent};
 use bg_http::{Fields, Request};
+use bg_upgrade::asks_for_upgrade;
 use std::alloc::Global;
 use std::mem;
 
@@ -106,6 +108,18 @@ impl BothSides {
     }
 }
 
+/// What a request means for the connection to its endpoint on this route.
+fn terms_on(request: &Request, route: Route) -> Terms
+    ensures { result ≡ terms_of_route request.now route }
+{
+    Terms {
+        port: route.port,
+        persistence: route.persistence,
+        is_idempotent: is_idempotent(request),
+        asks_for_upgrade: route.upgrades && asks_for_upgrade(request),
+    }
+}
+
 /// A request that entered, as it is dialled for, and whether there was memory for its text.
 pub(crate) fn dial_for(
     alloc: Global,
@@ -115,13 +129,9 @@ pub(crate) fn dial_for(
 ) -> (EndpointSide, bool)
     ensures { DialsFor result.1 request route now result.0 }
 {
-    let Ok(front) = request_front(alloc, &request, route.port, route.persistence) else {
+    let terms = terms_on(&request, route);
+    let Ok(front) = request_front(alloc, &request, terms) else {
         return (EndpointSide::Entered(request), false);
-    };
-    let terms = Terms {
-        port: route.port,
-        persistence: route.persistence,
-        is_idempotent: is_idempotent(&request),
     };
     match DialingRequest::new(alloc, &request, (front, terms), route.timeouts, now) {
         Ok(dialing) => (EndpointSide::Dialing(request, dialing), true),
@@ -138,24 +148,20 @@ pub(crate) fn dial_elsewhere(
     route: Route,
     now: u64,
 ) -> (EndpointSide, bool)
-    requires { request ≡ dialing.request }
+    requires request { request ≡ dialing.request }
+    requires asks { dialing.terms.asks_for_upgrade ≡ true → asks request ≡ true }
     ensures { DialsElsewhere (may_go_elsewhere dialing now) result.1 request dialing route now result.0 }
 {
     if !dialing.may_go_elsewhere(now) {
         return (EndpointSide::Dialing(request, dialing), false);
     }
-    let Route {
-        port,
-        persistence,
-        ..
-    } = route;
-    let Ok(front) = request_front(alloc, &request, port, persistence) else {
-        return (EndpointSide::Dialing(request, dialing), false);
-    };
     let terms = Terms {
-        port,
-        persistence,
+        port: route.port,
+        persistence: route.persistence,
         ..dialing.terms()
+    };
+    let Ok(front) = request_front(alloc, &request, terms) else {
+        return (EndpointSide::Dialing(request, dialing), false);
     };
     (
         EndpointSide::Dialing(request, dialing.dial_elsewhere((front, terms), now)),

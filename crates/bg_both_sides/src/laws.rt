@@ -6,7 +6,7 @@ ghost use Rattle.bg_client_side.specs.declared.facts.ClientSettings.{ClientSetti
 ghost use Rattle.bg_endpoint_side.specs.Dialing.{Dialing, Forwarded};
 ghost use Rattle.bg_both_sides.specs.Answers.{Reply};
 ghost use Rattle.bg_endpoint_side.specs.Streaming.{Streamed};
-ghost use Rattle.bg_both_sides.specs.Laws.{AnswersByItsResponse, GoesBackWhole, GoesElsewhereUnsent, HasNoneWithoutRequest, LosesItsConnection};
+ghost use Rattle.bg_both_sides.specs.Laws.{AnswersByItsResponse, BeginsTunnel, GoesBackWhole, GoesElsewhereUnsent, HasNoneWithoutRequest, LosesItsConnection};
 ghost use Rattle.bg_both_sides.specs.Laws.{EndsByItsClient, EndsByItsEndpoint, PassesOnItsResponse, StreamGoesBackWhole};
 ghost use Rattle.bg_both_sides.specs.Laws.{StreamLosesItsConnection, StreamRepeatsOnlyByRule, StreamsItsRequest, TakenGoesBackWhole, TakenLosesItsConnection};
 ghost use Rattle.bg_both_sides.specs.Laws.{RepeatsOnce, RepeatsOnlyByRule, RunsItsClient, SendsItsRequest, WritesItsAnswers};
@@ -16,6 +16,7 @@ ghost use Rattle.bg_both_sides.specs.StreamedEvents.{Telling};
 ghost use Rattle.bg_both_sides.specs.declared.endpoint_step.Ending.{Ending};
 ghost use Rattle.bg_both_sides.specs.declared.endpoint_step.EndpointStep.{EndpointStep};
 ghost use Rattle.bg_both_sides.specs.declared.route.Route.{Route};
+ghost use Rattle.bg_both_sides.specs.declared.upgrading.Upgraded.{Upgraded};
 
 /// All calls make calls of the client's connection alone, so each law of bg_client_side holds of it; and the two
 /// sides stay together: a request is at an endpoint only while it is inside, with the text in which it is forwarded.
@@ -109,3 +110,14 @@ pub fn a_request_goes_elsewhere_unsent()
         (dialing : Dialing) (route : Route) (at : ℕ) (new : Sides)
         → GoesElsewhereUnsent settings now calls old request dialing route at new }
 {}
+
+/// A tunnel begins only after its endpoint has accepted an upgrade that the client asked for. The whole request was written to its
+/// connection, as one that asks for an upgrade, and nothing else. All bytes that came there begin with a response 101 that accepts
+/// the upgrade, and the client gets that head as it is forwarded, and then each byte behind it. No byte of the client behind its
+/// request was written to the endpoint before, and the tunnel begins with all of them.
+pub fn a_tunnel_follows_an_acceptance()
+    ensures { (settings : ClientSettings) (now : ℕ) (calls : List SidesCall) (old : Sides) (bytes : List ℕ) (at weight : ℕ)
+        (upgraded : Upgraded) (new : Sides) → BeginsTunnel settings now calls old bytes at weight upgraded new }
+{
+    bg_endpoint_side::laws::a_text_is_written_in_its_order();
+}

@@ -19,8 +19,10 @@ mod stream_limits;
 mod streamed_events;
 mod streamed_step;
 mod texts;
+mod upgrading;
 
 pub use both_sides::BothSides;
 pub use endpoint_step::{Ending, EndpointStep, Given};
 pub use route::Route;
 pub use stream_limits::StreamLimits;
+pub use upgrading::Upgraded;

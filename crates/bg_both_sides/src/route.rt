@@ -11,4 +11,6 @@ pub struct Route {
     /// Whether its text keeps the connection to the endpoint.
     pub persistence: Persistence,
     pub timeouts: Timeouts,
+    /// Whether a request that asks for an upgrade is forwarded as one (RFC 9110 section 7.8). Otherwise its Upgrade fields are dropped.
+    pub upgrades: bool,
 }

@@ -15,7 +15,7 @@ client_of stream at facts =
     record { since = stream.since; asked = stream.asked; refused = stream.refused; stage = at; facts = facts }
 
 pub more_came : (stream grown : StreamState) (at : Stage) (facts : ClientFacts) (self new : Client) (bytes : List ℕ)
-    → client_of stream at facts ≡ self → grown ≡ record stream { since = stream.since ++ bytes }
+    → client_of stream at facts ≡ self → grown ≡ record stream { since = stream.since ++ bytes; waits = grown.waits }
     → new ≡ rests (client_of grown at facts) → LacksRequest (stream.since ++ bytes)
     → (new ≡ rests (with_bytes self bytes)) × LacksRequest (self.since ++ bytes)
 more_came stream grown at facts self new bytes is grows made lacks =

@@ -1,5 +1,5 @@
 -- What holds at each stage of a connection.
-use Rattle.std.specs.Prelude.{◌<◌, Bool, IsTrue, ⊤}
+use Rattle.std.specs.Prelude.{◌≡◌, ◌<◌, Bool, true, IsTrue, ⊤}
 use Rattle.bg_client_side.specs.declared.facts.ClientFacts.{ClientFacts}
 use Rattle.bg_client_side.specs.declared.stage.Stage.{Stage}
 use Rattle.bg_client_side.specs.declared.stage.Stage.TheVariants as stage
@@ -13,3 +13,10 @@ IsSound is_open (stage.Answering answering) facts =
 IsSound is_open (stage.Lingering lingering) facts = ⊤
 IsSound is_open stage.Left facts = ⊤
 IsSound is_open other facts = IsTrue is_open
+
+-- no byte behind the request that waits, or is inside, was read as one of a further request
+abbrev pub KeepsUnread : Stage → Bool → Type 0
+KeepsUnread (stage.Waiting request) waits = waits ≡ true
+KeepsUnread stage.Inside waits = waits ≡ true
+KeepsUnread (stage.PassingOn passing) waits = waits ≡ true
+KeepsUnread other waits = ⊤

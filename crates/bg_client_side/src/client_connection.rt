@@ -1,5 +1,5 @@
 //! A connection of a client that is kept over several requests.
-ghost use Rattle.std.specs.Prelude.{◌≡◌, ◌&&◌, ◌||◌, not, IfSome, IsTrue, None};
+ghost use Rattle.std.specs.Prelude.{◌≡◌, ◌&&◌, ◌||◌, not, IfSome, IsTrue, None, true};
 ghost use Rattle.std.specs.Option.{option_copied, option_map};
 ghost use Rattle.bg_http.specs.Persistences.{keeps};
 ghost use Rattle.bg_http_read.specs.ArrivingHeads.{BeginsWith};
@@ -36,7 +36,7 @@ impl Drop for ClientConnection {
 
 impl Model for ClientConnection {
     ghost use Rattle.bg_client_side.specs.Clients.{Client};
-    ghost use Rattle.bg_client_side.specs.Sound.{IsSound};
+    ghost use Rattle.bg_client_side.specs.Sound.{IsSound, KeepsUnread};
 
     ghost Value = { Client };
 
@@ -48,7 +48,7 @@ impl Model for ClientConnection {
       facts = c.facts;
     } };
 
-    ghost invariant = { λ c. IsSound c.stream.is_open c.stage c.facts };
+    ghost invariant = { λ c. IsSound c.stream.is_open c.stage c.facts × KeepsUnread c.stage c.stream.waits };
 }
 
 impl ClientConnection {
@@ -129,6 +129,15 @@ impl ClientConnection {
             Stage::Waiting(request) => Some(request),
             _ => None,
         }
+    }
+
+    /// All bytes that came behind the request that is inside. They were read as no request, so they may be those of another protocol
+    /// (RFC 9110 section 7.8).
+    pub fn unread(&self) -> &[u8]
+        requires { is_inside self.now.stage ≡ true }
+        ensures { result.now ≡ self.now.since }
+    {
+        self.stream.unread()
     }
 
     /// Whether the connection failed while its request was inside, or its client was late to take a response that is passed

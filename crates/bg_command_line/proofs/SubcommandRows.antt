@@ -60,7 +60,8 @@ kept_and_count flags =
 abbrev message_and_later : Flags → List Rule
 message_and_later flags =
     held (flag_rule (codes "stream")) ∷ held (number_rule (codes "silence") 3600)
-    ∷ held (flag_rule (codes "forwarded")) ∷ held (flag_rule (codes "trust-forwarded")) ∷ kept_and_count flags
+    ∷ held (flag_rule (codes "forwarded")) ∷ held (flag_rule (codes "trust-forwarded")) ∷ held (flag_rule (codes "upgrade"))
+    ∷ kept_and_count flags
 
 abbrev client_and_later : Flags → List Rule
 client_and_later flags =
@@ -104,7 +105,10 @@ message_and_later_keep flags = let c = (serve flags).rules in (
     number_keeps c (codes "silence") 3600 refl,
     (
       flag_keeps c false (codes "forwarded") refl,
-      (flag_keeps c false (codes "trust-forwarded") refl, kept_and_count_keep flags),
+      (
+        flag_keeps c false (codes "trust-forwarded") refl,
+        (flag_keeps c false (codes "upgrade") refl, kept_and_count_keep flags),
+      ),
     ),
   ),
 )
@@ -191,7 +195,10 @@ message_and_later_defaults flags = let c = (serve flags).rules in (
     no_default_keeps c (held (number_rule (codes "silence") 3600)) refl,
     (
       flag_default_keeps c false (codes "forwarded") refl,
-      (flag_default_keeps c false (codes "trust-forwarded") refl, kept_and_count_defaults flags),
+      (
+        flag_default_keeps c false (codes "trust-forwarded") refl,
+        (flag_default_keeps c false (codes "upgrade") refl, kept_and_count_defaults flags),
+      ),
     ),
   ),
 )

@@ -109,6 +109,7 @@ pub record IsServe (flags : Flags) (rows : List Row) (settings : ServeSettings) 
   pub silence_range : IfSome settings.silence (IsBetween 1 3600)
   pub forwarded_is : settings.forwarded ≡ has_flag (codes "forwarded") rows
   pub trust_forwarded_is : settings.trust_forwarded ≡ has_flag (codes "trust-forwarded") rows
+  pub upgrade_is : settings.upgrade ≡ has_flag (codes "upgrade") rows
   pub keep_alive_is : IsKeepAlive rows settings.keep_alive
   pub journal_is : option_map (λ path. path.now) settings.journal ≡ first_of (codes "journal") rows
   pub connections_are : AreConnections flags.forever rows settings.connections

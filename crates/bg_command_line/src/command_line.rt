@@ -40,10 +40,13 @@ With --error-pages, an answer of the switch itself has a short body with its sta
 accepts text/html, else text. Without it, such an answer has no body.
 With --stream, a response is passed on to its client as it comes, whatever its length and however long it takes.
 Without it, a response of up to 4 MiB is passed on once it is whole, and a longer one is answered 502. --silence
-is how many seconds an endpoint may be silent meanwhile. It has no effect without --stream.
+is how many seconds an endpoint may be silent meanwhile. It has no effect without --stream or --upgrade.
 With --forwarded, a request tells its endpoint where it comes from: X-Forwarded-For, X-Forwarded-Proto,
 X-Forwarded-Host, Forwarded and X-Request-Id. What the client tells by these fields is dropped, unless
 --trust-forwarded says that clients are proxies. It has no effect without --forwarded.
+With --upgrade, a request that asks for another protocol, as a WebSocket does, is passed on as one that asks for it.
+After a 101 of the endpoint, the connection is a tunnel until both sides end it, until no byte has come or gone for
+--silence seconds, or until its request drains for too long. Without it, the response is one without the upgrade.
 With --keep-alive, connections of clients and to endpoints are kept for further requests. --keep-alive-timeout,
 --keep-alive-requests and --endpoint-keep-alive-timeout have no effect without it.
 With --journal, an order is in the file before it is answered, and a start with a file that has orders goes on
@@ -107,12 +110,14 @@ serve takes, on ports of 127.0.0.1:
   --error-pages
                an answer of the switch itself has a short body with its status and reason
   --stream     a response is passed on to its client as it comes, whatever its length
-  --silence S  for how many seconds an endpoint may be silent, 1 to 3600; as many as a response may take where it
-               isn't given; it has no effect without --stream
+  --silence S  for how many seconds an endpoint may be silent, or a tunnel, 1 to 3600; as many as a response may
+               take where it isn't given; it has no effect without --stream or --upgrade
   --forwarded  a request tells its endpoint where it comes from: X-Forwarded-For, X-Forwarded-Proto,
                X-Forwarded-Host, Forwarded and X-Request-Id
   --trust-forwarded
                clients are proxies: what they tell by these fields goes on; it has no effect without --forwarded
+  --upgrade    a request that asks for another protocol, as a WebSocket does, is passed on so; after a 101 its
+               connection is a tunnel
   --keep-alive connections of clients and to endpoints are kept for further requests
   --keep-alive-timeout S
                for how many seconds a client's connection is kept while no request comes, 1 to 3600; 75 where
@@ -195,7 +200,7 @@ fn journal_command<'a>(alloc: Global) -> Result<Command<'a>, AllocError>
 /// `serve --active P [--preview P] [--listen ADDRESS].. [--control-socket-mode MODE] [--control-socket-group GROUP]
 /// [--preview-concurrency M] [--threads N] [--redispatch] [--endpoint-limit M] [--endpoint-address ADDRESS] [--abort-on-close]
 /// [--shutdown-grace S] [--shutdown-timeout S] [--error-pages] [--stream] [--silence S] [--forwarded] [--trust-forwarded]
-/// [--keep-alive] [--keep-alive-timeout S] [--keep-alive-requests N] [--endpoint-keep-alive-timeout S] [--journal FILE]`, with `--control P` or `--control-socket PATH` or both, `--workers N` or `--concurrency N`, and `--count K`
+/// [--upgrade] [--keep-alive] [--keep-alive-timeout S] [--keep-alive-requests N] [--endpoint-keep-alive-timeout S] [--journal FILE]`, with `--control P` or `--control-socket PATH` or both, `--workers N` or `--concurrency N`, and `--count K`
 /// or `--forever`. The flags say which of each two is required.
 fn serve_command<'a>(alloc: Global, flags: Flags) -> Result<Command<'a>, AllocError>
     ensures app { IfOk result (λ c. app_of c ≡ serve_app flags) }

@@ -125,14 +125,18 @@ pub struct ServeSettings<'a> {
     pub error_pages: bool,
     /// Whether a response is passed on to its client as it comes, whatever its length (nginx's `proxy_buffering off`).
     pub stream: bool,
-    /// For how many seconds an endpoint may be silent whose response is passed on as it comes (nginx's `proxy_read_timeout`, HAProxy's
-    /// `timeout server`), 1 to 3,600; `None` stands for as many as a message may take.
+    /// For how many seconds an endpoint may be silent whose response is passed on as it comes, or both sides of a tunnel (nginx's
+    /// `proxy_read_timeout`, HAProxy's `timeout server` and `timeout tunnel`), 1 to 3,600; `None` stands for as many as a message may
+    /// take.
     pub silence: Option<u16>,
     /// Whether requests tell their endpoints where they come from, by X-Forwarded-For and its kin, Forwarded (RFC 7239) and
     /// X-Request-Id (HAProxy's `option forwardfor`).
     pub forwarded: bool,
     /// Whether clients are trusted to tell where their requests come from: they are proxies (nginx's `set_real_ip_from`).
     pub trust_forwarded: bool,
+    /// Whether a request that asks for an upgrade to another protocol is passed on as one that does (RFC 9110 section 7.8, nginx's
+    /// `proxy_set_header Upgrade`).
+    pub upgrade: bool,
     /// How connections of clients and to endpoints are kept for further requests; `None` stands for connections that
     /// carry one request each.
     pub keep_alive: Option<KeepAlive>,

@@ -31,10 +31,10 @@ const MOST_COUNT: u64 = 1_000_000;
 /// `[--control-socket-mode MODE]` and `[--control-socket-group GROUP]`; `--workers N`, `--concurrency N`,
 /// `[--preview-concurrency M]` and `[--threads N]`; `[--redispatch] [--endpoint-limit M]
 /// [--endpoint-address ADDRESS]`; `[--abort-on-close] [--shutdown-grace S] [--shutdown-timeout S] [--error-pages]`;
-/// `[--stream] [--silence S] [--forwarded] [--trust-forwarded]`; `[--keep-alive] [--keep-alive-timeout S]
+/// `[--stream] [--silence S] [--forwarded] [--trust-forwarded] [--upgrade]`; `[--keep-alive] [--keep-alive-timeout S]
 /// [--keep-alive-requests N] [--endpoint-keep-alive-timeout S]`; `[--journal FILE]`; `--count K` and `--forever`. The flags say which of `--control` and `--control-socket` is required, which of `--workers` and
 /// `--concurrency`, and which of `--count` and `--forever`.
-pub(crate) fn serve_options<'a>(flags: Flags) -> [CommandOption<'a>; 29]
+pub(crate) fn serve_options<'a>(flags: Flags) -> [CommandOption<'a>; 30]
     ensures { (before : App) → fold with_rule before (map option_rule result) ≡ with_connection_rules flags.forever
         (with_journal_rule (with_keep_alive_rules (with_message_rules (with_client_rules (with_endpoint_rules
         (with_worker_rules flags.concurrency (with_control_rules flags.socket (with_port_rules before)))))))) }
@@ -158,7 +158,7 @@ pub(crate) fn serve_options<'a>(flags: Flags) -> [CommandOption<'a>; 29]
             name: "silence",
             value: OptionValue::UpTo(MOST_SECONDS),
             required: false,
-            help: "For how many seconds an endpoint may be silent with --stream, 1 to 3600; as many as a message may take where it isn't given",
+            help: "For how many seconds an endpoint may be silent with --stream, or a tunnel with --upgrade, 1 to 3600; as many as a message may take where it isn't given",
         },
         CommandOption {
             name: "forwarded",
@@ -171,6 +171,12 @@ pub(crate) fn serve_options<'a>(flags: Flags) -> [CommandOption<'a>; 29]
             value: OptionValue::Nothing,
             required: false,
             help: "With --forwarded, what clients tell of that goes on, too: they are proxies",
+        },
+        CommandOption {
+            name: "upgrade",
+            value: OptionValue::Nothing,
+            required: false,
+            help: "A request that asks for another protocol, as a WebSocket does, is passed on so; after a 101 its connection is a tunnel",
         },
         CommandOption {
             name: "keep-alive",

@@ -47,7 +47,7 @@ const DEFAULT_KEPT_REQUESTS: u32 = 1_000;
 /// with N from 1 to 1023, and either `--count K` with K from 1 to 1,000,000 or `--forever`. `serve` also takes
 /// `--preview-concurrency M` and `--endpoint-limit M` with M from 1 to 1023, `--threads N` with N from 1 to 64,
 /// `--redispatch`, `--endpoint-address ADDRESS`, `--listen ADDRESS` up to eight times, `--abort-on-close`, `--error-pages`, `--stream`,
-/// `--silence S` with S from 1 to 3,600, `--forwarded`, `--trust-forwarded`,
+/// `--silence S` with S from 1 to 3,600, `--forwarded`, `--trust-forwarded`, `--upgrade`,
 /// `--shutdown-grace S` with S from 1 to 60, `--shutdown-timeout S` with S from 1 to 3,600,
 /// `--control-socket-mode MODE` with MODE from 1 to 777, `--control-socket-group GROUP`, `--keep-alive`,
 /// `--keep-alive-timeout S` and `--endpoint-keep-alive-timeout S` with S from 1 to 3,600, `--keep-alive-requests N` with N from
@@ -203,6 +203,7 @@ fn serve_of<'a>(flags: Flags, addresses: GivenAddresses, matches: &ArgMatches<'a
         silence: u16_of::<3600>(matches, "silence"),
         forwarded: has_flag(matches, "forwarded"),
         trust_forwarded: has_flag(matches, "trust-forwarded"),
+        upgrade: has_flag(matches, "upgrade"),
         keep_alive: keep_alive_of(matches),
         journal: argument_text(matches, "journal"),
         connections: connections_of(flags.forever, matches),

@@ -1,3 +1,4 @@
+pub mod ArrivedLemmas
 pub mod KeptLemmas
 pub mod KeptRunLemmas
 pub mod LawLemmas

@@ -8,11 +8,13 @@ use Rattle.bg_endpoint_side.specs.Dialing.{Forwarded}
 use Rattle.bg_endpoint_side.specs.EndpointRequests.{IsForwardedSoundly, IsSoundWith, forwarded_of, forwarded_with}
 use Rattle.bg_endpoint_side.specs.Forwarding.{IsDecided, may_stay, renew_if, with_bytes}
 use Rattle.bg_endpoint_side.specs.Outcomes.{health_of}
+use Rattle.bg_endpoint_side.specs.KeptBytes.{IsKeptOf}
 use Rattle.bg_endpoint_side.specs.OutgoingTexts.{Outgoing}
 use Rattle.bg_endpoint_side.specs.declared.connection_state.ConnectionState.{ConnectionState}
 use Rattle.bg_endpoint_side.specs.declared.endpoint_request.EndpointRequest.{EndpointRequest}
 use Rattle.bg_endpoint_side.specs.declared.outcome.Health.{Health}
 use Rattle.bg_endpoint_side.specs.declared.outcome.Outcome.{Outcome}
+use Rattle.bg_endpoint_side.specs.declared.terms.Terms.{Terms}
 
 pub come_more : (seen bytes : List ℕ) → (not (is_empty seen) || not (is_empty bytes)) ≡ not (is_empty (seen ++ bytes))
 come_more [] bytes = refl
@@ -27,11 +29,22 @@ pub still_sound_with : (before after : EndpointRequest) (came : List ℕ) (happe
     → after ≡ record before { state = (renew_if happened (forwarded_of before) now).state }
     → IsSoundWith before came → IsSoundWith after came
 still_sound_with before after came happened now renewed sound =
-    subst (λ x. IsSoundWith x came) (sym renewed) (sound.0, sound.1, sound.2, sound.3, once happened ∙ sound.4) where
+    subst (λ x. IsSoundWith x came) (sym renewed) (
+      sound.0,
+      sound.1,
+      sound.2,
+      sound.3,
+      once happened ∙ sound.4,
+      subst (λ (terms : Terms). IsKeptOf before.arrived terms.asks_for_upgrade came) (sym (same happened)) sound.5,
+    ) where
       once : (happened : Bool) → ((renew_if happened (forwarded_of before) now).state.is_kept
           && (renew_if happened (forwarded_of before) now).state.is_again) ≡ (before.state.is_kept && before.state.is_again)
       once true = refl
       once false = refl
+
+      same : (happened : Bool) → (renew_if happened (forwarded_of before) now).state.terms ≡ before.state.terms
+      same true = refl
+      same false = refl
 
 pub still_sound : (before after : EndpointRequest) (happened : Bool) (now : ℕ)
     → after ≡ record before { state = (renew_if happened (forwarded_of before) now).state }

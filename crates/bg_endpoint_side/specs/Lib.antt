@@ -2,6 +2,7 @@ pub mod Deadlines
 pub mod Dialing
 pub mod EndpointRequests
 pub mod Forwarding
+pub mod KeptBytes
 pub mod KeptLists
 pub mod KeptRuns
 pub mod Laws

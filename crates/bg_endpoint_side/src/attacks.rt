@@ -90,6 +90,7 @@ fn begin(alloc: Global, request: &Request, is_kept: bool) -> Option<ForwardedReq
         port: 8081,
         persistence: Persistence::Keep,
         is_idempotent: is_idempotent(request),
+        asks_for_upgrade: false,
     };
     let text = Vec::from_slice(alloc, TEXT).ok()?;
     let dialing = DialingRequest::new(alloc, request, (text, terms), TIMEOUTS, 0).ok()?;

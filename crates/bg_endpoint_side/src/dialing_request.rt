@@ -9,6 +9,7 @@ ghost use Rattle.bg_endpoint_side.specs.Outcomes.{health_of_dial, of_dial, of_gi
 ghost use Rattle.bg_endpoint_side.specs.Streaming.{IsStreamedOn};
 ghost use Rattle.bg_endpoint_side.specs.declared.outcome.Health.TheVariants as health;
 
+use crate::arrived_bytes::ArrivedBytes;
 use crate::connection_state::ConnectionState;
 use crate::deadlines::{DIAL_MILLIS, Deadlines, Timeouts};
 use crate::endpoint_request::EndpointRequest;
@@ -73,6 +74,7 @@ impl DialingRequest {
             text: OutgoingText::new(front, request),
             version: VersionMatch::new(),
             has_come: false,
+            arrived: ArrivedBytes::none(alloc),
             state: ConnectionState {
                 terms,
                 deadlines: Deadlines::new(timeouts, now),

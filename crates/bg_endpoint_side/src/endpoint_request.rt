@@ -1,5 +1,5 @@
 //! What a request has at its endpoint.
-ghost use Rattle.std.specs.Prelude.{◌≡◌, ◌&&◌, ◌++◌, IfNone, IfSome, List, ℕ, false, not};
+ghost use Rattle.std.specs.Prelude.{◌≡◌, ◌≤◌, ◌&&◌, ◌++◌, IfNone, IfSome, List, None, ℕ, false, length, not};
 ghost use Rattle.bg_http.specs.Codings.{is_empty};
 ghost use Rattle.bg_http_read.specs.ResponseStates.{NeedsMore};
 ghost use Rattle.bg_endpoint_side.specs.Dialing.{begins_on};
@@ -8,6 +8,7 @@ ghost use Rattle.bg_endpoint_side.specs.Forwarding.{IsDecided, late_health, may_
 ghost use Rattle.bg_endpoint_side.specs.OutgoingTexts.{IsFirstPiece, uncopied_body as uncopied_of};
 
 use crate::answering::{answered, has_bytes, has_come_with, health_of, may_stay};
+use crate::arrived_bytes::ArrivedBytes;
 use crate::connection_state::ConnectionState;
 use crate::deadlines::WRITE_MILLIS;
 use crate::outcome::{ForwardFault, Health, Outcome};
@@ -26,6 +27,8 @@ pub(crate) struct EndpointRequest {
     pub(crate) version: VersionMatch,
     /// Whether a byte came.
     pub(crate) has_come: bool,
+    /// All bytes that came, if they are kept: while a request whose terms ask for an upgrade is forwarded.
+    pub(crate) arrived: ArrivedBytes,
     pub(crate) state: ConnectionState,
 }
 
@@ -37,6 +40,7 @@ impl Drop for EndpointRequest {
             text: _,
             version: _,
             has_come: _,
+            arrived: _,
             state: _,
         } = self;
     }
@@ -52,6 +56,7 @@ impl EndpointRequest {
             text: _,
             version: _,
             has_come: _,
+            arrived: _,
             state: _,
         } = self;
         parser
@@ -67,6 +72,7 @@ impl EndpointRequest {
     {
         self.version = VersionMatch::new();
         self.has_come = false;
+        self.arrived.begin(self.state.terms.asks_for_upgrade);
         self.state = ConnectionState {
             deadlines: self.state.deadlines.renewed(WRITE_MILLIS, now),
             is_kept,
@@ -87,6 +93,7 @@ impl EndpointRequest {
     {
         self.has_come = has_come_with(self.has_come, bytes);
         self.version = self.version.after(bytes);
+        self.arrived.add(bytes);
         match self.parser.receive(bytes) {
             Ok(None) => {
                 self.renew_if(has_bytes(bytes), now);
@@ -112,7 +119,18 @@ impl EndpointRequest {
     {
         self.has_come = has_come_with(self.has_come, bytes);
         self.version = self.version.after(bytes);
+        self.arrived.add(bytes);
         self.renew_if(has_bytes(bytes), now);
+    }
+
+    /// All bytes that came, if they are kept.
+    pub(crate) fn arrived(&self) -> Option<&[u8]>
+        ensures came { (came : List ℕ) → IsSoundWith self.now came → IfSome result (λ bytes. bytes.now ≡ came) }
+        ensures within { IfSome result (λ bytes. length bytes.now ≤ 16384) }
+        ensures none { (came : List ℕ) → IsSoundWith self.now came
+            → self.now.state.terms.asks_for_upgrade ≡ false → result ≡ None }
+    {
+        self.arrived.get()
     }
 
     /// A piece of what is to be written now: of what is left of the text, or of nothing, if the endpoint reads no more of it.

@@ -1,5 +1,5 @@
 //! A request that is forwarded on a connection to its endpoint.
-ghost use Rattle.std.specs.Prelude.{◌≡◌, ◌&&◌, [], IsFalse, IsTrue, false, true};
+ghost use Rattle.std.specs.Prelude.{◌≡◌, ◌≤◌, ◌&&◌, [], IfSome, IsFalse, IsTrue, None, false, length, true};
 ghost use Rattle.bg_http.specs.Codings.{is_empty};
 ghost use Rattle.bg_endpoint_side.specs.Forwarding.{AnswersAtEnd, Ends, Receives, again, failed, is_again, is_sent};
 ghost use Rattle.bg_endpoint_side.specs.Forwarding.{late_health, looked, may_repeat, to_write};
@@ -55,6 +55,16 @@ impl ForwardedRequest {
         ensures { result ≡ self.now.state.terms }
     {
         self.boxed.state.terms
+    }
+
+    /// All bytes that came on the connection since the request began on it, if they are kept: its terms ask for an upgrade, there are at
+    /// most 16,384 of them, and no allocation failed.
+    pub fn arrived(&self) -> Option<&[u8]>
+        ensures came { IfSome result (λ bytes. bytes.now ≡ self.now.came) }
+        ensures within { IfSome result (λ bytes. length bytes.now ≤ 16384) }
+        ensures none { self.now.state.terms.asks_for_upgrade ≡ false → result ≡ None }
+    {
+        self.boxed.arrived()
     }
 
     /// A piece of what is to be written now: of what is left of the text, or of nothing, if the endpoint reads no more of it.

@@ -3,6 +3,9 @@
 #![tactic(auto)]
 
 mod answering;
+mod arrived_bytes;
+#[cfg(test)]
+mod arrived_tests;
 #[cfg(test)]
 mod attacks;
 mod connection_state;

@@ -1,5 +1,5 @@
 //! A request that is forwarded on a connection to its endpoint, and whose response is passed on as it comes.
-ghost use Rattle.std.specs.Prelude.{◌≡◌, ◌&&◌, [], IfErr, IfOk, IfSome, false, true};
+ghost use Rattle.std.specs.Prelude.{◌≡◌, ◌≤◌, ◌&&◌, [], IfErr, IfOk, IfSome, None, false, length, true};
 ghost use Rattle.std.specs.Option.{option_copied, option_map};
 ghost use Rattle.bg_http.specs.Persistences.{keeps};
 ghost use Rattle.bg_streams.specs.Passings.{IsWithin};
@@ -94,6 +94,16 @@ impl StreamedRequest {
         ensures { result ≡ self.now.forwarded.state.terms }
     {
         self.boxed.request.state.terms
+    }
+
+    /// All bytes that came on the connection since the request began on it, if they are kept: its terms ask for an upgrade, there are at
+    /// most 16,384 of them, and no allocation failed.
+    pub fn arrived(&self) -> Option<&[u8]>
+        ensures came { IfSome result (λ bytes. bytes.now ≡ self.now.forwarded.came) }
+        ensures within { IfSome result (λ bytes. length bytes.now ≤ 16384) }
+        ensures none { self.now.forwarded.state.terms.asks_for_upgrade ≡ false → result ≡ None }
+    {
+        self.boxed.request.arrived()
     }
 
     /// A piece of what is to be written to the endpoint now: of what is left of the text, or of nothing, if the endpoint reads no more

@@ -13,6 +13,8 @@ pub struct Terms {
     pub persistence: Persistence,
     /// Whether its method is idempotent ([`is_idempotent`]).
     pub is_idempotent: bool,
+    /// Whether its text asks for an upgrade (RFC 9110 section 7.8).
+    pub asks_for_upgrade: bool,
 }
 
 /// Whether the method of a request is idempotent: a request that is sent twice means what it means once. GET, HEAD,

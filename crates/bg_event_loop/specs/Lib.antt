@@ -7,3 +7,5 @@ pub mod Readinesses
 pub mod Seats
 pub mod Sources
 pub mod Tries
+pub mod TunnelSteps
+pub mod Upgrades

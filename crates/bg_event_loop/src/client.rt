@@ -1,5 +1,6 @@
 //! The connections of clients.
-ghost use Rattle.std.specs.Prelude.{◌≡◌, ◌&&◌, ◌||◌, None, Some, if◌then◌else◌};
+ghost use Rattle.std.specs.Prelude.{◌≡◌, ◌&&◌, ◌||◌, None, Some, if◌then◌else◌, is_none};
+ghost use Rattle.bg_client_side.specs.Stages.{has_left};
 ghost use Rattle.bg_endpoint_side.specs.declared.outcome.GivingUp.TheVariants as why;
 
 use crate::answer_progress::{AnswerProgress, LingeringClose};
@@ -10,6 +11,7 @@ use crate::tries::Tries;
 use bg_both_sides::{BothSides, Given};
 use bg_endpoint_side::GivingUp;
 use bg_forward::Route;
+use bg_tunnel::Tunnel;
 use std::net::{IpAddr, TcpStream};
 
 /// The connection of a client, with its socket.
@@ -26,6 +28,8 @@ pub(crate) struct Client {
     pub(crate) seat: Option<usize>,
     /// The key of the connection to an endpoint that the request has or awaits.
     pub(crate) endpoint: Option<usize>,
+    /// The tunnel that the request became, if it has become one. The connection of `sides` has left then, but not its socket.
+    pub(crate) tunnel: Option<Tunnel>,
     /// The ports that were chosen for the request.
     pub(crate) tries: Option<Tries>,
     /// Whether only a reset tells a response that is cut from a whole one: the client of the request reads no chunks.
@@ -54,6 +58,7 @@ impl Drop for Client {
             sides: _,
             seat: _,
             endpoint: _,
+            tunnel: _,
             tries: _,
             needs_reset: _,
             given: _,
@@ -82,6 +87,7 @@ impl Client {
             sides,
             seat: None,
             endpoint: None,
+            tunnel: None,
             tries: None,
             needs_reset: false,
             given: None,
@@ -117,9 +123,10 @@ impl Client {
         }
     }
 
-    /// Ends the connection at the end of a shutdown. A request that is inside goes on: its own timeouts end it.
+    /// Ends the connection at the end of a shutdown. A request that is inside goes on: its own timeouts end it. A tunnel is ended as
+    /// it is served.
     pub(crate) fn end_by_shutdown(&mut self) {
-        if !self.sides.client().is_inside() {
+        if !self.sides.client().is_inside() && self.tunnel.is_none() {
             self.record.note_dropped();
             self.sides.fail();
         }
@@ -132,7 +139,17 @@ impl Client {
 
     /// Whether it waits for its client, and not for its request.
     pub(crate) fn waits_for_client(&self) -> bool {
-        self.writes() || self.passes_on() || self.sides.client().wants_read()
+        self.writes()
+            || self.passes_on()
+            || self.tunnel.is_some()
+            || self.sides.client().wants_read()
+    }
+
+    /// Whether the connection has left, and its socket is to be closed.
+    pub(crate) fn has_left(&self) -> bool
+        ensures { result ≡ (is_none self.now.tunnel && has_left self.now.sides.client.stage) }
+    {
+        self.tunnel.is_none() && self.sides.client().has_left()
     }
 
     /// Whether its client may take bytes now of a response that is passed on.

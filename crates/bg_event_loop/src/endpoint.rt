@@ -1,9 +1,19 @@
 //! Connections to endpoints.
+ghost use Rattle.bg_event_loop.specs.Upgrades.{TakesBytes};
 
 use crate::readiness::Readiness;
 use crate::sockets::{Input, read, write};
-use bg_both_sides::{BothSides, EndpointStep};
+use bg_both_sides::{BothSides, EndpointStep, Upgraded};
 use std::net::TcpStream;
+
+/// What a step at an endpoint gave.
+#[derive(Drop)]
+pub(crate) enum Progress {
+    /// What it made of the request.
+    Step(EndpointStep),
+    /// The endpoint has accepted an upgrade. Both connections become a tunnel that begins with these bytes.
+    Upgraded(Upgraded),
+}
 
 /// A connection to an endpoint, with its socket.
 #[derive(Drop)]
@@ -32,15 +42,10 @@ impl Endpoint {
     }
 
     /// Writes what is left of the request, or reads its response.
-    pub(crate) fn serve(
-        &mut self,
-        sides: &mut BothSides,
-        piece: &mut [u8],
-        now: u64,
-    ) -> EndpointStep {
+    pub(crate) fn serve(&mut self, sides: &mut BothSides, piece: &mut [u8], now: u64) -> Progress {
         if self.may_write(sides) {
             self.send(sides, now);
-            EndpointStep::GoesOn
+            Progress::Step(EndpointStep::GoesOn)
         } else {
             self.receive(sides, piece, now)
         }
@@ -60,21 +65,31 @@ impl Endpoint {
     }
 
     /// Reads what came of the response.
-    fn receive(&mut self, sides: &mut BothSides, piece: &mut [u8], now: u64) -> EndpointStep {
+    fn receive(&mut self, sides: &mut BothSides, piece: &mut [u8], now: u64) -> Progress {
         if self.ready.end {
             sides.endpoint_is_ending();
         }
         match read(&self.stream, piece) {
             Input::Came(count) => {
                 self.ready.note_read(count, piece.len());
-                sides.receive(&piece[..count.min(piece.len())], now)
+                take_bytes(sides, &piece[..count.min(piece.len())], now)
             }
             Input::Nothing => {
                 self.ready.input = false;
-                EndpointStep::GoesOn
+                Progress::Step(EndpointStep::GoesOn)
             }
-            Input::End => sides.endpoint_ended(now),
-            Input::Failed => sides.endpoint_failed(now),
+            Input::End => Progress::Step(sides.endpoint_ended(now)),
+            Input::Failed => Progress::Step(sides.endpoint_failed(now)),
         }
+    }
+}
+
+/// Gives the request bytes that came from its endpoint. They may be those by which the endpoint accepts an upgrade.
+fn take_bytes(sides: &mut BothSides, bytes: &[u8], now: u64) -> Progress
+    ensures { TakesBytes sides.old bytes.now now result sides.new }
+{
+    match sides.accept_upgrade(bytes, now) {
+        Some(upgraded) => Progress::Upgraded(upgraded),
+        None => Progress::Step(sides.receive(bytes, now)),
     }
 }

@@ -294,7 +294,7 @@ impl<'a, P: EndpointPorts, L: RequestLog> EventLoop<'a, P, L> {
     /// Closes the connection of a client that has left.
     pub(crate) fn remove_if_left(&mut self, key: usize) {
         if let Some(client) = self.clients.get_mut(key)
-            && client.sides.client().has_left()
+            && client.has_left()
         {
             client.end_connection(self.log, self.now);
             self.port.note_unwritten(client.answer.unwritten);

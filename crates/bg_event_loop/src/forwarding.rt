@@ -1,13 +1,14 @@
 //! How the request of a client is forwarded to its endpoint.
-ghost use Rattle.std.specs.Prelude.{◌≡◌};
+ghost use Rattle.std.specs.Prelude.{◌≡◌, is_some};
 
 use crate::client::Client;
+use crate::endpoint::Progress;
 use crate::endpoint_ports::EndpointPorts;
 use crate::endpoints::Endpoints;
 use crate::settings::EndpointSettings;
 use crate::sockets::reset;
 use crate::tries::Tries;
-use bg_both_sides::{Ending, EndpointStep, Given, Route};
+use bg_both_sides::{Ending, EndpointStep, Given, Route, Upgraded};
 use bg_endpoint_side::{DialFault, GivingUp, Health};
 
 /// The number of steps in a row before others have their turn.
@@ -23,17 +24,20 @@ impl<P: EndpointPorts> Endpoints<'_, P> {
           port = port;
           persistence = self.now.settings.persistence;
           timeouts = self.now.settings.timeouts;
+          upgrades = is_some self.now.settings.tunnel_millis;
         } }
     {
         let EndpointSettings {
             persistence,
             timeouts,
+            tunnel_millis,
             ..
         } = self.settings();
         Route {
             port,
             persistence,
             timeouts,
+            upgrades: tunnel_millis.is_some(),
         }
     }
 
@@ -154,9 +158,21 @@ impl<P: EndpointPorts> Endpoints<'_, P> {
             if !self.is_due(client) {
                 return;
             }
-            let step = self.step(client, key, piece, now);
-            self.carry_out(step, client, key, now);
+            match self.step(client, key, piece, now) {
+                Progress::Step(step) => self.carry_out(step, client, key, now),
+                Progress::Upgraded(upgraded) => {
+                    self.begin_tunnel(client, upgraded, now);
+                    return;
+                }
+            }
         }
+    }
+
+    /// Begins the tunnel that the request of a client became.
+    fn begin_tunnel(&self, client: &mut Client, upgraded: Upgraded, now: u64) {
+        // a request asks for an upgrade only with such a time
+        let millis = self.settings().tunnel_millis.unwrap_or(0);
+        client.begin_tunnel(self.alloc, upgraded, millis, now);
     }
 
     /// Whether a step of the request of a client is due that waits for nothing.
@@ -177,23 +193,17 @@ impl<P: EndpointPorts> Endpoints<'_, P> {
     }
 
     /// Writes bytes of a response that is passed on, ends the dial for a request, or writes or reads on its connection.
-    fn step(
-        &mut self,
-        client: &mut Client,
-        key: usize,
-        piece: &mut [u8],
-        now: u64,
-    ) -> EndpointStep {
+    fn step(&mut self, client: &mut Client, key: usize, piece: &mut [u8], now: u64) -> Progress {
         if client.may_pass_on() {
-            return client.pass_on(now);
+            return Progress::Step(client.pass_on(now));
         }
         if !client.sides.has_connection() {
             self.end_dial(client, key, now);
-            return EndpointStep::GoesOn;
+            return Progress::Step(EndpointStep::GoesOn);
         }
         match self.used_by(client) {
             Some(endpoint) => endpoint.serve(&mut client.sides, piece, now),
-            None => client.sides.endpoint_failed(now),
+            None => Progress::Step(client.sides.endpoint_failed(now)),
         }
     }
 

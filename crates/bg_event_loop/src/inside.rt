@@ -67,6 +67,9 @@ impl<'a, P: EndpointPorts, L: RequestLog> EventLoop<'a, P, L> {
         if client.seat.is_none() {
             return None;
         }
+        if client.tunnel.is_some() {
+            return self.serve_tunnel(key, is_given_up);
+        }
         // at the end of a shutdown, what is passed on is cut
         let is_cut = has_come(self.closes_at, self.now) && client.sides.client().is_passing_on();
         let aborts_on_close = self.settings.aborts_on_close;
@@ -76,6 +79,9 @@ impl<'a, P: EndpointPorts, L: RequestLog> EventLoop<'a, P, L> {
             let piece = self.piece.as_mut_slice();
             self.endpoints.forward(client, key, piece, self.now);
             self.endpoints.look(client, key, self.now);
+        }
+        if client.tunnel.is_some() {
+            return self.serve_tunnel(key, is_given_up);
         }
         if client.sides.client().is_inside() {
             if self.endpoints.is_due(client) {

@@ -36,6 +36,8 @@ mod slots;
 mod sockets;
 mod sweeping;
 mod tries;
+mod tunnel_ending;
+mod tunnels;
 mod waiting;
 
 pub use book_ports::BookPorts;
@@ -44,3 +46,4 @@ pub use loops::run_event_loops;
 pub use request_log::{EndedRequest, RequestLine, RequestLog};
 pub use running::{LoopContext, run_event_loop};
 pub use settings::{EndpointSettings, KeptSettings, LoopSettings, OriginSettings};
+pub use tunnel_ending::TunnelEnding;

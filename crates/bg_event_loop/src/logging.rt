@@ -52,6 +52,7 @@ impl Client {
             is_head_sound: self.sides.client().is_refused_head_sound(),
             response_bytes,
             response_millis,
+            tunnel: None,
         };
         self.record.end(log, &end, now);
         fed
@@ -67,6 +68,7 @@ impl Client {
                 is_head_sound: false,
                 response_bytes: 0,
                 response_millis: None,
+                tunnel: None,
             };
             self.record.end(log, &end, now);
         } else if self.record.is_silent() {

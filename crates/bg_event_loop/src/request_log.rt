@@ -1,5 +1,6 @@
 //! Where the ends of requests are logged.
 
+use crate::tunnel_ending::TunnelEnding;
 use bg_forward::Served;
 
 /// The method and the target of a request, as they came.
@@ -23,7 +24,7 @@ pub struct EndedRequest<'a> {
     pub place: u64,
     /// Whether the connection to its endpoint had carried a request before; `None` if there was no connection.
     pub is_reused: Option<bool>,
-    /// The number of bytes that came since the request before it on its connection was over.
+    /// The number of bytes that came since the request before it on its connection was over; those of a tunnel are among them.
     pub request_bytes: u64,
     /// The number of bytes of its answer. They may not be written yet. If writing it failed, the number that was passed on before.
     pub response_bytes: u64,
@@ -31,6 +32,8 @@ pub struct EndedRequest<'a> {
     pub duration_millis: u64,
     /// The time from when it entered to its answer; `None` if it did not enter, or was not answered.
     pub response_millis: Option<u64>,
+    /// How the tunnel ended that the request became; `None` if it became none.
+    pub tunnel: Option<TunnelEnding>,
 }
 
 /// Where the ends of requests are logged. All loops share it.

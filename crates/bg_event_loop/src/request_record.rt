@@ -2,6 +2,7 @@
 
 use crate::outcome::Outcome;
 use crate::request_log::{EndedRequest, RequestLine, RequestLog};
+use crate::tunnel_ending::TunnelEnding;
 use bg_book::Ticket;
 use bg_forward::{Route, Served};
 use bg_http::Request;
@@ -210,6 +211,7 @@ impl RequestRecord {
             response_bytes: ended.response_bytes,
             duration_millis: now.saturating_sub(self.began),
             response_millis: ended.response_millis,
+            tunnel: ended.tunnel,
         });
         self.begin_next(now);
     }
@@ -232,4 +234,6 @@ pub(crate) struct RequestEnd<'a> {
     pub(crate) is_head_sound: bool,
     pub(crate) response_bytes: u64,
     pub(crate) response_millis: Option<u64>,
+    /// How the tunnel ended that the request became.
+    pub(crate) tunnel: Option<TunnelEnding>,
 }

@@ -13,7 +13,7 @@ impl Client {
         let connection = self.sides.client();
         let left = connection.rest().len();
         let written = self.answer.size.saturating_sub(left) as u64;
-        if connection.is_inside() {
+        if connection.is_inside() || self.tunnel.is_some() {
             Activity::Inside
         } else if left > 0 {
             Activity::Answering {

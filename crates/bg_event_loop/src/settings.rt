@@ -27,6 +27,8 @@ pub struct EndpointSettings {
     pub kept_millis: u64,
     /// The limits of responses that are passed on as they come; `None` if a response is passed on once it is whole.
     pub stream: Option<StreamLimits>,
+    /// The time for which a tunnel may be silent; `None` if a request that asks for an upgrade is forwarded as one that does not.
+    pub tunnel_millis: Option<u64>,
 }
 
 /// How long connections are kept for further requests. Times are milliseconds.
@@ -79,13 +81,14 @@ pub struct LoopSettings {
 
 impl LoopSettings {
     /// The usual settings: endpoints are at 127.0.0.1, each connection, of either side, carries one request, a response is passed on
-    /// once it is whole, a request does not tell where it comes from, a refusal has an empty body, and the gate is asked whether requests go on.
+    /// once it is whole, no upgrade is passed on, a request does not tell where it comes from, a refusal has an empty body, and the gate is asked whether requests go on.
     pub fn usual(service: Service) -> LoopSettings
         ensures service { result.service ≡ service }
         ensures clients { keeps result.clients.persistence ≡ false }
         ensures endpoints { keeps result.endpoints.persistence ≡ false }
         ensures address { IsLocalhost result.endpoints.address }
         ensures stream { result.endpoints.stream ≡ None }
+        ensures tunnels { result.endpoints.tunnel_millis ≡ None }
         ensures origin { result.origin ≡ None }
         ensures refusals { result.clients.refusal_body ≡ body.Empty }
         ensures drains { result.limits_drains ≡ true }
@@ -109,6 +112,7 @@ impl LoopSettings {
                 most_kept: 1_024,
                 kept_millis: 60_000,
                 stream: None,
+                tunnel_millis: None,
             },
             origin: None,
             loads: LoadSettings {

@@ -29,13 +29,26 @@ stays fields name h = (
   none_kept (is_named name) (is_removed fields) fields h,
 )
 
--- no field of a single connection is forwarded
-pub stays_of_connection : (fields : List Field) (name : List ℕ) → ((f : Field) → is_named name f ≡ true → is_of_connection f ≡ true) → StaysHere fields name
-stays_of_connection fields name h = stays fields name (λ f e. or_left (is_of_connection f) _ (h f e))
-
 -- names that differ only in case are equal in lower case
 one_name : (a b : List ℕ) → str_eq_ignore_ascii_case a b ≡ true → str_to_ascii_lowercase a ≡ str_to_ascii_lowercase b
 one_name a b e = (bytes_eq-Decides (str_to_ascii_lowercase a) (str_to_ascii_lowercase b)).0 e
+
+-- whether a field is one of a connection depends on its name in lower case alone
+is_of_connection_in : List ℕ → Bool
+is_of_connection_in low =
+    bytes_eq low (str_to_ascii_lowercase (codes "connection")) || bytes_eq low (str_to_ascii_lowercase (codes "keep-alive"))
+    || bytes_eq low (str_to_ascii_lowercase (codes "proxy-connection")) || bytes_eq low (str_to_ascii_lowercase (codes "te"))
+    || bytes_eq low (str_to_ascii_lowercase (codes "transfer-encoding")) || bytes_eq low (str_to_ascii_lowercase (codes "upgrade"))
+    || bytes_eq low (str_to_ascii_lowercase (codes "trailer")) || bytes_eq low (str_to_ascii_lowercase (codes "content-length"))
+
+same_of_connection : (f g : Field) → is_named f.0 g ≡ true → is_of_connection g ≡ is_of_connection f
+unfolding is_of_connection_in
+same_of_connection f g e = ap is_of_connection_in (one_name g.0 f.0 e)
+
+-- no field of the name of a field of one connection is forwarded
+pub stays_of_connection : (fields : List Field) (field : Field) → is_of_connection field ≡ true → StaysHere fields field.0
+stays_of_connection fields field h =
+    stays fields field.0 (λ f e. or_left (is_of_connection f) _ (same_of_connection field f e ∙ h))
 
 -- a field that Connection names is removed unless it is Host
 pub removed_where_named : (fields : List Field) (name : List ℕ) (f : Field) → is_named_by_connection fields name ≡ true → str_eq_ignore_ascii_case name (codes "host") ≡ false

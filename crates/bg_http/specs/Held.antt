@@ -1,4 +1,4 @@
--- The state of the code while it goes over fields. Only private functions cite it.
+-- The state of the code while it goes over fields. Callers of the crate see `elements_left` only.
 use Rattle.std.specs.Prelude.{◌≡◌, ℕ, ◌+◌, min, false, if◌then◌else◌, List, [], ◌∷◌, ◌++◌, Option, Some, None}
 use Rattle.std.specs.Borrow.{Bor}
 use Rattle.bg_http.specs.Elements.{elements, elements_named}

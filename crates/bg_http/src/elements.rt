@@ -9,7 +9,7 @@ use crate::fields::{FieldIter, Fields};
 use crate::names::RuledName;
 
 /// Whether both are the same name, compared without case (RFC 9110 section 5.1).
-pub(crate) fn is_same_name(one: &[u8], other: &[u8]) -> bool
+pub fn is_same_name(one: &[u8], other: &[u8]) -> bool
     ensures { result ≡ str_eq_ignore_ascii_case one.now other.now }
 {
     one.eq_ignore_ascii_case(other)
@@ -71,9 +71,9 @@ fn first_element(value: &[u8]) -> (&[u8], Option<&[u8]>)
     }
 }
 
-/// The elements of all fields that have a name, in order.
+/// The elements of all fields that have a name, in order. Contracts see it as `elements_left`, those that are still to come.
 #[derive(Drop)]
-pub(crate) struct Elements<'a> {
+pub struct Elements<'a> {
     /// The remaining value of the current field.
     value: Option<&'a [u8]>,
     /// The remaining fields.
@@ -81,8 +81,9 @@ pub(crate) struct Elements<'a> {
     name: RuledName,
 }
 
-/// The elements of all fields that have the name, in order.
-pub(crate) fn elements_named(fields: &Fields, name: RuledName) -> Elements<'_>
+/// The elements of all fields that have the name, in order, without the blanks at their ends (RFC 9110 section 5.6.1). An element
+/// may be empty.
+pub fn elements_named(fields: &Fields, name: RuledName) -> Elements<'_>
     ensures { elements_left result ≡ elements_of (spelled name) fields.now }
 {
     Elements {

@@ -51,7 +51,7 @@ impl<'a> Field<'a> {
     }
 
     /// Whether the field has the name, in any case of its letters.
-    pub(crate) fn is(&self, name: RuledName) -> bool
+    pub fn is(&self, name: RuledName) -> bool
         ensures { result ≡ is_named (spelled name) self.now }
     {
         match self.ruled {

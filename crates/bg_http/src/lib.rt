@@ -32,10 +32,12 @@ mod writers;
 
 pub use body_end::BodyEnd;
 pub use bytes::Bytes;
+pub use elements::{Elements, elements_named, is_same_name};
 pub use error_page::{ErrorPage, page_for, write_error_page};
 pub use field::Field;
 pub use fields::{FieldIter, Fields};
 pub use memory_stream::MemoryStream;
+pub use names::RuledName;
 pub use persistence::Persistence;
 pub use refusal::{RefusalBody, RefusalPage, write_refusal_with};
 pub use removed::{is_forwarded, says_close};

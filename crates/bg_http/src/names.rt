@@ -4,17 +4,26 @@ ghost use Rattle.bg_http.specs.Names.{IsRuledAs, spelled};
 
 use http_header::HeaderName;
 
-/// A standard field name that a rule uses.
+/// A standard field name that a rule uses. Two names are the same in any case of their letters (RFC 9110 section 5.1).
 #[derive(Clone, Copy, PartialEq, Eq, Debug, Drop)]
-pub(crate) enum RuledName {
+pub enum RuledName {
+    /// `Accept`.
     Accept,
+    /// `Connection`.
     Connection,
+    /// `Content-Length`.
     ContentLength,
+    /// `Expect`.
     Expect,
+    /// `Host`.
     Host,
+    /// `TE`.
     Te,
+    /// `Trailer`.
     Trailer,
+    /// `Transfer-Encoding`.
     TransferEncoding,
+    /// `Upgrade`.
     Upgrade,
 }
 

@@ -25,7 +25,8 @@ use Rattle.bg_http_read.specs.ForwardedRequests.{closing_fields}
 use Rattle.bg_http_read.specs.Heads.{response_parts}
 use Rattle.bg_http_read.specs.Responses.{most_response_body}
 use Rattle.bg_http_read.specs.WrittenHeads.{end_fields, written_fields, written_head}
-use Rattle.bg_http_read.proofs.FieldTexts.{IsGood, as_field, good_closing, good_length, good_text, goods_are_fields, goods_are_read, lines_are, nothing_good, one_good}
+use Rattle.bg_http_read.specs.PlainHeads.{IsPlainField}
+use Rattle.bg_http_read.proofs.FieldTexts.{as_field, good_closing, good_length, good_text, goods_are_fields, goods_are_read, lines_are, nothing_good, one_good}
 use Rattle.bg_http_read.proofs.ForwardedHeads.{end_is}
 
 -- the length is a number
@@ -43,7 +44,7 @@ pub record IsWritable (request : Request) (response : Response) : Type 0 where
   pub digits : (length (decimal response.code) ≡ 3) × AllPass is_ascii_digit (decimal response.code)
   pub value : digits_value 10 (decimal response.code) ≡ response.code
   pub reason : AllPass is_value_byte response.reason
-  pub fields : All IsGood response.fields
+  pub fields : All IsPlainField response.fields
   pub sound : is_bad_code response.code ≡ false
   pub final : is_interim response.code ≡ false
   pub number : IsNumber response.length
@@ -59,7 +60,7 @@ pub record IsHeadWritable (response : Response) : Type 0 where
   pub digits : (length (decimal response.code) ≡ 3) × AllPass is_ascii_digit (decimal response.code)
   pub value : digits_value 10 (decimal response.code) ≡ response.code
   pub reason : AllPass is_value_byte response.reason
-  pub fields : All IsGood response.fields
+  pub fields : All IsPlainField response.fields
   pub number : IsNumber response.length
 
 head_of : (request : Request) (response : Response) → IsWritable request response → IsHeadWritable response
@@ -74,11 +75,11 @@ head_of request response w = record {
 abbrev pub fields_of : Bool → Response → List Field
 fields_of keeps response = written_fields keeps ends.Length response
 
-good_given : (given : Option (List ℕ)) → IsNumber given → All IsGood (length_fields given)
+good_given : (given : Option (List ℕ)) → IsNumber given → All IsPlainField (length_fields given)
 good_given None h = nothing_good
 good_given (Some digits) h = one_good (codes "Content-Length", digits) (good_length digits h.1)
 
-good_end : (named : BodyEnd) (given : Option (List ℕ)) → IsNumber given → All IsGood (end_fields named given)
+good_end : (named : BodyEnd) (given : Option (List ℕ)) → IsNumber given → All IsPlainField (end_fields named given)
 unfolding is_token_byte
 good_end ends.Length given h = good_given given h
 good_end ends.Chunks given h =
@@ -86,11 +87,11 @@ good_end ends.Chunks given h =
     (good_text (codes "Transfer-Encoding") (codes "chunked") (omega arith) refl refl refl refl)
 
 good_fields : (keeps : Bool) (named : BodyEnd) (response : Response) → IsHeadWritable response
-    → All IsGood (written_fields keeps named response)
+    → All IsPlainField (written_fields keeps named response)
 good_fields keeps named response w =
-    All-append IsGood (kept_in_response response.fields) _
-    (All-filter (λ field. not (is_removed response.fields field)) IsGood response.fields w.fields)
-    (All-append IsGood (end_fields named response.length) _ (good_end named response.length w.number) (good_closing keeps))
+    All-append IsPlainField (kept_in_response response.fields) _
+    (All-filter (λ field. not (is_removed response.fields field)) IsPlainField response.fields w.fields)
+    (All-append IsPlainField (end_fields named response.length) _ (good_end named response.length w.number) (good_closing keeps))
 
 given_is : (given : Option (List ℕ)) → flat_map field_line (length_fields given) ≡ length_line given
 given_is None = refl

@@ -18,6 +18,7 @@ use Rattle.httparse.proofs.TrimLemmas.{AllPass-reverse, AllPass-trim_ows, trim_o
 use Rattle.bg_http.specs.Elements.{Field}
 use Rattle.bg_http.specs.Texts.{field_line}
 use Rattle.bg_http_read.specs.ForwardedRequests.{closing_fields}
+use Rattle.bg_http_read.specs.PlainHeads.{IsPlainField}
 
 -- a field's line as a tree
 abbrev pub as_field : Field → grammar.Field
@@ -30,30 +31,23 @@ pub lines_are : (fs : List Field) → flat_map print_field (map as_field fs) ≡
 lines_are [] = refl
 lines_are (f ∷ fs) = ap₂ (λ a b. a ++ b) (one_line_is f) (lines_are fs)
 
--- a field that is read as it is written behind a colon and a space
-pub record IsGood (f : Field) : Type 0 where
-  pub name : IsToken f.0
-  pub value : AllPass is_value_byte f.1
-  pub front : skip_ows f.1 ≡ f.1
-  pub back : skip_ows (reverse f.1) ≡ reverse f.1
-
-pub good_is_field : (f : Field) → IsGood f → IsField (as_field f)
+pub good_is_field : (f : Field) → IsPlainField f → IsField (as_field f)
 good_is_field f h = record {
   name = h.name;
   raw = All-cons (λ b. IsTrue (is_value_byte b)) space f.1 refl h.value;
 }
 
-pub good_is_read : (f : Field) → IsGood f → name_and_value (as_field f) ≡ f
+pub good_is_read : (f : Field) → IsPlainField f → name_and_value (as_field f) ≡ f
 good_is_read f h = ap (λ v. (f.0, v)) (trim_ows_space f.1 h.front h.back)
 
-pub goods_are_fields : (fs : List Field) → All IsGood fs → All IsField (map as_field fs)
+pub goods_are_fields : (fs : List Field) → All IsPlainField fs → All IsField (map as_field fs)
 goods_are_fields fs h =
     All-map IsField as_field fs (λ k d inside. good_is_field _ (h k d inside))
 
-pub goods_are_read : (fs : List Field) → All IsGood fs → map name_and_value (map as_field fs) ≡ fs
+pub goods_are_read : (fs : List Field) → All IsPlainField fs → map name_and_value (map as_field fs) ≡ fs
 goods_are_read [] h = refl
 goods_are_read (f ∷ fs) h =
-    ap₂ (λ x xs. x ∷ xs) (good_is_read f (All-head IsGood f fs h)) (goods_are_read fs (All-tail IsGood f fs h))
+    ap₂ (λ x xs. x ∷ xs) (good_is_read f (All-head IsPlainField f fs h)) (goods_are_read fs (All-tail IsPlainField f fs h))
 
 -- what has no white space at its front stays as it is
 skip_twice : (v : List ℕ) → skip_ows (skip_ows v) ≡ skip_ows v
@@ -113,7 +107,7 @@ trimmed_back v =
     subst (λ l. skip_ows l ≡ l) (sym (reverse-reverse b)) (skip_twice (reverse (skip_ows v)))
 
 -- a field that was read is good
-pub read_is_good : (t : grammar.Field) → IsField t → IsGood (name_and_value t)
+pub read_is_good : (t : grammar.Field) → IsField t → IsPlainField (name_and_value t)
 read_is_good t h = record {
   name = h.name;
   value = AllPass-trim_ows is_value_byte t.raw h.raw;
@@ -121,8 +115,8 @@ read_is_good t h = record {
   back = trimmed_back t.raw;
 }
 
-pub reads_are_good : (ts : List grammar.Field) → All IsField ts → All IsGood (map name_and_value ts)
-reads_are_good ts h = All-map IsGood name_and_value ts (λ k d inside. read_is_good _ (h k d inside))
+pub reads_are_good : (ts : List grammar.Field) → All IsField ts → All IsPlainField (map name_and_value ts)
+reads_are_good ts h = All-map IsPlainField name_and_value ts (λ k d inside. read_is_good _ (h k d inside))
 
 -- bytes without white space
 abbrev pub no_ows : ℕ → Bool
@@ -137,7 +131,7 @@ unskipped (b ∷ v) h = by_test (is_ows b) refl (All-head (λ x. IsTrue (no_ows 
     by_test false e h = rw e refl
 
 -- a value without white space
-solid : (name v : List ℕ) → IsToken name → AllPass is_value_byte v → AllPass no_ows v → IsGood (name, v)
+pub solid : (name v : List ℕ) → IsToken name → AllPass is_value_byte v → AllPass no_ows v → IsPlainField (name, v)
 solid name v token value h = record {
   name = token;
   value = value;
@@ -171,20 +165,20 @@ token name some all = (some, AllPass-from_list_all is_token_byte name all)
 -- a value of visible bytes and digits
 pub good_number : (name front digits : List ℕ) → 0 < length name → list_all is_token_byte name ≡ true
     → list_all is_value_byte front ≡ true → list_all no_ows front ≡ true → AllDigits 10 digits
-    → IsGood (name, front ++ digits)
+    → IsPlainField (name, front ++ digits)
 good_number name front digits some all values solids numbers =
     solid name (front ++ digits) (token name some all)
     (All-append (λ b. IsTrue (is_value_byte b)) front digits (AllPass-from_list_all is_value_byte front values) (digits_are_values digits numbers))
     (All-append (λ b. IsTrue (no_ows b)) front digits (AllPass-from_list_all no_ows front solids) (digits_are_solid digits numbers))
 
-pub good_length : (digits : List ℕ) → AllDigits 10 digits → IsGood (codes "Content-Length", digits)
+pub good_length : (digits : List ℕ) → AllDigits 10 digits → IsPlainField (codes "Content-Length", digits)
 unfolding is_token_byte
 good_length digits numbers = good_number (codes "Content-Length") [] digits (omega arith) refl refl refl numbers
 
 -- a value of visible bytes and spaces
 pub good_text : (name value : List ℕ) → 0 < length name → list_all is_token_byte name ≡ true
     → list_all is_value_byte value ≡ true → skip_ows value ≡ value → skip_ows (reverse value) ≡ reverse value
-    → IsGood (name, value)
+    → IsPlainField (name, value)
 good_text name value some all values front back = record {
   name = token name some all;
   value = AllPass-from_list_all is_value_byte value values;
@@ -192,13 +186,13 @@ good_text name value some all values front back = record {
   back = back;
 }
 
-pub nothing_good : All IsGood []
+pub nothing_good : All IsPlainField []
 nothing_good = λ k d inside. absurd (omega (arith, inside))
 
-pub one_good : (f : Field) → IsGood f → All IsGood (f ∷ [])
-one_good f h = All-cons IsGood f [] h nothing_good
+pub one_good : (f : Field) → IsPlainField f → All IsPlainField (f ∷ [])
+one_good f h = All-cons IsPlainField f [] h nothing_good
 
-pub good_closing : (keeps : Bool) → All IsGood (closing_fields keeps)
+pub good_closing : (keeps : Bool) → All IsPlainField (closing_fields keeps)
 unfolding is_token_byte
 good_closing true = nothing_good
 good_closing false =

@@ -18,51 +18,52 @@ use Rattle.bg_http_read.specs.AnySize.{head_of}
 use Rattle.bg_http_read.specs.ForwardedRequests.{closing_fields, forwarded, forwarded_fields, host_fields, size_fields, via_field}
 use Rattle.bg_http_read.specs.Heads.{request_parts}
 use Rattle.bg_http_read.specs.Requests.{ReadsRequest}
-use Rattle.bg_http_read.proofs.FieldTexts.{IsGood, as_field, decimal_digits, good_closing, good_length, good_number, good_text, goods_are_fields, goods_are_read, lines_are, nothing_good, one_good, reads_are_good}
+use Rattle.bg_http_read.specs.PlainHeads.{IsPlainField}
+use Rattle.bg_http_read.proofs.FieldTexts.{as_field, decimal_digits, good_closing, good_length, good_number, good_text, goods_are_fields, goods_are_read, lines_are, nothing_good, one_good, reads_are_good}
 
 -- ---- the fields that are forwarded
 
-good_hosts : (request : Request) (port : ℕ) → port < 2 ^ 16 → All IsGood (host_fields request port)
+good_hosts : (request : Request) (port : ℕ) → port < 2 ^ 16 → All IsPlainField (host_fields request port)
 unfolding is_token_byte
 good_hosts request port small = by_test ((request.minor == 0) && not (has_field (codes "host") request.fields))
   where
-    by_test : (t : Bool) → All IsGood (if t then (codes "Host", codes "127.0.0.1:" ++ decimal port) ∷ [] else [])
+    by_test : (t : Bool) → All IsPlainField (if t then (codes "Host", codes "127.0.0.1:" ++ decimal port) ∷ [] else [])
     by_test true =
         one_good (codes "Host", codes "127.0.0.1:" ++ decimal port)
         (good_number (codes "Host") (codes "127.0.0.1:") (decimal port) (omega arith) refl refl refl
         (decimal_digits port (omega (arith, small))))
     by_test false = nothing_good
 
-good_via : (request : Request) → IsGood (via_field request)
+pub good_via : (request : Request) → IsPlainField (via_field request)
 unfolding is_token_byte
 good_via request = by_test (request.minor == 0)
   where
-    by_test : (t : Bool) → IsGood (if t then (codes "Via", codes "1.0 bg-switch") else (codes "Via", codes "1.1 bg-switch"))
+    by_test : (t : Bool) → IsPlainField (if t then (codes "Via", codes "1.0 bg-switch") else (codes "Via", codes "1.1 bg-switch"))
     by_test true = good_text (codes "Via") (codes "1.0 bg-switch") (omega arith) refl refl refl refl
     by_test false = good_text (codes "Via") (codes "1.1 bg-switch") (omega arith) refl refl refl refl
 
-good_sizes : (body : Option (List ℕ)) → length (bytes_of body) < 2 ^ 64 → All IsGood (size_fields body)
+good_sizes : (body : Option (List ℕ)) → length (bytes_of body) < 2 ^ 64 → All IsPlainField (size_fields body)
 good_sizes None fits = nothing_good
 good_sizes (Some body) fits =
     one_good (codes "Content-Length", decimal (length body))
     (good_length (decimal (length body)) (decimal_digits (length body) fits))
 
 good_kept : (input rest : List ℕ) (request : Request) → ReadsRequest input request rest
-    → All IsGood (kept_in_request request.fields)
+    → All IsPlainField (kept_in_request request.fields)
 good_kept input rest request r =
     let fields : request.fields ≡ map name_and_value r.begins.reads.tree.fields =
     r.fields_are ∙ ap (λ h. h.fields) r.begins.reads.head_is in
-    All-filter (λ field. not (is_removed_from_request request.fields field)) IsGood request.fields
-    (subst (All IsGood) (sym fields) (reads_are_good r.begins.reads.tree.fields r.begins.reads.reads.0.fields))
+    All-filter (λ field. not (is_removed_from_request request.fields field)) IsPlainField request.fields
+    (subst (All IsPlainField) (sym fields) (reads_are_good r.begins.reads.tree.fields r.begins.reads.reads.0.fields))
 
 good_fields : (keeps : Bool) (input rest : List ℕ) (request : Request) (port : ℕ)
     → ReadsRequest input request rest → port < 2 ^ 16 → length (bytes_of request.body) < 2 ^ 64
-    → All IsGood (forwarded_fields keeps request port)
+    → All IsPlainField (forwarded_fields keeps request port)
 good_fields keeps input rest request port r small fits =
-    All-append IsGood (host_fields request port) _ (good_hosts request port small)
-    (All-append IsGood (kept_in_request request.fields) _ (good_kept input rest request r)
-    (All-cons IsGood (via_field request) _ (good_via request)
-    (All-append IsGood (size_fields request.body) _ (good_sizes request.body fits)
+    All-append IsPlainField (host_fields request port) _ (good_hosts request port small)
+    (All-append IsPlainField (kept_in_request request.fields) _ (good_kept input rest request r)
+    (All-cons IsPlainField (via_field request) _ (good_via request)
+    (All-append IsPlainField (size_fields request.body) _ (good_sizes request.body fits)
     (good_closing keeps))))
 
 -- ---- their text

@@ -36,6 +36,7 @@ pub mod OneResponseFault
 pub mod OneSequence
 pub mod OtherLimits
 pub mod Pieces
+pub mod PlainHeads
 pub mod RefusedHeads
 pub mod RequestOrFault
 pub mod RequestPieces

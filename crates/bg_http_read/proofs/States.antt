@@ -32,11 +32,11 @@ request_as_it_was state =
     same_request (state.seen ++ []) state.seen state.asked state.asked state.is_open state.is_open
     state.refused state.refused (append-nil state.seen) refl refl refl
 
-abbrev pub stream_state : List ℕ → Bool → Bool → Option RefusedHead → StreamState
-stream_state since asked is_open refused =
-    record { since = since; asked = asked; is_open = is_open; refused = refused }
+abbrev pub stream_state : List ℕ → Bool → Bool → Bool → Option RefusedHead → StreamState
+stream_state since waits asked is_open refused =
+    record { since = since; waits = waits; asked = asked; is_open = is_open; refused = refused }
 
-pub same_stream : (since all : List ℕ) (asked owed is_open was : Bool) (head refused : Option RefusedHead)
+pub same_stream : (since all : List ℕ) (waits asked owed is_open was : Bool) (head refused : Option RefusedHead)
     → since ≡ all → asked ≡ owed → is_open ≡ was → head ≡ refused
-    → stream_state since asked is_open head ≡ stream_state all owed was refused
-same_stream since all asked owed is_open was head refused h k e r = cc
+    → stream_state since waits asked is_open head ≡ stream_state all waits owed was refused
+same_stream since all waits asked owed is_open was head refused h k e r = cc

@@ -17,11 +17,12 @@ use Rattle.bg_http.specs.declared.request.Request.{Request}
 use Rattle.bg_http_read.specs.AnsweredRequests.{page_refusal}
 use Rattle.bg_http_read.specs.Responses.{most_response_body}
 use Rattle.bg_http_read.proofs.AnsweredHeads.{IsWritable}
-use Rattle.bg_http_read.proofs.FieldTexts.{IsGood, good_text, one_good}
+use Rattle.bg_http_read.specs.PlainHeads.{IsPlainField}
+use Rattle.bg_http_read.proofs.FieldTexts.{good_text, one_good}
 use Rattle.bg_http_read.proofs.WrittenResponses.{by_status, refusal_is_writable}
 
 -- the media type is a field's value
-good_type : (kind : ErrorPage) → IsGood (codes "Content-Type", media_type kind)
+good_type : (kind : ErrorPage) → IsPlainField (codes "Content-Type", media_type kind)
 unfolding is_token_byte
 good_type page.Text =
     good_text (codes "Content-Type") (codes "text/plain; charset=utf-8") (omega arith) refl refl refl refl

@@ -31,7 +31,8 @@ use Rattle.bg_http_read.specs.WrittenHeads.{HasHeadOf, IsLengthOf}
 use Rattle.bg_http_read.proofs.AnsweredHeads.{IsHeadWritable, IsNumber, IsTold, IsWritable}
 use Rattle.bg_http_read.proofs.AnsweredRules.{framing_behind, framing_behind_within}
 use Rattle.bg_http_read.proofs.DecimalTexts.{decimal_has_digits}
-use Rattle.bg_http_read.proofs.FieldTexts.{IsGood, nothing_good, reads_are_good}
+use Rattle.bg_http_read.specs.PlainHeads.{IsPlainField}
+use Rattle.bg_http_read.proofs.FieldTexts.{nothing_good, reads_are_good}
 
 -- ---- digits
 
@@ -44,13 +45,13 @@ digits_in (c ∷ ds) h =
     let parts = and_parts (is_ascii_digit c) (list_all is_ascii_digit ds) h in
     (digit_is_small c parts.0, digits_in ds parts.1)
 
-passed_digits : (ds : List ℕ) → AllPass is_ascii_digit ds → AllDigits 10 ds
+pub passed_digits : (ds : List ℕ) → AllPass is_ascii_digit ds → AllDigits 10 ds
 passed_digits [] h = tt
 passed_digits (c ∷ ds) h =
     (digit_is_small c (All-head (λ b. IsTrue (is_ascii_digit b)) c ds h), passed_digits ds (All-tail (λ b. IsTrue (is_ascii_digit b)) c ds h))
 
 -- three digits of a number of at least 200 are what is written for it
-three_digits : (ds : List ℕ) → length ds ≡ 3 → AllDigits 10 ds → 200 ≤ digits_value 10 ds
+pub three_digits : (ds : List ℕ) → length ds ≡ 3 → AllDigits 10 ds → 100 ≤ digits_value 10 ds
     → decimal (digits_value 10 ds) ≡ ds
 three_digits [] e d high = absurd (omega (arith, e))
 three_digits (a ∷ []) e d high = absurd (omega (arith, e))
@@ -207,7 +208,7 @@ came_is_writable request response h number = record {
   digits = subst (λ d. (length d ≡ 3) × AllPass is_ascii_digit d) (sym same) reads.reads.0.digits;
   value = ap (digits_value 10) same ∙ sym code;
   reason = subst (AllPass is_value_byte) (sym (h.reason_is ∙ ap (λ t. t.reason) reads.head_is)) reads.reads.0.reason;
-  fields = subst (All IsGood) (sym (h.fields_are ∙ ap (λ t. t.fields) reads.head_is)) (reads_are_good reads.tree.fields reads.reads.0.fields);
+  fields = subst (All IsPlainField) (sym (h.fields_are ∙ ap (λ t. t.fields) reads.head_is)) (reads_are_good reads.tree.fields reads.reads.0.fields);
   number = number;
 }
   where
@@ -230,7 +231,7 @@ came_is_writable request response h number = record {
     same : decimal response.code ≡ reads.tree.digits
     same =
         ap decimal code
-        ∙ three_digits reads.tree.digits reads.reads.0.digits.0 (passed_digits reads.tree.digits reads.reads.0.digits.1) high
+        ∙ three_digits reads.tree.digits reads.reads.0.digits.0 (passed_digits reads.tree.digits reads.reads.0.digits.1) (omega (arith, high))
 
 -- the length that is told is a number
 none_or : (given other : Option (List ℕ)) → (given ≡ None) ⊎ (given ≡ other) → IsNumber other → IsNumber given
@@ -343,7 +344,7 @@ refusal_with request status text three digits value reason sound final content =
         grind (arith, nat_tests)
 
     same : decimal status ≡ text
-    same = ap decimal (sym value) ∙ three_digits text three (digits_in text digits) high
+    same = ap decimal (sym value) ∙ three_digits text three (digits_in text digits) (omega (arith, high))
 
 -- what holds of each status of a refusal
 pub by_status : (P : ℕ → Type 0) → P 400 → P 413 → P 431 → P 501 → P 502 → P 503 → (status : ℕ)

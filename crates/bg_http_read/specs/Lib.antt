@@ -11,6 +11,7 @@ pub mod HeadFaults
 pub mod Heads
 pub mod Laws
 pub mod MessageFaults
+pub mod PlainHeads
 pub mod RefusedHeads
 pub mod RequestPieces
 pub mod RequestStates

@@ -1,17 +1,22 @@
 //! The laws of reading, for every input: of the faults, of the ends of messages, and of the messages
 //! of a connection.
 ghost use Rattle.std.specs.Prelude.{Bool, List, ℕ, [], ◌++◌};
+ghost use Rattle.bg_http.specs.Elements.{Field};
 ghost use Rattle.bg_http.specs.declared.body_end.BodyEnd.{BodyEnd};
 ghost use Rattle.bg_http.specs.declared.request.Request.{Request};
+ghost use Rattle.bg_http.specs.declared.request.RequestHead.{RequestHead};
 ghost use Rattle.bg_http.specs.declared.request_fault.RequestFault.{RequestFault};
 ghost use Rattle.bg_http.specs.declared.response.Response.{Response};
 ghost use Rattle.bg_http.specs.declared.response.ResponseHead.{ResponseHead};
 ghost use Rattle.bg_http.specs.declared.response_fault.ResponseFault.{ResponseFault};
 ghost use Rattle.bg_http.specs.declared.response_rules.ResponseFraming.{ResponseFraming};
 ghost use Rattle.bg_http_read.specs.AnsweredRequests.{Answering, AreReadAsAnswered};
-ghost use Rattle.bg_http_read.specs.ForwardedRequests.{AreReadAsForwarded, Forwarding};
+ghost use Rattle.bg_http_read.specs.ForwardedRequests.{AreReadAsForwarded, Forwarding, via_field};
 ghost use Rattle.bg_http_read.specs.Laws.{HasOneFault, HasOneResponseFault, StaysAtFault};
 ghost use Rattle.bg_http_read.specs.Laws.{RequestExcludesFaults, ResponseExcludesFaults};
+ghost use Rattle.bg_http_read.specs.PlainHeads.{HasOneHead, HasPlainRequestFields, HasPlainResponseFields};
+ghost use Rattle.bg_http_read.specs.PlainHeads.{IsPlainField, IsPlainOfWords, IsReadWithFields, IsResponseReadWithFields};
+ghost use Rattle.bg_http_read.specs.PlainHeads.{NeverHasHeadAt};
 ghost use Rattle.bg_http_read.specs.RequestStates.{FailsAsked};
 ghost use Rattle.bg_http_read.specs.Requests.{ReadsRequest, RequestFails};
 ghost use Rattle.bg_http_read.specs.ResponseHeads.{AreHeadsAlso};
@@ -55,6 +60,41 @@ pub fn a_response_has_no_fault()
 pub fn a_response_has_one_fault()
     ensures { (request : Request) (input : List ℕ) (one other : ResponseFault)
         → HasOneResponseFault request input one other }
+{}
+
+/// An input begins with at most one head of a response, whatever follows: a head that is complete is the head of each continuation,
+/// and what is left behind it is what was left, and then what follows. An input whose head is malformed or too large begins with no
+/// head, whatever follows.
+pub fn an_input_has_one_head()
+    ensures one { (input more : List ℕ) (head other : ResponseHead) (rest left : List ℕ)
+        → HasOneHead input more head other rest left }
+    ensures none { (input more : List ℕ) (fault : ResponseFault) (head : ResponseHead) (rest : List ℕ)
+        → NeverHasHeadAt input more fault head rest }
+{}
+
+/// The fields of each head that is read are plain (`IsPlainField`), whatever the white space around their values was.
+pub fn a_head_has_plain_fields()
+    ensures requests { (input : List ℕ) (head : RequestHead) (rest : List ℕ)
+        → HasPlainRequestFields input head rest }
+    ensures responses { (input : List ℕ) (head : ResponseHead) (rest : List ℕ)
+        → HasPlainResponseFields input head rest }
+{}
+
+/// The fields that are written here are plain: the Via of a request that is forwarded, and each field whose name and value are
+/// letters and digits.
+pub fn written_fields_are_plain()
+    ensures via { (request : Request) → IsPlainField (via_field request) }
+    ensures words { (name value : List ℕ) → IsPlainOfWords name value }
+{}
+
+/// A head that was read, and is written in version 1.1 with any plain fields in place of its own, is read as it is written, whatever
+/// follows: as exactly this head, and as no other, and then what follows. The code of a response is at least 100, since it is
+/// written without zeros at its front.
+pub fn a_head_with_plain_fields_is_read_as_it_is_written()
+    ensures requests { (input : List ℕ) (head : RequestHead) (rest : List ℕ) (fields : List Field) (more : List ℕ)
+        → IsReadWithFields input head rest fields more }
+    ensures responses { (input : List ℕ) (head : ResponseHead) (rest : List ℕ) (fields : List Field) (more : List ℕ)
+        → IsResponseReadWithFields input head rest fields more }
 {}
 
 /// An input begins with at most one request, and the request has one end.

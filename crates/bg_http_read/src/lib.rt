@@ -47,6 +47,7 @@ pub use request_parser::RequestParser;
 pub use request_read::read_request;
 pub use request_step::RequestStep;
 pub use request_stream::RequestStream;
+pub use response_head::find_response_head;
 pub use response_parser::ResponseParser;
 pub use response_read::read_response;
 pub use seen::Seen;

@@ -1,5 +1,5 @@
 //! The progress of reading a request, with the bytes that wait.
-ghost use Rattle.std.specs.Prelude.{◌≡◌, ◌++◌, [], Bool, false, List, ℕ, IfErr, IfOk, IsFalse, None};
+ghost use Rattle.std.specs.Prelude.{◌≡◌, ◌++◌, [], Bool, false, true, List, ℕ, IfErr, IfOk, IsFalse, None};
 ghost use Rattle.std.specs.Io.KnownBytes.{Keeps};
 ghost use Rattle.std.specs.Option.{option_copied, option_map};
 ghost use Rattle.bg_http.specs.Codings.{is_empty};
@@ -7,7 +7,7 @@ ghost use Rattle.bg_http.specs.declared.request_fault.RequestFault.TheVariants a
 ghost use Rattle.bg_http_read.specs.RefusedHeads.{TellsHead, is_sound_head};
 ghost use Rattle.bg_http_read.specs.RequestStates.{IfWhole, is_of_stream};
 ghost use Rattle.bg_http_read.specs.RequestsFed.{EndsTo, FedTo, IsFed, IsFedStage, IsOpenStage};
-ghost use Rattle.bg_http_read.specs.RequestsFed.{IsSeen, IsShort, known_head, was_asked};
+ghost use Rattle.bg_http_read.specs.RequestsFed.{IsSeen, IsShort, is_head, known_head, was_asked};
 ghost use Rattle.bg_http_read.specs.Streams.{SeesStraight, waiting};
 
 use crate::arrival::Straight;
@@ -34,6 +34,7 @@ impl RequestFeed {
         ensures fed { IsFed result [] }
         ensures short { IsShort result }
         ensures asked { was_asked result.progress.stage ≡ false }
+        ensures head { is_head result.progress.stage ≡ true }
     {
         RequestFeed {
             intake: Intake::new(alloc),
@@ -90,6 +91,7 @@ impl RequestFeed {
         ensures fed { IsFed self.new (waiting self.new.intake) }
         ensures waits { waiting self.new.intake ≡ waiting self.old.intake }
         ensures asked { was_asked self.new.progress.stage ≡ false }
+        ensures head { is_head self.new.progress.stage ≡ true }
     {
         self.progress.begin_with(self.intake.get());
     }

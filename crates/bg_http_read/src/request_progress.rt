@@ -61,6 +61,7 @@ impl RequestProgress {
         ensures at { IsAt result.stage [] [] }
         ensures lacks { LacksHead result.stage [] }
         ensures asked { was_asked result.stage ≡ false }
+        ensures head { is_head result.stage ≡ true }
     {
         RequestProgress {
             alloc,
@@ -72,6 +73,7 @@ impl RequestProgress {
     pub(crate) fn begin_with(&mut self, waiting: &[u8])
         ensures at { IsAt self.new.stage waiting.now waiting.now }
         ensures asked { was_asked self.new.stage ≡ false }
+        ensures head { is_head self.new.stage ≡ true }
     {
         self.stage = RequestStage::Head(HeadEnd::of(waiting));
     }

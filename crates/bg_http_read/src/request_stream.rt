@@ -39,13 +39,14 @@ impl Drop for RequestStream {
 
 impl Model for RequestStream {
     ghost use Rattle.std.specs.Prelude.{IsTrue};
-    ghost use Rattle.bg_http_read.specs.RequestsFed.{IsFed, head_after, was_asked};
+    ghost use Rattle.bg_http_read.specs.RequestsFed.{IsFed, head_after, is_head, was_asked};
     ghost use Rattle.bg_http_read.specs.RequestStreams.{StreamState};
 
     ghost Value = { StreamState };
 
     ghost view = { λ stream. record {
       since = stream.seen.bytes;
+      waits = is_head stream.feed.progress.stage;
       asked = was_asked stream.feed.progress.stage;
       is_open = stream.is_open;
       refused = head_after stream.is_open stream.feed.progress.stage;
@@ -57,7 +58,7 @@ impl Model for RequestStream {
 impl RequestStream {
     /// A stream before the first byte of its connection.
     pub fn new(alloc: Global) -> RequestStream
-        ensures { result ≡ record { since = []; asked = false; is_open = true; refused = None } }
+        ensures { result ≡ record { since = []; waits = true; asked = false; is_open = true; refused = None } }
     {
         RequestStream {
             feed: RequestFeed::new(alloc),
@@ -81,12 +82,13 @@ impl RequestStream {
         ensures whole { IfOk result (λ step. IfWhole step (λ request.
             IsReadThen self.old.asked request (self.old.since ++ bytes.now) self.new.since)) }
         ensures next { IfOk result (λ step. IfWhole step (λ request. self.new.asked ≡ false)) }
+        ensures waits { IfOk result (λ step. IfWhole step (λ request. self.new.waits ≡ true)) }
         ensures no_head { IfOk result (λ step. IfWhole step (λ request. self.new.refused ≡ None)) }
         ensures owed { IfOk result (λ step. OnContinue step ((self.old.asked ≡ false)
-            × (self.new ≡ record self.old { since = self.old.since ++ bytes.now; asked = true })
+            × (self.new ≡ record self.old { since = self.old.since ++ bytes.now; waits = self.new.waits; asked = true })
             × OwesContinue (self.old.since ++ bytes.now))) }
         ensures none_yet { IfOk result (λ step. OnMore step
-            ((self.new ≡ record self.old { since = self.old.since ++ bytes.now })
+            ((self.new ≡ record self.old { since = self.old.since ++ bytes.now; waits = self.new.waits })
             × LacksRequest (self.old.since ++ bytes.now))) }
         ensures refused { IfErr result (λ fault.
             IsRefusedAsked self.old.asked fault (self.old.since ++ bytes.now)) }
@@ -110,6 +112,16 @@ impl RequestStream {
                 Err(fault)
             }
         }
+    }
+
+    /// All bytes that came since the end of the last request, while they wait all. They do after `feed` gave a request, until it is
+    /// called again. They may be those of another protocol (RFC 9110 section 7.8).
+    pub fn unread(&self) -> &[u8]
+        requires open { IsTrue self.now.is_open }
+        requires waits { self.now.waits ≡ true }
+        ensures { result.now ≡ self.now.since }
+    {
+        self.feed.waiting()
     }
 
     /// After `feed` gave a fault: the head of the request. `None` if no head was parsed, because it is malformed, too

@@ -7,6 +7,10 @@ use Rattle.bg_forward.specs.declared.reason.Reason.{Reason}
 use Rattle.bg_forward.specs.declared.reason.Reason.TheVariants as reason
 use Rattle.bg_forward.specs.declared.serving.End.{End}
 use Rattle.bg_forward.specs.declared.serving.End.TheVariants as end
+use Rattle.bg_tunnel.specs.declared.peer.Peer.TheVariants as peer
+use Rattle.bg_tunnel.specs.declared.tunnel_end.TunnelEnd.TheVariants as tunnel
+use Rattle.bg_event_loop.specs.declared.tunnel_ending.TunnelEnding.{TunnelEnding}
+use Rattle.bg_event_loop.specs.declared.tunnel_ending.TunnelEnding.TheVariants as ending
 
 -- what is logged as the status if a client has gone before its answer, as by nginx; no client is sent it
 abbrev pub client_closed_request : ℕ
@@ -56,3 +60,11 @@ slot_port None route = None
 slot_port (Some ticket) None = None
 slot_port (Some ticket) (Some route) =
     if route.port == ticket.port then None else Some ticket.port
+
+-- how a tunnel ended
+abbrev pub tunnel_name : TunnelEnding → List ℕ
+tunnel_name (ending.Ended tunnel.Whole) = codes "whole"
+tunnel_name (ending.Ended (tunnel.Failed peer.Client)) = codes "client_failed"
+tunnel_name (ending.Ended (tunnel.Failed peer.Endpoint)) = codes "endpoint_failed"
+tunnel_name (ending.Ended tunnel.Silent) = codes "silent"
+tunnel_name ending.GivenUp = codes "given_up"

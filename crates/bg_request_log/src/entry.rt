@@ -1,14 +1,15 @@
 //! The entry of a connection in the access log.
 ghost use Rattle.std.specs.Prelude.{◌≡◌, Some, None, codes, if◌then◌else◌};
 ghost use Rattle.std.specs.Option.{option_and_then, option_map};
-ghost use Rattle.bg_request_log.specs.Entries.{end_name, end_status, logged_end, logged_number, logged_reason, logged_status, slot_port};
+ghost use Rattle.bg_request_log.specs.Entries.{end_name, end_status, logged_end, logged_number, logged_reason, logged_status, slot_port, tunnel_name};
 ghost use Rattle.bg_ports.specs.ServiceNames.{name_of_service};
 
 use bg_access_log::{LogEntry, TimeText};
-use bg_event_loop::EndedRequest;
+use bg_event_loop::{EndedRequest, TunnelEnding};
 use bg_forward::{End, Reason, Served};
 use bg_ports::service_name;
 use bg_revisions::Service;
+use bg_tunnel::{Peer, TunnelEnd};
 use std::borrow::CowStr;
 
 /// The status of a request whose client has gone before its answer, as nginx has it. No client is sent it.
@@ -64,6 +65,7 @@ pub fn entry_of<'a>(ended: &EndedRequest, facts: ConnectionFacts<'a>) -> LogEntr
     ensures reused { result.upstream_reused
         ≡ (if facts.entry.keeps_connections then ended.now.is_reused else None) }
     ensures id { result.request_id ≡ facts.entry.id }
+    ensures tunnel { option_map (λ name. name.now) result.tunnel ≡ option_map tunnel_name ended.now.tunnel }
 {
     let served = &ended.served;
     let entered = served.entered;
@@ -92,6 +94,7 @@ pub fn entry_of<'a>(ended: &EndedRequest, facts: ConnectionFacts<'a>) -> LogEntr
         connection_request: place,
         upstream_reused: is_reused,
         request_id: facts.id,
+        tunnel: ended.tunnel.map(name_of_tunnel),
     }
 }
 
@@ -190,5 +193,18 @@ fn name_of(end: End) -> &'static str
         End::Refused(_) => "refused",
         End::Answered(_) => "answered",
         End::WriteFailed => "write_failed",
+    }
+}
+
+/// How a tunnel ended, in the log.
+fn name_of_tunnel(ending: TunnelEnding) -> &'static str
+    ensures { result.now ≡ tunnel_name ending }
+{
+    match ending {
+        TunnelEnding::Ended(TunnelEnd::Whole) => "whole",
+        TunnelEnding::Ended(TunnelEnd::Failed(Peer::Client)) => "client_failed",
+        TunnelEnding::Ended(TunnelEnd::Failed(Peer::Endpoint)) => "endpoint_failed",
+        TunnelEnding::Ended(TunnelEnd::Silent) => "silent",
+        TunnelEnding::GivenUp => "given_up",
     }
 }

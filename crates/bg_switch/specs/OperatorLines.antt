@@ -1,5 +1,5 @@
 -- As what the lines of operators are read.
-use Rattle.std.specs.Prelude.{◌≡◌, false, List, [], Some, Err}
+use Rattle.std.specs.Prelude.{◌≡◌, false, [], Some, Err}
 use Rattle.bg_control_port.specs.Lines.{Whole, Bytes, TooLong}
 use Rattle.bg_operator.specs.OperatorLines.{IsOneLine, IsRead, NextIs, text_of}
 use Rattle.bg_operator.specs.declared.line.Line.{Line}

@@ -1,5 +1,5 @@
 -- The limits of responses that are passed on as they come.
-use Rattle.std.specs.Prelude.{◌≡◌, ℕ}
+use Rattle.std.specs.Prelude.{◌≡◌}
 use Rattle.bg_both_sides.specs.declared.stream_limits.StreamLimits.{StreamLimits}
 
 -- 64 KiB of a body wait for a client, and its length is that of any number of 64 bits

@@ -1,34 +1,19 @@
 //! Serves the clients of both services by event loops.
-ghost use Rattle.std.specs.Prelude.{◌≡◌, ◌*◌, ◌<◌, ◌^◌, if◌then◌else◌, IfSome, None, Some, is_some, true, unwrap_or};
-ghost use Rattle.bg_command_line.specs.MessageTimeout.{seconds_of};
 ghost use Rattle.bg_event_loop.specs.Seats.{AllServed};
 ghost use Rattle.bg_forward.specs.Seats.{AllOut};
-ghost use Rattle.bg_switch.specs.StreamLimits.{AreStreamLimits};
 
 use crate::context::ServeContext;
+use crate::loop_settings::settings_of;
 use bg_book::Desk;
-use bg_both_sides::StreamLimits;
-use bg_client_side::ClientSettings;
-use bg_command_line::{KeepAlive, MessageTimeout};
-use bg_endpoint_side::Timeouts;
-use bg_endpoints::ResponseTimeout;
-use bg_event_loop::{
-    BookPorts, EndpointSettings, KeptSettings, LoopContext, LoopSettings, OriginSettings,
-    run_event_loops,
-};
+use bg_event_loop::{BookPorts, LoopContext, run_event_loops};
 use bg_forward::DeskGate;
 use bg_ledger::{Names, Seat};
-use bg_load::LoadSettings;
-use bg_ports::bounds_of;
 use bg_request_log::ServiceLog;
 use bg_revisions::Service;
 use std::sync::Wait;
 use std::thread;
 use std::thread::Threads;
 use std::time::Clock;
-
-/// How many bytes of a response may wait for a client before no more are read from the endpoint.
-const STREAM_WINDOW: usize = 65_536;
 
 /// Serves the clients of both services by event loops, until their ports are closed and no client is left. The last seats are
 /// those of the preview service; it has one loop for as many of them as the active service has.
@@ -109,160 +94,4 @@ fn serve_port<'a, N: Names + Send + Sync, R: Threads + Wait + Clock + Sync>(
     };
     let loops = context.loops.of_service(service) as usize;
     run_event_loops(context.rt, &loop_context, seats, loops);
-}
-
-/// The settings of the event loops of a port. The bounds are those of the port. The gate is asked whether requests go on if the
-/// strategy has a drain limit.
-fn settings_of<R>(context: &ServeContext<R>, service: Service) -> LoopSettings
-    ensures drains { result.limits_drains ≡ is_some context.now.strategy.now.drain_limit }
-    ensures address { result.endpoints.address ≡ context.now.words.now.endpoint_address }
-    ensures stream { is_some result.endpoints.stream ≡ context.now.words.now.stream }
-    ensures limits { IfSome result.endpoints.stream AreStreamLimits }
-    ensures duration { context.now.words.now.stream ≡ true → result.endpoints.timeouts.response ≡ 18446744073709551615 }
-    ensures silence { context.now.words.now.stream ≡ true → seconds_of context.now.timeout < 2 ^ 32
-        → result.endpoints.timeouts.idle ≡ unwrap_or context.now.words.now.silence (seconds_of context.now.timeout) * 1000 }
-    ensures origin { result.origin ≡ (if context.now.words.now.forwarded then Some (record {
-      trusts_clients = context.now.words.now.trust_forwarded;
-      run = context.now.run;
-      number_offset = context.now.number_offset;
-    }) else None) }
-    ensures grace { result.grace_millis ≡ context.now.words.now.shutdown_grace * 1000 }
-    ensures closing { result.closing_millis ≡ context.now.words.now.shutdown_timeout * 1000 }
-{
-    let usual = kept_or_closed(context, service).with_refusal_body(context.refusal_body);
-    let bounds = bounds_of(context.words, context.loops);
-    LoopSettings {
-        clients: ClientSettings {
-            request_millis: millis(context.timeout.seconds()),
-            ..usual.clients
-        },
-        endpoints: EndpointSettings {
-            address: context.words.endpoint_address,
-            timeouts: timeouts_of(context.timeout, context.words.silence, context.words.stream),
-            stream: stream_limits(context.words.stream),
-            ..usual.endpoints
-        },
-        origin: origin_of(context),
-        loads: LoadSettings {
-            loops: u64::from(context.loops.of_service(service)),
-            ..bounds
-        },
-        most_waiting: bounds.connections as usize,
-        aborts_on_close: context.words.abort_on_close,
-        limits_drains: context.strategy.drain_limit.is_some(),
-        grace_millis: millis(u64::from(context.words.shutdown_grace)),
-        closing_millis: millis(u64::from(context.words.shutdown_timeout)),
-        ..usual
-    }
-}
-
-/// How requests tell their endpoints where they come from, if the words say so.
-fn origin_of<R>(context: &ServeContext<R>) -> Option<OriginSettings>
-    ensures { result ≡ (if context.now.words.now.forwarded then Some (record {
-      trusts_clients = context.now.words.now.trust_forwarded;
-      run = context.now.run;
-      number_offset = context.now.number_offset;
-    }) else None) }
-{
-    if !context.words.forwarded {
-        return None;
-    }
-    Some(OriginSettings {
-        trusts_clients: context.words.trust_forwarded,
-        run: context.run,
-        number_offset: context.number_offset,
-    })
-}
-
-/// The limits of responses that are passed on as they come, if they are. Their bodies may have any length.
-fn stream_limits(is_streamed: bool) -> Option<StreamLimits>
-    ensures stream { is_some result ≡ is_streamed }
-    ensures limits { IfSome result AreStreamLimits }
-{
-    if !is_streamed {
-        return None;
-    }
-    Some(StreamLimits {
-        window: STREAM_WINDOW,
-        most_body: usize::MAX,
-    })
-}
-
-/// The usual settings of a service, with connections that are kept if the words say so.
-fn kept_or_closed<R>(context: &ServeContext<R>, service: Service) -> LoopSettings {
-    let usual = LoopSettings::usual(service);
-    match context.words.keep_alive {
-        Some(keep_alive) => usual.with_kept_connections(kept_settings(
-            keep_alive,
-            most_kept_endpoints(context, service),
-        )),
-        None => usual,
-    }
-}
-
-/// The settings of connections that are kept, of which so many are to endpoints.
-fn kept_settings(keep_alive: KeepAlive, most_endpoints: usize) -> KeptSettings
-    ensures { result ≡ record {
-      most_requests = keep_alive.requests;
-      client_millis = keep_alive.seconds * 1000;
-      most_endpoints = most_endpoints;
-      endpoint_millis = keep_alive.endpoint_seconds * 1000;
-    } }
-{
-    KeptSettings {
-        most_requests: u64::from(keep_alive.requests),
-        client_millis: millis(u64::from(keep_alive.seconds)),
-        most_endpoints,
-        endpoint_millis: millis(u64::from(keep_alive.endpoint_seconds)),
-    }
-}
-
-/// The most connections to endpoints that a loop keeps without a request: all loops together have about as many as requests may
-/// be inside, and each has at least one.
-fn most_kept_endpoints<R>(context: &ServeContext<R>, service: Service) -> usize {
-    let requests = match service {
-        Service::Active => u32::from(context.words.workers),
-        Service::Preview => context.previews,
-    };
-    (requests / context.loops.of_service(service).max(1)).max(1) as usize
-}
-
-/// The timeouts of a request at its endpoint. Of a response that is passed on as it comes, only silence is limited: it may last
-/// for any time.
-fn timeouts_of(timeout: MessageTimeout, silence: Option<u16>, is_streamed: bool) -> Timeouts
-    ensures response { is_streamed ≡ true → result.response ≡ 18446744073709551615 }
-    ensures idle { is_streamed ≡ true → seconds_of timeout < 2 ^ 32
-        → result.idle ≡ unwrap_or silence (seconds_of timeout) * 1000 }
-{
-    if is_streamed {
-        return Timeouts {
-            response: u64::MAX,
-            idle: millis(silence_seconds(timeout, silence)),
-        };
-    }
-    let response = ResponseTimeout {
-        seconds: timeout.seconds(),
-        is_given: matches!(timeout, MessageTimeout::Given(_)),
-    };
-    Timeouts {
-        response: millis(response.seconds),
-        idle: millis(response.idle_seconds()),
-    }
-}
-
-/// For how many seconds an endpoint may be silent whose response is passed on as it comes.
-fn silence_seconds(timeout: MessageTimeout, silence: Option<u16>) -> u64
-    ensures value { result ≡ unwrap_or silence (seconds_of timeout) }
-    ensures range { seconds_of timeout < 2 ^ 32 → result < 2 ^ 32 }
-{
-    match silence {
-        Some(seconds) => u64::from(seconds),
-        None => timeout.seconds(),
-    }
-}
-
-fn millis(seconds: u64) -> u64
-    ensures { seconds < 2 ^ 32 → result ≡ seconds * 1000 }
-{
-    seconds.saturating_mul(1_000)
 }

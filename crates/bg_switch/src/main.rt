@@ -8,6 +8,7 @@ mod context;
 mod journal;
 mod journal_files;
 mod kernel_clock;
+mod loop_settings;
 mod loops;
 mod operator_users;
 mod operators;

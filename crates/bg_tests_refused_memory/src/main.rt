@@ -1,5 +1,5 @@
-//! Makes the allocating calls of the libraries up to `bg_book`, and of `bg_audit`, `bg_http` and `bg_http_read`, and
-//! from the libraries above them `parse_command_line`, `parse_line`, `check` and `serve_in_memory`. After an allocation
+//! Makes the allocating calls of the libraries of books, messages and tunnels, and from the libraries above them
+//! `parse_command_line`, `parse_line`, `check` and `serve_in_memory`. After an allocation
 //! failure, it checks the state that the refused call has left, and repeats the call. All allocations fail while a
 //! request leaves or seats are gathered.
 //!
@@ -26,6 +26,7 @@ mod runs;
 mod state;
 mod stop;
 mod strategies;
+mod upgrades;
 
 use crate::stop::Stop;
 
@@ -40,6 +41,7 @@ fn main(rt: HostRuntime) -> Result<(), Stop> {
     runs::make_calls(&rt)?;
     each_growth::make_calls(&rt)?;
     messages::make_calls(&rt)?;
+    upgrades::make_calls(&rt)?;
     readings::make_calls(&rt)?;
     forwarding::make_calls(&rt)
 }

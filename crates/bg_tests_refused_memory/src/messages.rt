@@ -79,7 +79,7 @@ fn make_request<R: AllocGlobal + Print + Eprint>(rt: &R, text: &str) -> Result<R
     made(rt, "read_request", || new_request(rt.alloc(), text))
 }
 
-fn new_request(alloc: Global, text: &str) -> Result<Request, Stop> {
+pub fn new_request(alloc: Global, text: &str) -> Result<Request, Stop> {
     let mut client = InputStream {
         input: text.as_bytes(),
     };

@@ -11,15 +11,14 @@ use Rattle.bg_http.specs.Elements.{Field}
 use Rattle.bg_http.specs.Removed.{is_named_by_connection}
 use Rattle.bg_http.specs.declared.request.Request.{Request}
 use Rattle.bg_http.specs.declared.response.ResponseHead.{ResponseHead}
-use Rattle.bg_http_read.specs.Heads.{ReadsResponseHead, response_heads}
-use Rattle.bg_http_read.proofs.HeadsFound.{not_cut, one_head, response_laws}
-use Rattle.bg_upgrade.specs.Laws.{TakesAsked}
-use Rattle.bg_upgrade.specs.SentHeads.{bare_request, fields_to_client, head_to_client, head_to_endpoint}
+use Rattle.bg_http_read.specs.Heads.{ReadsResponseHead}
+use Rattle.bg_upgrade.specs.Laws.{SpeaksOf, TakesAsked}
+use Rattle.bg_upgrade.specs.SentHeads.{bare_request, fields_to_client, fields_to_endpoint, head_to_client, head_to_endpoint}
 use Rattle.bg_upgrade.specs.Acceptances.{FindsAcceptance, judgement}
 use Rattle.bg_upgrade.specs.Upgrades.{accepts_upgrade, asks_for_upgrade, has_upgrade, names_each_of, names_protocol, names_this, protocols}
 use Rattle.bg_upgrade.specs.declared.acceptance.Acceptance.{Acceptance}
 use Rattle.bg_upgrade.specs.declared.acceptance.Acceptance.TheVariants.{Accepts, More, Other}
-use Rattle.bg_upgrade.proofs.SentFields.{client_speaks, endpoint_speaks}
+use Rattle.bg_upgrade.proofs.AcceptanceLemmas.{OneHead}
 
 both : (a b : Bool) → (a && b) ≡ true → (a ≡ true) × (b ≡ true)
 both true b e = (refl, e)
@@ -65,22 +64,20 @@ same_protocols came sent e some = ap (list_any (λ protocol. not (is_empty proto
 names_upgrade : List (List ℕ) → Bool
 names_upgrade elements = list_any (λ element. str_eq_ignore_ascii_case element (codes "upgrade")) elements
 
-pub still_asks : (request : Request) → asks_for_upgrade request ≡ true
+pub still_asks : (request : Request) → SpeaksOf request.fields (fields_to_endpoint request) → asks_for_upgrade request ≡ true
     → asks_for_upgrade (bare_request (head_to_endpoint request)) ≡ true
 unfolding names_upgrade
-still_asks request e =
-    let speaks = endpoint_speaks request in
+still_asks request speaks e =
     let was = asks request e in
     let named : is_named_by_connection (head_to_endpoint request).fields (codes "upgrade") ≡ true
     = ap names_upgrade speaks.connection_is in
     let some = same_protocols request.fields (head_to_endpoint request).fields speaks.protocols_are was.protocol in
     ap₂ (λ a b. a && b) was.method (ap₂ (λ a b. a && b) named some)
 
-pub still_accepts : (request : Request) (head : ResponseHead) → accepts_upgrade request head ≡ true
-    → accepts_upgrade request (head_to_client head) ≡ true
+pub still_accepts : (request : Request) (head : ResponseHead) → SpeaksOf head.fields (fields_to_client head)
+    → accepts_upgrade request head ≡ true → accepts_upgrade request (head_to_client head) ≡ true
 unfolding names_upgrade
-still_accepts request head e =
-    let speaks = client_speaks head in
+still_accepts request head speaks e =
     let was = accepts request head e in
     let named : is_named_by_connection (fields_to_client head) (codes "upgrade") ≡ true
     = ap names_upgrade speaks.connection_is in
@@ -134,17 +131,18 @@ takes_asked request head e =
 
 -- ---- the answers
 
-pub one_answer : (request : Request) (bytes : List ℕ) (head : ResponseHead) (rest : List ℕ) (found : Acceptance)
+pub one_answer : OneHead → (request : Request) (bytes : List ℕ) (head : ResponseHead) (rest : List ℕ) (found : Acceptance)
     → ReadsResponseHead bytes head rest → FindsAcceptance request bytes found
     → found ≡ judgement request head (length bytes - length rest)
-one_answer request bytes head rest More reads cut = absurd (not_cut response_heads bytes head rest reads cut)
-one_answer request bytes head rest (Accepts other taken) reads (fits, (again, takes)) =
-    let same = one_head response_heads response_laws bytes other head (drop taken bytes) rest again reads in
+one_answer one request bytes head rest More reads (few, none, may) = absurd (none reads.tree rest reads.reads)
+one_answer one request bytes head rest (Accepts other taken) reads (fits, (again, takes)) =
+    let same = one bytes [] head other rest (drop taken bytes) reads
+    (subst (λ l. ReadsResponseHead l other (drop taken bytes)) (sym (append-nil bytes)) again) in
     let long : taken ≡ length bytes - length rest
-    = omega (arith, fits, length-drop taken bytes, ap length same.1) in
+    = omega (arith, fits, length-drop taken bytes, ap length (same.1 ∙ append-nil rest)) in
     ap₂ Accepts same.0 long
     ∙ sym (ap (λ t. if t then Accepts head (length bytes - length rest) else Other)
     (ap (accepts_upgrade request) (sym same.0) ∙ takes))
-one_answer request bytes head rest Other reads never =
+one_answer one request bytes head rest Other reads never =
     sym (ap (λ t. if t then Accepts head (length bytes - length rest) else Other)
     (never [] head rest (subst (λ l. ReadsResponseHead l head rest) (sym (append-nil bytes)) reads)))

@@ -1,5 +1,4 @@
 pub mod AcceptanceLemmas
-pub mod ElementLists
 pub mod LawLemmas
 pub mod ReadHeads
 pub mod SentFields

@@ -3,22 +3,20 @@ use Rattle.std.proofs.Common.{◌≡◌, ℕ, Bool, true, false, if◌then◌els
 use Rattle.std.specs.Prelude.{flat_map}
 use Rattle.std.specs.List.{list_any}
 use Rattle.std.specs.Str.{bytes_eq, str_eq_ignore_ascii_case, str_to_ascii_lowercase}
-use Rattle.std.proofs.lemmas.Bool.{or_left, or_right}
 use Rattle.std.proofs.lemmas.Grind.{flat_map-append}
 use Rattle.std.proofs.lemmas.List.{append-nil}
+use Rattle.std.proofs.lemmas.List.Folds.{list_any-append}
 use Rattle.std.proofs.lemmas.Slice.Eq.{bytes_eq-Decides}
 use Rattle.bg_http.specs.Elements.{Field, elements, elements_named, has_field, is_named}
-use Rattle.bg_http.specs.Laws.{StaysHere}
+use Rattle.bg_http.specs.Laws.{StaysHere, StaysIfOfConnection}
 use Rattle.bg_http.specs.Removed.{kept_in_request, kept_in_response}
 use Rattle.bg_http.specs.declared.request.Request.{Request}
 use Rattle.bg_http.specs.declared.response.ResponseHead.{ResponseHead}
-use Rattle.bg_http.proofs.KeptFields.{stays_of_connection}
 use Rattle.bg_http_read.specs.ForwardedRequests.{via_field}
 use Rattle.bg_upgrade.specs.HeadTexts.{upgrade_fields}
 use Rattle.bg_upgrade.specs.Laws.{SpeaksOf}
 use Rattle.bg_upgrade.specs.SentHeads.{connection_field, fields_to_client, fields_to_endpoint}
 use Rattle.bg_upgrade.specs.Upgrades.{protocols}
-use Rattle.bg_upgrade.proofs.ElementLists.{list_any-append}
 
 -- an Upgrade field has no other name
 no_other_name : (name : List ℕ) → str_eq_ignore_ascii_case (codes "upgrade") name ≡ false → (f : Field)
@@ -99,29 +97,16 @@ speaks came kept none = record {
 
 -- ---- the fields that are kept
 
-pub upgrade_stays : (fields : List Field) → StaysHere fields (codes "upgrade")
-upgrade_stays fields = stays_of_connection fields (codes "upgrade") (λ f e.
-    or_left _ (is_named (codes "content-length") f) (or_left _ (is_named (codes "trailer") f)
-    (or_right _ (is_named (codes "upgrade") f) e)))
+-- what is known of the fields of one connection
+abbrev pub Stays : Type 0
+Stays = (fields : List Field) (field : Field) → StaysIfOfConnection fields field
 
-connection_stays : (fields : List Field) → StaysHere fields (codes "connection")
-connection_stays fields = stays_of_connection fields (codes "connection") (λ f e. rw e refl)
-
-length_stays : (fields : List Field) → StaysHere fields (codes "content-length")
-length_stays fields =
-    stays_of_connection fields (codes "content-length") (λ f e. or_right _ (is_named (codes "content-length") f) e)
-
-codings_stay : (fields : List Field) → StaysHere fields (codes "transfer-encoding")
-codings_stay fields = stays_of_connection fields (codes "transfer-encoding") (λ f e.
-    or_left _ (is_named (codes "content-length") f) (or_left _ (is_named (codes "trailer") f)
-    (or_left _ (is_named (codes "upgrade") f) (or_right _ (is_named (codes "transfer-encoding") f) e))))
-
-pub client_speaks : (head : ResponseHead) → SpeaksOf head.fields (fields_to_client head)
-client_speaks head = speaks head.fields (kept_in_response head.fields) (record {
-  upgrade = (upgrade_stays head.fields).1;
-  connection = (connection_stays head.fields).1;
-  size = (length_stays head.fields).1;
-  codings = (codings_stay head.fields).1;
+pub client_speaks : Stays → (head : ResponseHead) → SpeaksOf head.fields (fields_to_client head)
+client_speaks stays head = speaks head.fields (kept_in_response head.fields) (record {
+  upgrade = (stays head.fields (codes "upgrade", []) refl).1;
+  connection = (stays head.fields (codes "connection", []) refl).1;
+  size = (stays head.fields (codes "content-length", []) refl).1;
+  codings = (stays head.fields (codes "transfer-encoding", []) refl).1;
 })
 
 -- Via is another name
@@ -132,18 +117,18 @@ via_is_other request = by_test (request.minor == 0)
     by_test true = record { upgrade = refl; connection = refl; size = refl; codings = refl }
     by_test false = record { upgrade = refl; connection = refl; size = refl; codings = refl }
 
-pub endpoint_speaks : (request : Request) → SpeaksOf request.fields (fields_to_endpoint request)
-endpoint_speaks request =
+pub endpoint_speaks : Stays → (request : Request) → SpeaksOf request.fields (fields_to_endpoint request)
+endpoint_speaks stays request =
     let fields = request.fields in
     let via = via_is_other request in
     let kept = kept_in_request fields in
     let last = via_field request ∷ [] in
     subst (SpeaksOf fields) (append_assoc kept last (upgrade_fields fields ++ connection_field ∷ []))
     (speaks fields (kept ++ last) (record {
-      upgrade = neither (codes "upgrade") kept last (upgrade_stays fields).0 via.upgrade;
-      connection = neither (codes "connection") kept last (connection_stays fields).0 via.connection;
-      size = neither (codes "content-length") kept last (length_stays fields).0 via.size;
-      codings = neither (codes "transfer-encoding") kept last (codings_stay fields).0 via.codings;
+      upgrade = neither (codes "upgrade") kept last (stays fields (codes "upgrade", []) refl).0 via.upgrade;
+      connection = neither (codes "connection") kept last (stays fields (codes "connection", []) refl).0 via.connection;
+      size = neither (codes "content-length") kept last (stays fields (codes "content-length", []) refl).0 via.size;
+      codings = neither (codes "transfer-encoding") kept last (stays fields (codes "transfer-encoding", []) refl).0 via.codings;
     }))
 
 -- of the fields that came, none is forwarded that stays, and is no Upgrade field

@@ -9,7 +9,8 @@ use Rattle.bg_http.specs.Texts.{request_head_text}
 use Rattle.bg_http.specs.declared.request.Request.{Request}
 use Rattle.bg_http.specs.declared.response.ResponseHead.{ResponseHead}
 use Rattle.bg_http.specs.declared.response_fault.ResponseFault.TheVariants as fault
-use Rattle.bg_http_read.specs.Heads.{HeadGrammar, ReadsResponseHead, request_heads, response_heads}
+use Rattle.bg_http_read.specs.Heads.{ReadsResponseHead, request_heads, response_heads}
+use Rattle.bg_http_read.specs.PlainHeads.{IsReadOnlyAs}
 use Rattle.bg_http_read.specs.Requests.{ReadsRequest}
 use Rattle.bg_upgrade.specs.HeadTexts.{acceptance_text, upgrade_fields, upgrade_lines, upgrade_text}
 use Rattle.bg_upgrade.specs.Acceptances.{FindsAcceptance, IsAcceptance, judgement}
@@ -40,13 +41,6 @@ pub record SpeaksOf (came sent : List Field) : Type 0 where
   pub connection_is : elements_named (codes "connection") sent ≡ codes "upgrade" ∷ []
   pub no_length : has_field (codes "content-length") sent ≡ false
   pub no_codings : has_field (codes "transfer-encoding") sent ≡ false
-
--- the bytes are read as this head and then the rest, and as nothing else
-abbrev pub IsReadOnlyAs : {Head : Type 0} → HeadGrammar Head → List ℕ → Head → List ℕ → Type 0
-IsReadOnlyAs heads bytes head rest =
-    ((tree : heads.Tree) × heads.Reads bytes tree rest × (heads.parts tree ≡ head))
-    × ((tree : heads.Tree) (left : List ℕ) → heads.Reads bytes tree left
-    → (heads.parts tree ≡ head) × (left ≡ rest))
 
 -- the text of a request that asks for an upgrade is read as this head, and then what follows
 abbrev pub IsReadAsUpgrade : Request → List ℕ → Type 0

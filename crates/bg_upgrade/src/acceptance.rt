@@ -1,20 +1,11 @@
 //! Whether an endpoint accepts an upgrade.
-ghost use Rattle.std.specs.Prelude.{◌≡◌, ◌≤◌, IfOk, drop, length};
-ghost use Rattle.httparse.specs.Spans.{IsResponseOf, IsResponseWithin};
-ghost use Rattle.bg_http_read.specs.Heads.{ReadsResponseHead};
+ghost use Rattle.std.specs.Prelude.{◌≡◌, IfOk};
 ghost use Rattle.bg_upgrade.specs.Acceptances.{FindsAcceptance, judgement};
 
 use crate::upgrade::accepts_upgrade;
-use bg_http::{Bytes, Fields, Request, ResponseHead};
-use httparse::Status;
-use httparse::spans::{EMPTY_HEADER_SPAN, HeaderSpan, ResponseSpans, parse_response};
+use bg_http::{Request, ResponseFault, ResponseHead};
+use bg_http_read::find_response_head;
 use std::alloc::{AllocError, Global};
-
-/// The most bytes that a head may have.
-const MOST_HEAD: usize = 16_384;
-
-/// The most fields that a head may have.
-const MOST_FIELDS: usize = 64;
 
 /// What the bytes that came from an endpoint say about an upgrade.
 #[derive(Drop)]
@@ -31,29 +22,6 @@ pub enum Acceptance {
     /// The bytes do not begin with a head that accepts the upgrade, whatever follows: it is an ordinary response, or no head within
     /// the limits. The caller gives them to a reader of responses, from the first byte on.
     Other,
-}
-
-/// The head that the spans cover. The only error is an allocation failure.
-fn copy_head(
-    alloc: Global,
-    bytes: &[u8],
-    room: &[HeaderSpan],
-    spans: ResponseSpans,
-) -> Result<ResponseHead, AllocError>
-    requires size { length bytes.now ≤ MOST_HEAD }
-    requires few { length room.now ≤ MOST_FIELDS }
-    requires within { IsResponseWithin bytes.now room.now spans }
-    requires complete { IsResponseOf bytes.now room.now spans }
-    ensures { IfOk result (λ head. ReadsResponseHead bytes.now head (drop spans.len bytes.now)) }
-{
-    let fields = Fields::of_spans(alloc, bytes, &room[..spans.headers])?;
-    let reason = Bytes::new(alloc, spans.reason.of(bytes))?;
-    Ok(ResponseHead {
-        minor: spans.version,
-        code: spans.code,
-        reason,
-        fields,
-    })
 }
 
 /// The answer for bytes that begin with the head, which has this length.
@@ -79,19 +47,13 @@ pub fn find_acceptance(
 ) -> Result<Acceptance, AllocError>
     ensures { IfOk result (FindsAcceptance request.now bytes.now) }
 {
-    let front = &bytes[..bytes.len().min(MOST_HEAD)];
-    let mut room = [EMPTY_HEADER_SPAN; MOST_FIELDS];
-    match parse_response(front, &mut room) {
-        Ok(Status::Complete(spans)) => {
-            let head = copy_head(alloc, front, &room, spans)?;
-            Ok(judge(request, head, spans.len))
-        }
-        Ok(Status::Partial) => {
-            if bytes.len() < MOST_HEAD {
-                return Ok(Acceptance::More);
-            }
-            Ok(Acceptance::Other)
-        }
-        Err(_) => Ok(Acceptance::Other),
+    bg_http_read::laws::an_input_has_one_head();
+    match find_response_head(alloc, bytes) {
+        Ok(Some((head, taken))) => Ok(judge(request, head, taken)),
+        Ok(None) => Ok(Acceptance::More),
+        Err(fault) => match fault {
+            ResponseFault::OutOfMemory => Err(AllocError),
+            _ => Ok(Acceptance::Other),
+        },
     }
 }

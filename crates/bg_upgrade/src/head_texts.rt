@@ -4,10 +4,9 @@ ghost use Rattle.bg_http.specs.Texts.{field_line};
 ghost use Rattle.bg_upgrade.specs.HeadTexts as spec;
 ghost use Rattle.bg_upgrade.specs.Upgrades.{asks_for_upgrade as asks};
 
-use crate::elements::is_named;
 use crate::upgrade::asks_for_upgrade;
 use bg_http::{
-    BodyEnd, Bytes, Field, Fields, Persistence, Request, Response, ResponseHead,
+    BodyEnd, Bytes, Field, Fields, Persistence, Request, Response, ResponseHead, RuledName,
     write_request_head, write_response_head,
 };
 use std::alloc::{AllocError, Global};
@@ -41,7 +40,7 @@ fn add_upgrade_fields(text: &mut Vec<u8>, fields: &Fields) -> Result<(), AllocEr
         ≡ text.old.items ++ flat_map field_line (spec.upgrade_fields fields.now)) }
 {
     for field in fields.get() {
-        if is_named(&field, b"upgrade") {
+        if field.is(RuledName::Upgrade) {
             add_field(text, &field)?;
         }
     }

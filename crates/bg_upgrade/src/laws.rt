@@ -13,7 +13,9 @@ ghost use Rattle.bg_upgrade.specs.declared.acceptance.Acceptance.{Acceptance};
 /// text only for a request that asks for an upgrade, and by `acceptance_text`.
 pub fn only_an_upgrade_says_upgrade()
     ensures { (fields : List Field) → StaysHere fields (codes "upgrade") }
-{}
+{
+    bg_http::laws::fields_of_one_connection_stay();
+}
 
 /// The head of an upgrade is the one that `write_request_head` of bg_http writes on a connection that is kept, but for the lines
 /// Upgrade and Connection before its empty line.
@@ -37,7 +39,12 @@ pub fn an_endpoint_reads_the_upgrade()
     ensures head { (request : Request) (more : List ℕ) → IsReadAsUpgrade request more }
     ensures fields { (request : Request) → SpeaksOf request.fields (fields_to_endpoint request) }
     ensures asks { (request : Request) → StillAsks request }
-{}
+{
+    bg_http::laws::fields_of_one_connection_stay();
+    bg_http_read::laws::a_head_has_plain_fields();
+    bg_http_read::laws::written_fields_are_plain();
+    bg_http_read::laws::a_head_with_plain_fields_is_read_as_it_is_written();
+}
 
 /// What is written of a head that accepts an upgrade is read by the client, whatever follows, as this head and as no other, and
 /// then what follows. Its fields name the protocols that the endpoint named, in order; its Connection names Upgrade and nothing
@@ -47,7 +54,12 @@ pub fn a_client_reads_the_acceptance()
         → IsReadAsAcceptance request bytes head rest more }
     ensures fields { (head : ResponseHead) → SpeaksOf head.fields (fields_to_client head) }
     ensures accepts { (request : Request) (head : ResponseHead) → StillAccepts request head }
-{}
+{
+    bg_http::laws::fields_of_one_connection_stay();
+    bg_http_read::laws::a_head_has_plain_fields();
+    bg_http_read::laws::written_fields_are_plain();
+    bg_http_read::laws::a_head_with_plain_fields_is_read_as_it_is_written();
+}
 
 /// Nothing but a 101 of the endpoint is an acceptance: its Connection names Upgrade, it names a protocol, and the request named each
 /// protocol that it names (RFC 9110 section 7.8).
@@ -69,7 +81,9 @@ pub fn an_acceptance_is_no_response()
 pub fn a_head_has_one_answer()
     ensures { (request : Request) (bytes : List ℕ) (head : ResponseHead) (rest : List ℕ) (found : Acceptance)
         → HasOneAnswer request bytes head rest found }
-{}
+{
+    bg_http_read::laws::an_input_has_one_head();
+}
 
 /// An acceptance is decided by the bytes of its head alone. Whatever follows them, the answer is the same, and the bytes behind the
 /// length that it gives are exactly what follows. So each byte of the endpoint belongs either to the head or to the other protocol.

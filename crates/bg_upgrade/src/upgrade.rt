@@ -3,13 +3,13 @@ ghost use Rattle.std.specs.Prelude.{◌≡◌};
 ghost use Rattle.bg_upgrade.specs.Upgrades as spec;
 
 use crate::elements::{have_element, names_each_of, names_protocol};
-use bg_http::{Fields, Request, ResponseHead};
+use bg_http::{Fields, Request, ResponseHead, RuledName};
 
 /// Whether the fields name a protocol, and Connection names Upgrade.
 fn has_upgrade(fields: &Fields) -> bool
     ensures { result ≡ spec.has_upgrade fields.now }
 {
-    have_element(fields, b"connection", b"upgrade") && names_protocol(fields)
+    have_element(fields, RuledName::Connection, b"upgrade") && names_protocol(fields)
 }
 
 /// Whether the request asks for an upgrade (RFC 9110 section 7.8). It does if all of this holds:

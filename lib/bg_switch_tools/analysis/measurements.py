@@ -37,7 +37,7 @@ def request_of(entry: LogEntry, limits: Limits) -> Request:
     if entry.is_without_endpoint:
         # a refusal is fast, and says nothing of the revision's durations
         return Request(True, None)
-    return Request(entry.is_error, entry.upstream_ms if limits.by_endpoint else entry.duration_ms)
+    return Request(entry.is_error, entry.upstream_ms if limits.by_endpoint else entry.answer_ms)
 
 
 def quantile(values: Sequence[float], share: float) -> float:

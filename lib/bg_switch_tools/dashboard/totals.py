@@ -72,7 +72,8 @@ class RequestCounts:
         self.gone += entry.has_client_gone
         self.kept += entry.is_on_kept_connection
         self.reused += bool(entry.upstream_reused)
-        self.durations.add(entry.duration_ms)
+        if entry.answer_ms is not None:
+            self.durations.add(entry.answer_ms)
         if entry.upstream_ms is not None:
             self.upstream.add(entry.upstream_ms)
 

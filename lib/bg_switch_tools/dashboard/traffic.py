@@ -61,7 +61,8 @@ class Cell:
 
     def add(self, entry: LogEntry) -> None:
         self.counts[class_of(entry.status)] += 1
-        self.durations.add(entry.duration_ms)
+        if entry.answer_ms is not None:
+            self.durations.add(entry.answer_ms)
         if entry.port is not None:
             self.ports[entry.port] += 1
             if entry.is_error:

@@ -52,6 +52,7 @@ OPTIONAL: Mapping[str, tuple[type, ...]] = {
     "connection_request": (*COUNT, NOTHING),
     "upstream_reused": (*FLAG, NOTHING),
     "request_id": (*TEXT, NOTHING),
+    "tunnel": (*TEXT, NOTHING),
 }
 TYPES = {**MEMBERS, **OPTIONAL}
 NUMBERS = frozenset(NUMBER)
@@ -69,7 +70,8 @@ class LogEntry(NamedTuple):
     ended before it without having sent a byte, which are no requests. If connections are kept,
     `connection_request` is its number among the requests of its connection, from 1 on, and
     `upstream_reused` whether the connection to its endpoint had carried a request before.
-    `request_id` is the id that the endpoint was told.
+    `request_id` is the id that the endpoint was told. `tunnel` is how the tunnel ended that the
+    request became, if it became one.
     """
 
     time: float
@@ -92,6 +94,13 @@ class LogEntry(NamedTuple):
     connection_request: int | None = None
     upstream_reused: bool | None = None
     request_id: str | None = None
+    tunnel: str | None = None
+
+    @property
+    def answer_ms(self) -> float | None:
+        """How long the answer took: of a tunnel, which may last for days, until its head; None if that
+        was never written."""
+        return self.duration_ms if self.tunnel is None else self.upstream_ms
 
     @property
     def is_error(self) -> bool:

@@ -1,4 +1,3 @@
-use Rattle.bg_rollout.specs.Openings.{OpensSeats}
 use Rattle.bg_switch.proofs.SeatsKept.{new_are_out}
 use Rattle.bg_switch.proofs.book_opener.open_and_serve.Goals as goal
 

@@ -1,20 +1,15 @@
 use Rattle.std.proofs.Common.{subst, sym}
 use Rattle.bg_upgrade.specs.Acceptances.{FindsAcceptance}
-use Rattle.bg_upgrade.proofs.AcceptanceLemmas.{front_judged, large_head, many_fields}
+use Rattle.bg_upgrade.proofs.AcceptanceLemmas.{judged, no_head}
 use Rattle.bg_upgrade.proofs.acceptance.find_acceptance.Goals as goal
 
-pub returns-in_ok-head-in-Ok-Complete : goal.returns-in_ok-head-in-Ok-Complete
-returns-in_ok-head-in-Ok-Complete c =
-    let within = rw c.in-Ok-Complete.field-0-is at c.in-Ok-Complete.ensures.within in
+pub returns-in-Ok-Some : goal.returns-in-Ok-Some
+returns-in-Ok-Some c =
     subst (FindsAcceptance c.args.request.now c.args.bytes.now) (sym c.judge.ensures)
-    (front_judged c.args.request.now c.args.bytes.now c.min.result c.in_ok-head-in-Ok-Complete.head c.in-Ok-Complete.spans.len
-    within.section.len_fits c.in_ok-head-in-Ok-Complete.ensures)
+    (judged c.an_input_has_one_head.ensures.one c.args.request.now c.args.bytes.now c.in-Ok-Some.head c.in-Ok-Some.taken
+    (rw c.in-Ok-Some.field-0-is at c.in-Ok-Some.ensures.fits) (rw c.in-Ok-Some.field-0-is at c.in-Ok-Some.ensures.head))
 
-pub returns-else-bytes-lt-MOST_HEAD : goal.returns-else-bytes-lt-MOST_HEAD
-returns-else-bytes-lt-MOST_HEAD c =
-    large_head c.args.request.now c.args.bytes.now c.min.result c.min.ensures c.if-bytes-lt-MOST_HEAD.false
-    (rw c.in-Ok-Partial.field-0-is at c.in-Ok-Partial.ensures.partial)
-    (rw c.in-Ok-Partial.field-0-is at c.in-Ok-Partial.ensures.unfinished)
-
-pub returns-in-Err : goal.returns-in-Err
-returns-in-Err c = many_fields c.args.request.now c.args.bytes.now c.min.result c.in-Err.ensures.no_room
+pub returns-in_default : goal.returns-in_default
+returns-in_default c =
+    no_head c.an_input_has_one_head.ensures.none c.args.request.now c.args.bytes.now c.in-Err.fault
+    c.in_default.not-OutOfMemory c.in-Err.ensures.fault c.in-Err.ensures.refused

@@ -2,6 +2,7 @@ use Rattle.std.proofs.Common.{◌&&◌, ◌||◌, ◌∙◌, ap, codes, not, ref
 use Rattle.bg_http.specs.Codings.{is_empty}
 use Rattle.bg_http.specs.Persistences.{keeps}
 use Rattle.bg_http.specs.Removed.{says_close}
+use Rattle.bg_endpoint_side.proofs.ArrivedLemmas.{kept_more}
 use Rattle.bg_endpoint_side.proofs.ReceivingLemmas.{answered_now, come_more, still_sound}
 use Rattle.bg_endpoint_side.proofs.VersionLemmas.{awaited_more}
 use Rattle.bg_endpoint_side.specs.EndpointRequests.{forwarded_of}
@@ -17,8 +18,9 @@ returns-in-Ok-None-clause-sound c =
     let come = c.has_come_with-self.ensures ∙ ap (λ b. b || not (is_empty bytes)) c.requires.1 ∙ come_more seen bytes in
     let version = c.after-self.ensures ∙ ap (λ left. awaited_on left bytes) c.requires.2
     ∙ awaited_more (codes "HTTP/1.1") seen bytes in
+    let kept = kept_more _ _ _ seen bytes c.add.ensures c.requires.5 in
     still_sound _ _ c.has_bytes.result c.args.now c.renew_if.ensures
-    (rw step.none_yet.0 (c.requires.0, come, version, c.requires.3, c.requires.4))
+    (rw step.none_yet.0 (c.requires.0, come, version, c.requires.3, c.requires.4, kept))
 
 pub returns-in-Ok-Some-clause-over : goal.returns-in-Ok-Some-clause-over
 returns-in-Ok-Some-clause-over c =

@@ -1,6 +1,6 @@
 use Rattle.std.proofs.Common.{◌≡◌, ◌++◌, Bool, IsTrue, refl, ap, subst, sym, ◌∙◌}
 use Rattle.bg_http_read.specs.RequestStates.{IsReadThen, LacksRequest}
-use Rattle.bg_http_read.specs.RequestsFed.{IsFed, head_after, was_asked}
+use Rattle.bg_http_read.specs.RequestsFed.{IsFed, head_after, is_head, was_asked}
 use Rattle.bg_http_read.proofs.States.{same_stream, stream_state}
 use Rattle.bg_http_read.proofs.request_stream.RequestStream.feed.Goals as goal
 
@@ -27,9 +27,11 @@ returns-in-Ok-More-clause-none_yet c =
     let is_open : IsTrue before.is_open = ap (λ s. s.is_open) c.self.view_is ∙ c.requires in
     let answer = rw c.in-Ok-More.field-0-is at c.in-Ok-More.ensures.answer before.seen.bytes (c.self.invariant is_open) in
     let asked = was_asked c.feed.new.self.progress.stage in
-    let now = stream_state c.add.new.self.bytes asked before.is_open (head_after before.is_open c.feed.new.self.progress.stage) in
-    subst (λ s. (now ≡ record s { since = s.since ++ bytes }) × LacksRequest (s.since ++ bytes)) c.self.view_is (
-      same_stream c.add.new.self.bytes (before.seen.bytes ++ bytes) asked (was_asked before.feed.progress.stage)
+    let waits = is_head c.feed.new.self.progress.stage in
+    let now =
+    stream_state c.add.new.self.bytes waits asked before.is_open (head_after before.is_open c.feed.new.self.progress.stage) in
+    subst (λ s. (now ≡ record s { since = s.since ++ bytes; waits = waits }) × LacksRequest (s.since ++ bytes)) c.self.view_is (
+      same_stream c.add.new.self.bytes (before.seen.bytes ++ bytes) waits asked (was_asked before.feed.progress.stage)
           before.is_open before.is_open (head_after before.is_open c.feed.new.self.progress.stage)
           (head_after before.is_open before.feed.progress.stage) c.add.ensures answer.3 refl
           (ap (λ (is : Bool). head_after is c.feed.new.self.progress.stage) is_open
