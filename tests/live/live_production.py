@@ -8,6 +8,7 @@ import os
 import pathlib
 import re
 import shutil
+import socket
 import ssl
 import stat
 import subprocess
@@ -19,7 +20,7 @@ from typing import NamedTuple
 from support import TOP, checks, processes
 from support.checks import check, comes
 from support.clients import connect
-from support.endpoints import Endpoint, by_target
+from support.endpoints import Endpoint, Request, by_target
 from support.messages import LARGEST_BODY, ROLLOUT
 from support.ports import free_port, is_open
 from support.switch import LISTENING, Switch, words_of_serve
@@ -31,7 +32,7 @@ NAME, PREVIEW_NAME, UNKNOWN_NAME = "web.example", "preview.web.example", "other.
 ACTIVE, PREVIEW, CONTROL = 8080, 8081, "/run/bg-switch/control"
 JOURNAL = ("--journal", "/var/lib/bg-switch/journal")
 SOCKET = ("--control-socket-mode", "660", "--control-socket-group", "bg-operators")
-CONCURRENCY = ("--concurrency", "255", "--keep-alive", "--redispatch")
+CONCURRENCY = ("--concurrency", "255", "--keep-alive", "--stream", "--upgrade", "--redispatch")
 DESCRIPTORS = 8192
 SOON = 60
 # A user without rights, who runs the commands of the stop if this script is run by root.
@@ -41,7 +42,7 @@ PAGES = {
     "index.html": b"<p>hello</p>\n" * 100,
     "page.txt": b"hello\n" * 1000,
     "data.json": b"[1, 2, 3]\n" * 500,
-    "big.bin": b"x" * 4000000,
+    "big.bin": b"x" * 9000000,
     "folder/index.html": b"folder",
 }
 UNITS = ("bg-switch.service", "bg-controller.service", "bg-dashboard.service")
@@ -80,7 +81,7 @@ CASES = {
     "a redirect": Case(301, "/folder"),
     "a page that isn't there": Case(404, "/none"),
     "a method that isn't allowed": Case(405, "/page.txt", "DELETE"),
-    "a file of 4 MB": Case(200, "/big.bin"),
+    "a file of 9 MB": Case(200, "/big.bin"),
     "the largest body": Case(200, "/echo", "POST", body=bytes(LARGEST_BODY)),
     "a body in chunks": Case(200, "/echo", "POST", body=b"body" * 9000, is_chunked=True),
     "a body after 100 Continue": Case(200, "/echo", "POST", {"Expect": "100-continue"}, b"body"),
@@ -184,11 +185,16 @@ class NginxSetup:
             "client_max_body_size 1m; proxy_http_version 1.1; }\n"
             for target in ("/echo", "/all-fields")
         )
+        speaker = Endpoint(send_back).port
+        spoken = (
+            f"location = /chat {{ proxy_pass http://127.0.0.1:{speaker}; proxy_http_version 1.1; "
+            'proxy_set_header Upgrade $http_upgrade; proxy_set_header Connection "upgrade"; }\n'
+        )
         return placed(
             EXAMPLE / "endpoint.conf",
             {
                 "127.0.0.1:9101": f"127.0.0.1:{self.endpoint}",
-                "root /var/www/web;": f"root {self.folder}/pages;\n{sent}",
+                "root /var/www/web;": f"root {self.folder}/pages;\n{sent}{spoken}",
             },
         )
 
@@ -225,6 +231,15 @@ class NginxSetup:
     def end(self) -> None:
         for server in self.servers:
             server.end()
+
+
+def send_back(_: Request, connection: socket.socket) -> None:
+    """Accepts an upgrade, and sends back what comes."""
+    connection.sendall(
+        b"HTTP/1.1 101 Switching Protocols\r\nUpgrade: websocket\r\nConnection: Upgrade\r\n\r\n"
+    )
+    while piece := connection.recv(65536):
+        connection.sendall(piece)
 
 
 def write_pages(folder: pathlib.Path) -> None:
@@ -282,6 +297,25 @@ def compare(setup: NginxSetup) -> None:
     with contextlib.suppress(ssl.SSLError):
         setup.ask(setup.front, CASES["a page"], UNKNOWN_NAME)
         checks.fail("a name that isn't listed", "it got a connection")
+
+
+def upgrade(setup: NginxSetup) -> None:
+    """An upgrade passes nginx, the switch, and an endpoint that is nginx before a server."""
+    for name, front in (("with the switch", setup.front), ("without it", setup.plain_front)):
+        with setup.context.wrap_socket(connect(front), server_hostname=NAME) as client:
+            client.sendall(
+                b"GET /chat HTTP/1.1\r\nHost: web.example\r\nConnection: Upgrade\r\nUpgrade: websocket\r\n\r\n"
+            )
+            head = b""
+            while not head.endswith(b"\r\n\r\n"):
+                head += client.recv(1)
+            check(f"{name}: the status", head.split(b" ")[1], b"101")
+            for text in (b"one", b"two" * 30000):
+                client.sendall(text)
+                came = b""
+                while len(came) < len(text):
+                    came += client.recv(65536)
+                check(f"{name}: what comes back", came, text)
 
 
 def make_tools(folder: pathlib.Path) -> pathlib.Path:
@@ -405,6 +439,7 @@ def production() -> None:
         setup = NginxSetup(folder)
         try:
             compare(setup)
+            upgrade(setup)
             stop_by_unit(setup)
         finally:
             setup.end()
