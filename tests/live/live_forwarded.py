@@ -9,7 +9,8 @@ from collections.abc import Iterator, Sequence
 from typing import NamedTuple
 
 from support import checks
-from support.checks import check, comes
+from support.access_logs import entries_of
+from support.checks import check
 from support.clients import asked, received
 from support.endpoints import LONGEST, Request
 from support.kept import KeptClient, KeptEndpoint
@@ -19,7 +20,7 @@ from support.switch import Switch
 from support.traffic import ACCESS_LOG, prepared_log
 
 # isort: split; `support` tells where the tools' package is
-from bg_switch_tools.switch.access_log import LogEntry, read_lines
+from bg_switch_tools.switch.access_log import LogEntry
 
 FORWARDED, TRUSTS, KEEP_ALIVE, STREAM = (
     "--forwarded",
@@ -58,10 +59,7 @@ class Telling(NamedTuple):
 
     def entries(self, count: int) -> list[LogEntry]:
         """The entries of the log, once there are `count` of them."""
-        comes(lambda: self.log.read_bytes().count(b"\n") >= count)
-        batch = read_lines(self.log.read_bytes().splitlines())
-        check("lines that can't be read", (batch.unreadable, batch.lost), (0, 0))
-        return batch.entries
+        return entries_of(self.log, count)
 
 
 @contextlib.contextmanager

@@ -12,6 +12,7 @@ from collections.abc import Iterator, Sequence
 from typing import NamedTuple
 
 from support import checks, processes
+from support.access_logs import entries_of
 from support.checks import check, check_soon, check_within, comes
 from support.clients import asked, reset, timed
 from support.endpoints import BROKEN, WHOLE, Endpoint, by_target
@@ -54,7 +55,7 @@ from support.switch import LISTENING, USUAL_DESCRIPTORS, LaterEnd, Switch
 from support.traffic import ACCESS_LOG
 
 # isort: split; `support` tells where the tools' package is
-from bg_switch_tools.switch.access_log import LogEntry, read_lines
+from bg_switch_tools.switch.access_log import LogEntry
 
 KEEP_ALIVE = "--keep-alive"
 # So long that it ends nothing on a busy machine, in seconds: the timeout of messages, and that of idle
@@ -744,14 +745,6 @@ def preview_port() -> None:
         check("one connection to its endpoint", endpoint.connections, 1)
     finally:
         switch.stop()
-
-
-def entries_of(log: pathlib.Path, count: int) -> list[LogEntry]:
-    """The entries of a log, once there are `count` of them."""
-    comes(lambda: log.exists() and log.read_bytes().count(b"\n") >= count)
-    batch = read_lines(log.read_bytes().splitlines())
-    check("lines that can't be read", (batch.unreadable, batch.lost), (0, 0))
-    return batch.entries
 
 
 def place_of(entry: LogEntry) -> tuple[object, ...]:

@@ -13,6 +13,7 @@ from collections.abc import Callable, Iterator, Sequence
 from typing import NamedTuple
 
 from support import checks
+from support.access_logs import entries_of
 from support.checks import check, check_soon, check_within, comes
 from support.clients import connect, polite, received, reset, timed
 from support.endpoints import LONGEST, Request, chunked
@@ -23,7 +24,7 @@ from support.switch import Switch
 from support.traffic import ACCESS_LOG
 
 # isort: split; `support` tells where the tools' package is
-from bg_switch_tools.switch.access_log import LogEntry, read_lines
+from bg_switch_tools.switch.access_log import LogEntry
 
 STREAM, KEEP_ALIVE = "--stream", "--keep-alive"
 DRAINS = """{"spec": {"strategy": {"blueGreen": {"activeService": "web", "scaleDownDelaySeconds": 5,
@@ -124,10 +125,7 @@ class Streaming(NamedTuple):
 
     def entries(self, count: int) -> list[LogEntry]:
         """The entries of the log, once there are `count` of them."""
-        comes(lambda: self.log.exists() and self.log.read_bytes().count(b"\n") >= count)
-        batch = read_lines(self.log.read_bytes().splitlines())
-        check("lines that can't be read", (batch.unreadable, batch.lost), (0, 0))
-        return batch.entries
+        return entries_of(self.log, count)
 
     def is_free(self) -> bool:
         """Whether no request is open, and the endpoint has no connection, at a time that comes

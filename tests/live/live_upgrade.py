@@ -10,6 +10,7 @@ import time
 from collections.abc import Iterator, Sequence
 
 from support import checks
+from support.access_logs import entries_of
 from support.checks import check, comes
 from support.clients import asked, connect, received, reset
 from support.endpoints import LONGEST, Endpoint, Request
@@ -20,7 +21,7 @@ from support.switch import Switch
 from support.traffic import ACCESS_LOG, prepared_log
 
 # isort: split; `support` tells where the tools' package is
-from bg_switch_tools.switch.access_log import LogEntry, read_lines
+from bg_switch_tools.switch.access_log import LogEntry
 
 UPGRADE, KEEP_ALIVE, STREAM = "--upgrade", "--keep-alive", "--stream"
 END = b"\r\n\r\n"
@@ -109,10 +110,7 @@ class Tunnels:
 
     def entries(self, count: int) -> list[LogEntry]:
         """The entries of the log, once there are `count` of them."""
-        comes(lambda: self.log.read_bytes().count(b"\n") >= count)
-        batch = read_lines(self.log.read_bytes().splitlines())
-        check("lines that can't be read", (batch.unreadable, batch.lost), (0, 0))
-        return batch.entries
+        return entries_of(self.log, count)
 
 
 @contextlib.contextmanager
