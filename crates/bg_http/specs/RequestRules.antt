@@ -55,18 +55,18 @@ length_within most absent = Ok None
 length_within most (is digits) = size_or_too_large (number_within most digits)
 length_within most wrong = Err fault.Bad
 
--- the length that Content-Length gives: at most `MOST_REQUEST_BODY` (RFC 9110 section 8.6)
-abbrev pub body_length : RequestHead → Result (Option ℕ) RequestFault
-body_length head = length_within MOST_REQUEST_BODY (content_length head.fields)
+-- the length that Content-Length gives: at most `most` (RFC 9110 section 8.6)
+abbrev pub body_length_within : ℕ → RequestHead → Result (Option ℕ) RequestFault
+body_length_within most head = length_within most (content_length head.fields)
 
 -- if there is Content-Length, it gives one length, which is not too large
-abbrev pub length_fault : Rule
-length_fault head = result_err (body_length head)
+abbrev pub length_fault_within : ℕ → Rule
+length_fault_within most head = result_err (body_length_within most head)
 
--- the rules in their order
-abbrev pub request_rules : List Rule
-request_rules =
-    connect_fault ∷ host_fault ∷ framing_fault ∷ coding_fault ∷ length_fault ∷ []
+-- the rules in their order, for bodies of at most `most` bytes
+abbrev pub rules_within : ℕ → List Rule
+rules_within most =
+    connect_fault ∷ host_fault ∷ framing_fault ∷ coding_fault ∷ length_fault_within most ∷ []
 
 abbrev pub or_later : Option RequestFault → Option RequestFault → Option RequestFault
 or_later None later = later
@@ -84,18 +84,35 @@ framing_of_length (Ok (Some size)) = framing.Length size
 framing_of_length (Err fault) = framing.NoBody
 
 -- the framing of the body of a head that breaks no rule (RFC 9112 section 6.3)
-abbrev pub framing_of : RequestHead → Framing
-framing_of head =
+abbrev pub framing_within : ℕ → RequestHead → Framing
+framing_within most head =
     if has_field (codes "transfer-encoding") head.fields then framing.Chunks
-    else framing_of_length (body_length head)
+    else framing_of_length (body_length_within most head)
 
 abbrev pub unless_broken : Option RequestFault → Framing → Result Framing RequestFault
 unless_broken None framing = Ok framing
 unless_broken (Some fault) framing = Err fault
 
--- the judgement of a request's head: the first fault, or the framing of the body
+-- the judgement of a request's head: the first fault, or the framing of the body, of at most `most` bytes
+abbrev pub request_framing_within : ℕ → RequestHead → Result Framing RequestFault
+request_framing_within most head = unless_broken (first_broken (rules_within most) head) (framing_within most head)
+
+-- THE MOST BYTES OF A BODY THAT IS READ WHOLE
+
+abbrev pub body_length : RequestHead → Result (Option ℕ) RequestFault
+body_length = body_length_within MOST_REQUEST_BODY
+
+abbrev pub length_fault : Rule
+length_fault = length_fault_within MOST_REQUEST_BODY
+
+abbrev pub request_rules : List Rule
+request_rules = rules_within MOST_REQUEST_BODY
+
+abbrev pub framing_of : RequestHead → Framing
+framing_of = framing_within MOST_REQUEST_BODY
+
 abbrev pub request_framing : RequestHead → Result Framing RequestFault
-request_framing head = unless_broken (first_broken request_rules head) (framing_of head)
+request_framing = request_framing_within MOST_REQUEST_BODY
 
 -- the field is an Expect that is `100-continue`, in any case of its letters
 abbrev pub expects_continue : Field → Bool

@@ -7,6 +7,8 @@ use Rattle.bg_http.specs.ResponseRules.{has_no_body}
 use Rattle.bg_http.specs.declared.body_end.BodyEnd.{BodyEnd}
 use Rattle.bg_http.specs.declared.body_end.BodyEnd.TheVariants as end
 use Rattle.bg_http.specs.declared.request.Request.{Request}
+use Rattle.bg_http.specs.declared.request_rules.Framing.{Framing}
+use Rattle.bg_http.specs.declared.request_rules.Framing.TheVariants as framing
 use Rattle.bg_http.specs.declared.response.Response.{Response}
 
 -- a field's line
@@ -49,6 +51,19 @@ request_head_text keeps request port =
     request_line request ++ host_line request port
     ++ flat_map field_line (kept_in_request request.fields)
     ++ via_line request ++ size_line request.body ++ end_of_head keeps
+
+-- how a body ends that is passed on as it comes: by its length, or in chunks
+abbrev pub framing_line : Framing → List ℕ
+framing_line framing.NoBody = []
+framing_line framing.Chunks = codes "Transfer-Encoding: chunked\r\n"
+framing_line (framing.Length size) = codes "Content-Length: " ++ decimal size ++ codes "\r\n"
+
+-- the head of a request before such a body
+abbrev pub framed_head_text : Bool → Framing → Request → ℕ → List ℕ
+framed_head_text keeps named request port =
+    request_line request ++ host_line request port
+    ++ flat_map field_line (kept_in_request request.fields)
+    ++ via_line request ++ framing_line named ++ end_of_head keeps
 
 -- a request as it is forwarded to the port, on a connection that is kept or not
 abbrev pub request_text : Bool → Request → ℕ → List ℕ

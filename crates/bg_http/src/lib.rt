@@ -43,7 +43,9 @@ pub use refusal::{RefusalBody, RefusalPage, write_refusal_with};
 pub use removed::{is_forwarded, says_close};
 pub use request::{Request, RequestHead};
 pub use request_fault::RequestFault;
-pub use request_rules::{Framing, MOST_REQUEST_BODY, judge_request, owes_continue};
+pub use request_rules::{
+    Framing, MOST_REQUEST_BODY, judge_request, judge_request_within, owes_continue,
+};
 pub use response::{Response, ResponseHead};
 pub use response_fault::ResponseFault;
 pub use response_rules::{
@@ -51,5 +53,6 @@ pub use response_rules::{
 };
 pub use stream::{Duplex, MOST_TURNS};
 pub use writers::{
-    write_refusal, write_request, write_request_head, write_response, write_response_head,
+    write_framed_request_head, write_refusal, write_request, write_request_head, write_response,
+    write_response_head,
 };

@@ -41,9 +41,16 @@ pub const MOST_REQUEST_BODY: usize = 1_048_576;
 pub fn judge_request(head: &RequestHead) -> Result<Framing, RequestFault>
     ensures { result ≡ spec.request_framing head.now }
 {
-    match first_broken(head) {
+    judge_request_within(head, MOST_REQUEST_BODY)
+}
+
+/// As [`judge_request`], but its limit of a length is `most` bytes: it is TooLarge only above that.
+pub fn judge_request_within(head: &RequestHead, most: usize) -> Result<Framing, RequestFault>
+    ensures { result ≡ spec.request_framing_within most head.now }
+{
+    match first_broken(head, most) {
         Some(fault) => Err(fault),
-        None => Ok(framing_of(head)),
+        None => Ok(framing_of(head, most)),
     }
 }
 
@@ -81,27 +88,27 @@ fn has_body(framing: Framing) -> bool
 }
 
 /// The framing of the body of a head that breaks no rule.
-fn framing_of(head: &RequestHead) -> Framing
-    ensures { result ≡ spec.framing_of head.now }
+fn framing_of(head: &RequestHead, most: usize) -> Framing
+    ensures { result ≡ spec.framing_within most head.now }
 {
     if has_field(&head.fields, RuledName::TransferEncoding) {
         return Framing::Chunks;
     }
-    match body_length(head) {
+    match body_length(head, most) {
         Ok(Some(size)) => Framing::Length(size),
         Ok(None) | Err(_) => Framing::NoBody,
     }
 }
 
 /// The fault of the first rule that the head breaks.
-fn first_broken(head: &RequestHead) -> Option<RequestFault>
-    ensures { result ≡ spec.first_broken spec.request_rules head.now }
+fn first_broken(head: &RequestHead, most: usize) -> Option<RequestFault>
+    ensures { result ≡ spec.first_broken (spec.rules_within most) head.now }
 {
     connect_fault(head)
         .or_else(|| host_fault(head))
         .or_else(|| framing_fault(head))
         .or_else(|| coding_fault(head))
-        .or_else(|| length_fault(head))
+        .or_else(|| length_fault(head, most))
 }
 
 fn connect_fault(head: &RequestHead) -> Option<RequestFault>
@@ -159,19 +166,19 @@ fn coding_fault(head: &RequestHead) -> Option<RequestFault>
     None
 }
 
-fn length_fault(head: &RequestHead) -> Option<RequestFault>
-    ensures { result ≡ spec.length_fault head.now }
+fn length_fault(head: &RequestHead, most: usize) -> Option<RequestFault>
+    ensures { result ≡ spec.length_fault_within most head.now }
 {
-    body_length(head).err()
+    body_length(head, most).err()
 }
 
-/// The length that Content-Length gives.
-fn body_length(head: &RequestHead) -> Result<Option<usize>, RequestFault>
-    ensures { result ≡ spec.body_length head.now }
+/// The length that Content-Length gives, of at most `most` bytes.
+fn body_length(head: &RequestHead, most: usize) -> Result<Option<usize>, RequestFault>
+    ensures { result ≡ spec.body_length_within most head.now }
 {
     match content_length(&head.fields) {
         OneLength::Absent => Ok(None),
-        OneLength::Is(digits) => match value_within(digits, MOST_REQUEST_BODY) {
+        OneLength::Is(digits) => match value_within(digits, most) {
             Some(size) => Ok(Some(size)),
             None => Err(RequestFault::TooLarge),
         },

@@ -18,6 +18,7 @@ use crate::names::RuledName;
 use crate::persistence::Persistence;
 use crate::removed::{is_removed, is_removed_from_request};
 use crate::request::Request;
+use crate::request_rules::Framing;
 use crate::response::Response;
 use crate::response_rules::{asks_for_head, has_no_body};
 use std::io;
@@ -61,6 +62,27 @@ pub fn write_request_head<W: Write>(
     write_request_fields(&request.fields, writer)?;
     write_via(request, writer)?;
     write_size(&request.body, writer)?;
+    write_end_of_head(persistence, writer)
+}
+
+/// Writes the head of a request as [`write_request_head`] does, but with this framing in the place of the one of its body: of a
+/// body that is passed on as it comes. Before a body in chunks it writes `Transfer-Encoding: chunked`, and before one of a length
+/// Content-Length (RFC 9112 section 6). On Ok it has written exactly this.
+pub fn write_framed_request_head<W: Write>(
+    request: &Request,
+    framing: Framing,
+    port: u16,
+    persistence: Persistence,
+    writer: &mut W,
+) -> io::Result<()>
+    ensures { OnOk result (Appends (W.contents writer.old) (W.contents writer.new)
+        (spec.framed_head_text (keeps persistence) framing request.now port)) }
+{
+    write_request_line(request, writer)?;
+    write_host(request, port, writer)?;
+    write_request_fields(&request.fields, writer)?;
+    write_via(request, writer)?;
+    write_framing(framing, writer)?;
     write_end_of_head(persistence, writer)
 }
 
@@ -139,6 +161,18 @@ fn write_size<W: Write>(body: &Option<Bytes>, writer: &mut W) -> io::Result<()>
     match body {
         Some(body) => write!(writer, "Content-Length: {}\r\n", body.get().len()),
         None => Ok(()),
+    }
+}
+
+/// Writes the framing of a request's body, if there is a body.
+fn write_framing<W: Write>(framing: Framing, writer: &mut W) -> io::Result<()>
+    ensures { OnOk result (Appends (W.contents writer.old) (W.contents writer.new)
+        (spec.framing_line framing)) }
+{
+    match framing {
+        Framing::NoBody => Ok(()),
+        Framing::Chunks => writer.write_all(b"Transfer-Encoding: chunked\r\n"),
+        Framing::Length(size) => write!(writer, "Content-Length: {size}\r\n"),
     }
 }
 

@@ -23,7 +23,7 @@ use Rattle.bg_http_read.proofs.FieldTexts.{as_field, decimal_digits, good_closin
 
 -- ---- the fields that are forwarded
 
-good_hosts : (request : Request) (port : ℕ) → port < 2 ^ 16 → All IsPlainField (host_fields request port)
+pub good_hosts : (request : Request) (port : ℕ) → port < 2 ^ 16 → All IsPlainField (host_fields request port)
 unfolding is_token_byte
 good_hosts request port small = by_test ((request.minor == 0) && not (has_field (codes "host") request.fields))
   where
@@ -68,7 +68,7 @@ good_fields keeps input rest request port r small fits =
 
 -- ---- their text
 
-host_is : (request : Request) (port : ℕ) → flat_map field_line (host_fields request port) ≡ host_line request port
+pub host_is : (request : Request) (port : ℕ) → flat_map field_line (host_fields request port) ≡ host_line request port
 host_is request port = by_test ((request.minor == 0) && not (has_field (codes "host") request.fields))
   where
     by_test : (t : Bool) → flat_map field_line (if t then (codes "Host", codes "127.0.0.1:" ++ decimal port) ∷ [] else [])
@@ -76,7 +76,7 @@ host_is request port = by_test ((request.minor == 0) && not (has_field (codes "h
     by_test true = append-nil (field_line (codes "Host", codes "127.0.0.1:" ++ decimal port))
     by_test false = refl
 
-via_is : (request : Request) → field_line (via_field request) ≡ via_line request
+pub via_is : (request : Request) → field_line (via_field request) ≡ via_line request
 via_is request = by_test (request.minor == 0)
   where
     by_test : (t : Bool) → field_line (if t then (codes "Via", codes "1.0 bg-switch") else (codes "Via", codes "1.1 bg-switch"))

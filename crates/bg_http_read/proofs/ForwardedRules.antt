@@ -18,7 +18,7 @@ use Rattle.bg_http.specs.Elements.{Field, elements, elements_named, has_field, i
 use Rattle.bg_http.specs.Laws.{StaysHere}
 use Rattle.bg_http.specs.Lengths.{Length, absent, content_length, is, length_of, wrong}
 use Rattle.bg_http.specs.Removed.{is_named_by_connection, is_of_connection, is_removed, is_removed_from_request, kept_in_request}
-use Rattle.bg_http.specs.RequestRules.{body_length, coding_fault, connect_fault, expects_continue, first_broken, framing_fault, framing_of, framing_of_length, host_fault, length_fault, length_within, or_later, request_framing, request_rules, size_or_too_large, unless_broken}
+use Rattle.bg_http.specs.RequestRules.{body_length, body_length_within, coding_fault, connect_fault, expects_continue, first_broken, framing_fault, framing_of, framing_of_length, framing_within, host_fault, length_fault, length_within, or_later, request_framing, request_framing_within, request_rules, rules_within, size_or_too_large, unless_broken}
 use Rattle.bg_http.specs.Texts.{bytes_of}
 use Rattle.bg_http.specs.declared.request.Request.{Request}
 use Rattle.bg_http.specs.declared.request.RequestHead.{RequestHead}
@@ -37,11 +37,11 @@ NoneGoesOn name = (fields : List Field) → StaysHere fields name
 
 -- ---- what the request's own head passed
 
-unbroken : (x : Option RequestFault) (f g : Framing) → unless_broken x f ≡ Ok g → x ≡ None
+pub unbroken : (x : Option RequestFault) (f g : Framing) → unless_broken x f ≡ Ok g → x ≡ None
 unbroken None f g e = refl
 unbroken (Some fault) f g e = cc
 
-or_none : (a b : Option RequestFault) → or_later a b ≡ None → (a ≡ None) × (b ≡ None)
+pub or_none : (a b : Option RequestFault) → or_later a b ≡ None → (a ≡ None) × (b ≡ None)
 or_none None b e = (refl, e)
 or_none (Some x) b e = cc
 
@@ -54,18 +54,18 @@ passes head named e =
     (one.0, two.0)
 
 -- the body is within its limit
-length_is_within : (given : Length) (size : ℕ) → length_within most_body given ≡ Ok (Some size) → size ≤ most_body
-length_is_within absent size e = cc
-length_is_within (is digits) size e = by_test (nat_le (digits_value 10 digits) most_body) refl e
+length_is_within : (most : ℕ) (given : Length) (size : ℕ) → length_within most given ≡ Ok (Some size) → size ≤ most
+length_is_within most absent size e = cc
+length_is_within most (is digits) size e = by_test (nat_le (digits_value 10 digits) most) refl e
   where
-    by_test : (t : Bool) → nat_le (digits_value 10 digits) most_body ≡ t
-        → size_or_too_large (if t then Some (digits_value 10 digits) else None) ≡ Ok (Some size) → size ≤ most_body
+    by_test : (t : Bool) → nat_le (digits_value 10 digits) most ≡ t
+        → size_or_too_large (if t then Some (digits_value 10 digits) else None) ≡ Ok (Some size) → size ≤ most
     by_test true small e =
         let same : digits_value 10 digits ≡ size = cc in
-        let fits : digits_value 10 digits ≤ most_body = grind (arith, nat_tests) in
-        subst (λ n. n ≤ most_body) same fits
+        let fits : digits_value 10 digits ≤ most = grind (arith, nat_tests) in
+        subst (λ n. n ≤ most) same fits
     by_test false small e = cc
-length_is_within wrong size e = cc
+length_is_within most wrong size e = cc
 
 size_is_given : (given : Result (Option ℕ) RequestFault) (size : ℕ)
     → framing_of_length given ≡ framing.Length size → given ≡ Ok (Some size)
@@ -77,16 +77,16 @@ named_is : (broken : Option RequestFault) (found named : Framing) → unless_bro
 named_is None found named e = cc
 named_is (Some f) found named e = cc
 
-framed_within : (head : RequestHead) (size : ℕ) → request_framing head ≡ Ok (framing.Length size) → size ≤ most_body
-framed_within head size e =
+pub framed_within : (most : ℕ) (head : RequestHead) (size : ℕ) → request_framing_within most head ≡ Ok (framing.Length size) → size ≤ most
+framed_within most head size e =
     by_test (has_field (codes "transfer-encoding") head.fields)
-    (named_is (first_broken request_rules head) (framing_of head) (framing.Length size) e)
+    (named_is (first_broken (rules_within most) head) (framing_within most head) (framing.Length size) e)
   where
     by_test : (t : Bool)
-        → (if t then framing.Chunks else framing_of_length (body_length head)) ≡ framing.Length size → size ≤ most_body
+        → (if t then framing.Chunks else framing_of_length (body_length_within most head)) ≡ framing.Length size → size ≤ most
     by_test true e = cc
     by_test false e =
-        length_is_within (content_length head.fields) size (size_is_given (body_length head) size e)
+        length_is_within most (content_length head.fields) size (size_is_given (body_length_within most head) size e)
 
 pub body_within : (input : List ℕ) (request : Request) (rest : List ℕ) → ReadsRequest input request rest
     → length (bytes_of request.body) ≤ most_body
@@ -98,7 +98,7 @@ body_within input request rest r = by_framing r.framing r.body r.begins.judged
     by_framing framing.Chunks (bytes, same, reads, fits) judged =
         subst (λ b. length (bytes_of b) ≤ most_body) (sym same) fits
     by_framing (framing.Length size) (bytes, same, long, whole) judged =
-        let fits = framed_within r.head size judged in
+        let fits = framed_within most_body r.head size judged in
         subst (λ b. length (bytes_of b) ≤ most_body) (sym same) (omega (arith, long, fits))
 
 -- ---- names
@@ -133,10 +133,10 @@ hosts fields = count_by (is_named (codes "host")) fields
 hosts-cons : (f : Field) (fields : List Field) → hosts (f ∷ fields) ≡ cond (is_named (codes "host") f) 1 0 + hosts fields
 hosts-cons f fields = sum_by-cons (λ x. cond (is_named (codes "host") x) 1 0) f fields
 
-hosts-append : (one other : List Field) → hosts (one ++ other) ≡ hosts one + hosts other
+pub hosts-append : (one other : List Field) → hosts (one ++ other) ≡ hosts one + hosts other
 hosts-append one other = sum_by-append (λ x. cond (is_named (codes "host") x) 1 0) one other
 
-hosts_kept : (all fields : List Field) → hosts (filter (λ f. not (is_removed_from_request all f)) fields) ≡ hosts fields
+pub hosts_kept : (all fields : List Field) → hosts (filter (λ f. not (is_removed_from_request all f)) fields) ≡ hosts fields
 hosts_kept all [] = refl
 hosts_kept all (f ∷ fields) = by_test (is_removed_from_request all f) refl (is_named (codes "host") f) refl (hosts_kept all fields)
   where
@@ -150,7 +150,7 @@ hosts_kept all (f ∷ fields) = by_test (is_removed_from_request all f) refl (is
     by_test true e false u later = omega (arith, later, hosts-cons f fields, ap {B = ℕ} (λ b. cond b 1 0) u)
     by_test false e t u later = hosts-cons f kept ∙ ap (λ n. cond (is_named (codes "host") f) 1 0 + n) later ∙ sym (hosts-cons f fields)
 
-has_none : (fields : List Field) → has_field (codes "host") fields ≡ false → hosts fields ≡ 0
+pub has_none : (fields : List Field) → has_field (codes "host") fields ≡ false → hosts fields ≡ 0
 has_none [] h = refl
 has_none (f ∷ fields) h =
     let parts = or_parts (is_named (codes "host") f) (has_field (codes "host") fields) h in
@@ -165,7 +165,7 @@ has_some (f ∷ fields) h = by_test (is_named (codes "host") f) refl h (has_some
     by_test true e h later = omega (arith, hosts-cons f fields, ap {B = ℕ} (λ b. cond b 1 0) e)
     by_test false e h later = omega (arith, hosts-cons f fields, later h)
 
-limits : (n : ℕ) (t : Bool)
+pub limits : (n : ℕ) (t : Bool)
     → (if nat_lt 1 n || (n == 0 && not t) then Some fault.Bad else None) ≡ None
     → (n ≤ 1) × (t ≡ false → 1 ≤ n)
 limits n t h = by_test (nat_lt 1 n) refl (n == 0) refl t h
@@ -207,12 +207,12 @@ no_coding_in_tail false false (Some body) = refl
 abbrev pub hosts_of : Bool → ℕ → List Field
 hosts_of t port = if t then (codes "Host", codes "127.0.0.1:" ++ decimal port) ∷ [] else []
 
-no_coding_in_hosts : (t : Bool) (port : ℕ) → has_field (codes "transfer-encoding") (hosts_of t port) ≡ false
+pub no_coding_in_hosts : (t : Bool) (port : ℕ) → has_field (codes "transfer-encoding") (hosts_of t port) ≡ false
 no_coding_in_hosts true port = refl
 no_coding_in_hosts false port = refl
 
 -- a request is forwarded with one Host
-sum_of : (request : Request) (port : ℕ) → hosts request.fields ≤ 1
+pub sum_of : (request : Request) (port : ℕ) → hosts request.fields ≤ 1
     → ((request.minor == 0) ≡ false → 1 ≤ hosts request.fields)
     → hosts (host_fields request port) + hosts request.fields ≡ 1
 sum_of request port few some =
@@ -255,7 +255,7 @@ abbrev pub lengths_of : Option (List ℕ) → List (List ℕ)
 lengths_of None = []
 lengths_of (Some body) = decimal (length body) ∷ []
 
-lengths_in_hosts : (t : Bool) (port : ℕ) → elements_named (codes "content-length") (hosts_of t port) ≡ []
+pub lengths_in_hosts : (t : Bool) (port : ℕ) → elements_named (codes "content-length") (hosts_of t port) ≡ []
 lengths_in_hosts true port = refl
 lengths_in_hosts false port = refl
 

@@ -18,6 +18,7 @@ pub mod ForwardedHeads
 pub mod ForwardedRequests
 pub mod ForwardedRules
 pub mod FramedBodies
+pub mod FramedHeads
 pub mod Fronts
 pub mod GivenLength
 pub mod HeadLengths

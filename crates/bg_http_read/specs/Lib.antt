@@ -6,6 +6,7 @@ pub mod BodyFaults
 pub mod BodyFramings
 pub mod Chunks
 pub mod ForwardedRequests
+pub mod FramedHeads
 pub mod HeadEnds
 pub mod HeadFaults
 pub mod Heads

@@ -6,11 +6,13 @@ ghost use Rattle.bg_http.specs.declared.body_end.BodyEnd.{BodyEnd};
 ghost use Rattle.bg_http.specs.declared.request.Request.{Request};
 ghost use Rattle.bg_http.specs.declared.request.RequestHead.{RequestHead};
 ghost use Rattle.bg_http.specs.declared.request_fault.RequestFault.{RequestFault};
+ghost use Rattle.bg_http.specs.declared.request_rules.Framing.{Framing};
 ghost use Rattle.bg_http.specs.declared.response.Response.{Response};
 ghost use Rattle.bg_http.specs.declared.response.ResponseHead.{ResponseHead};
 ghost use Rattle.bg_http.specs.declared.response_fault.ResponseFault.{ResponseFault};
 ghost use Rattle.bg_http.specs.declared.response_rules.ResponseFraming.{ResponseFraming};
 ghost use Rattle.bg_http_read.specs.AnsweredRequests.{Answering, AreReadAsAnswered};
+ghost use Rattle.bg_http_read.specs.FramedHeads.{IsJudgedAsFramed, IsJudgedWithin, IsReadBeforeBody};
 ghost use Rattle.bg_http_read.specs.ForwardedRequests.{AreReadAsForwarded, Forwarding, via_field};
 ghost use Rattle.bg_http_read.specs.Laws.{HasOneFault, HasOneResponseFault, StaysAtFault};
 ghost use Rattle.bg_http_read.specs.Laws.{RequestExcludesFaults, ResponseExcludesFaults};
@@ -171,6 +173,20 @@ pub fn a_drained_connection_continues_its_sequence()
 pub fn an_endpoint_reads_the_requests_that_were_forwarded()
     ensures { (port : ℕ) (forwardings : List Forwarding) (others : List Request) (rest : List ℕ)
         → AreReadAsForwarded port forwardings others rest }
+{
+    bg_http::laws::only_one_length_goes_on();
+}
+
+/// What is written of the head of a request before its body is whole (`write_framed_request_head` of bg_http) is read, whatever
+/// follows, as exactly this head and as no other, and then what follows: with the fields that are kept, and with the field that tells
+/// how the body ends. This holds of a head that was read. If that head passed the rules, the one that is written passes them, and is
+/// judged to have the framing in which it was written. A length that is judged so is within its limit.
+pub fn an_endpoint_reads_the_head_before_a_body()
+    ensures head { (keeps : Bool) (named : Framing) (request : Request) (port : ℕ) (input rest more : List ℕ)
+        → IsReadBeforeBody keeps named request port input rest more }
+    ensures framing { (keeps : Bool) (named : Framing) (request : Request) (port own : ℕ) (came : Framing) (most : ℕ)
+        → IsJudgedAsFramed keeps named request port own came most }
+    ensures within { (most : ℕ) (head : RequestHead) (named : Framing) → IsJudgedWithin most head named }
 {
     bg_http::laws::only_one_length_goes_on();
 }

@@ -43,6 +43,7 @@ pub use ghost_request::GhostRequest;
 pub use in_memory::request_in;
 pub use received_response::ReceivedResponse;
 pub use refused_head::RefusedHead;
+pub use request_head::find_request_head;
 pub use request_parser::RequestParser;
 pub use request_read::read_request;
 pub use request_step::RequestStep;

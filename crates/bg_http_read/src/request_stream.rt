@@ -1,6 +1,6 @@
 //! The requests of a connection, one after the other.
 ghost use Rattle.std.specs.Prelude.{◌≡◌, ◌++◌, [], Bool, false, true, is_ok, IfErr, IfOk, IsFalse, IsTrue};
-ghost use Rattle.std.specs.Prelude.{IfNone, IfSome, None, Ok};
+ghost use Rattle.std.specs.Prelude.{IfNone, IfSome, None, Ok, OnErr};
 ghost use Rattle.std.specs.Option.{option_copied, option_map};
 ghost use Rattle.bg_http.specs.declared.request_fault.RequestFault.TheVariants as request_fault;
 ghost use Rattle.bg_http_read.specs.ArrivingHeads.{BeginsWith};
@@ -92,6 +92,7 @@ impl RequestStream {
             × LacksRequest (self.old.since ++ bytes.now))) }
         ensures refused { IfErr result (λ fault.
             IsRefusedAsked self.old.asked fault (self.old.since ++ bytes.now)) }
+        ensures came { OnErr result (self.new.since ≡ self.old.since ++ bytes.now) }
         ensures fault { IfErr result (λ fault. IsFalse (is_of_stream fault)) }
         ensures goes_on { self.new.is_open ≡ is_ok result }
         ensures head { IfErr result (λ fault.
