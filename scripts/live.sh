@@ -25,6 +25,7 @@
 #   live_error_pages the pages of refusals
 #   live_addresses   endpoints at other addresses than 127.0.0.1
 #   live_streams     responses that are passed on as they come
+#   live_uploads, live_cut_uploads, live_slow_uploads   large requests that are passed on as they come: whole, cut, and slow
 #   live_forwarded   what requests tell their endpoints of where they come from
 #   live_upgrade     upgrades, as WebSockets, and the tunnels that they become
 #   live_containers  the files of examples/production/containers, with endpoints in a network namespace
@@ -47,7 +48,7 @@ trap 'rm -rf "$work"' EXIT
 parts='live_clients live_history live_endpoints live_operators live_access_log_random live_control live_operator live_concurrency
     live_access_log live_timeouts live_operating live_random live_analysis live_shutdown live_attack live_controller live_event_loop
     live_keep_alive live_resources live_streams live_journal live_memory live live_readme live_production live_error_pages live_addresses
-    live_forwarded live_upgrade live_containers live_starting'
+    live_forwarded live_upgrade live_slow_uploads live_cut_uploads live_uploads live_containers live_starting'
 # These run alone, since they start many programs: controllers with their switches, a browser, and fleets.
 alone='live_crash live_resumed live_dashboard live_fleet live_fleet_pages'
 # play COUNT PART..: runs the parts, so many at a time.

@@ -52,6 +52,9 @@ SCRIPTS = (
     "live_streams",
     "live_forwarded",
     "live_upgrade",
+    "live_uploads",
+    "live_cut_uploads",
+    "live_slow_uploads",
 )
 # The first port of the scripts, and the first that the system gives to connections of itself.
 FIRST_PORT, SYSTEM_PORT = 19_500, 32_768

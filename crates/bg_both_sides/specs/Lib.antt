@@ -1,6 +1,7 @@
 pub mod Answers
 pub mod ClientEvents
 pub mod EndpointEvents
+pub mod LargeRequests
 pub mod Laws
 pub mod Runs
 pub mod Sides

@@ -26,6 +26,7 @@ const SETTINGS: ClientSettings = ClientSettings {
     request_millis: 10_000,
     idle_millis: 60_000,
     refusal_body: RefusalBody::Empty,
+    keeps_arriving: false,
 };
 
 const ROUTE: Route = Route {

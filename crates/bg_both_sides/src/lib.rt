@@ -13,6 +13,7 @@ mod endpoint_events;
 mod endpoint_side;
 mod endpoint_step;
 mod entering;
+mod large_requests;
 pub mod laws;
 mod route;
 mod stream_limits;

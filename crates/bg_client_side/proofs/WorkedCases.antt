@@ -42,6 +42,7 @@ for_two = record {
   request_millis = 10;
   idle_millis = 60;
   refusal_body = Empty;
+  keeps_arriving = false;
 }
 
 abbrev first : Client

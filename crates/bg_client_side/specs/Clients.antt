@@ -40,23 +40,41 @@ at_until new until c = record c { stage = new; facts = record c.facts { until = 
 abbrev pub left : Client → Client
 left c = at stage.Left c
 
--- a connection that was accepted now
-abbrev pub accepted : ClientSettings → ℕ → Client
-accepted settings now = record {
+-- a connection at this stage, of which no byte came
+abbrev pub opened : Stage → ClientSettings → ℕ → Client
+opened first settings until = record {
   since = [];
   asked = false;
   refused = None;
-  stage = stage.Reading;
+  stage = first;
   facts = record {
     settings = settings;
     answered = 0;
     is_to_stay = false;
-    until = later now settings.request_millis;
+    until = until;
     has_ended = false;
     has_failed = false;
     is_closing = false;
   };
 }
+
+-- a connection that was accepted now
+abbrev pub accepted : ClientSettings → ℕ → Client
+accepted settings now = opened stage.Reading settings (later now settings.request_millis)
+
+-- one whose request waits for a seat, and comes as it is forwarded
+abbrev pub with_large : ClientSettings → Request → Client
+with_large settings request = opened (stage.Waiting request) settings 0
+
+-- one that ends after this answer
+abbrev pub with_last_answer : ClientSettings → Outgoing → Bool → ℕ → Client
+with_last_answer settings text was_whole now =
+    opened (stage.Answering (record { text = text; goes_on = false; was_whole = was_whole; last = later now 600000 }))
+    settings (later now 30000)
+
+-- one that has left
+abbrev pub without_any : ClientSettings → Client
+without_any settings = opened stage.Left settings 0
 
 -- READING
 

@@ -1,3 +1,4 @@
+pub mod Arriving
 pub mod Clients
 pub mod Facts
 pub mod Laws

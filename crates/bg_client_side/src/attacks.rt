@@ -17,6 +17,7 @@ const SETTINGS: ClientSettings = ClientSettings {
     request_millis: 10_000,
     idle_millis: 60_000,
     refusal_body: RefusalBody::Empty,
+    keeps_arriving: true,
 };
 
 /// Where a connection is after its events.

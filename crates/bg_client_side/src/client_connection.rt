@@ -1,14 +1,17 @@
 //! A connection of a client that is kept over several requests.
-ghost use Rattle.std.specs.Prelude.{◌≡◌, ◌&&◌, ◌||◌, not, IfSome, IsTrue, None, true};
+ghost use Rattle.std.specs.Prelude.{◌≡◌, ◌&&◌, ◌||◌, [], not, IfSome, IsTrue, None, true, vec_capacity};
 ghost use Rattle.std.specs.Option.{option_copied, option_map};
 ghost use Rattle.bg_http.specs.Persistences.{keeps};
 ghost use Rattle.bg_http_read.specs.ArrivingHeads.{BeginsWith};
 ghost use Rattle.bg_http_read.specs.RefusedHeads.{is_sound_head};
-ghost use Rattle.bg_client_side.specs.Clients.{accepted, stays_after};
+ghost use Rattle.bg_client_side.specs.Clients.{accepted, opened, stays_after, with_large, with_last_answer, without_any};
+ghost use Rattle.bg_client_side.specs.Sound.{IsSound};
 ghost use Rattle.bg_client_side.specs.Stages.{has_left, is_idle, is_inside, is_passing_on, owes_continue, reads, takes_bytes, to_write, waiting_request, was_whole};
 
+use crate::arriving_bytes::ArrivingBytes;
 use crate::facts::{ClientFacts, ClientSettings, later};
-use crate::stage::Stage;
+use crate::outgoing::OutgoingResponse;
+use crate::stage::{ANSWER_MILLIS, Answering, STILL_MILLIS, Stage};
 use bg_http::{Persistence, RefusalBody, Request, RequestHead};
 use bg_http_read::RequestStream;
 use std::alloc::Global;
@@ -19,6 +22,8 @@ use std::marker::Model;
 /// milliseconds from the start of the program.
 pub struct ClientConnection {
     pub(crate) stream: RequestStream,
+    /// What came since the end of the last request, if it is kept.
+    pub(crate) arriving: ArrivingBytes,
     pub(crate) stage: Stage,
     pub(crate) facts: ClientFacts,
 }
@@ -28,6 +33,7 @@ impl Drop for ClientConnection {
     fn drop(self) {
         let ClientConnection {
             stream: _,
+            arriving: _,
             stage: _,
             facts: _,
         } = self;
@@ -36,6 +42,7 @@ impl Drop for ClientConnection {
 
 impl Model for ClientConnection {
     ghost use Rattle.bg_client_side.specs.Clients.{Client};
+    ghost use Rattle.bg_client_side.specs.Arriving.{AreKept};
     ghost use Rattle.bg_client_side.specs.Sound.{IsSound, KeepsUnread};
 
     ghost Value = { Client };
@@ -48,7 +55,8 @@ impl Model for ClientConnection {
       facts = c.facts;
     } };
 
-    ghost invariant = { λ c. IsSound c.stream.is_open c.stage c.facts × KeepsUnread c.stage c.stream.waits };
+    ghost invariant = { λ c. IsSound c.stream.is_open c.stage c.facts × KeepsUnread c.stage c.stream.waits
+        × AreKept c.stream.since c.arriving };
 }
 
 impl ClientConnection {
@@ -56,14 +64,68 @@ impl ClientConnection {
     pub fn new(alloc: Global, settings: ClientSettings, now: u64) -> ClientConnection
         ensures { result ≡ accepted settings now }
     {
+        ClientConnection::opened(
+            alloc,
+            Stage::Reading,
+            settings,
+            later(now, settings.request_millis),
+        )
+    }
+
+    /// A connection whose request waits for a seat, and comes as it is forwarded: its caller reads its body. So no byte is read here, and
+    /// the connection ends after its answer.
+    pub fn of_large(alloc: Global, settings: ClientSettings, request: Request) -> ClientConnection
+        ensures { result ≡ with_large settings request }
+    {
+        ClientConnection::opened(alloc, Stage::Waiting(request), settings, 0)
+    }
+
+    /// A connection that ends after this answer, whose request was read whole or not.
+    pub fn of_last(
+        alloc: Global,
+        settings: ClientSettings,
+        text: Vec<u8>,
+        was_whole: bool,
+        now: u64,
+    ) -> ClientConnection
+        ensures { result
+            ≡ with_last_answer settings (record { sent = []; rest = text.items; weight = vec_capacity text }) was_whole now }
+    {
+        let answering = Answering {
+            text: OutgoingResponse::new(text),
+            goes_on: false,
+            was_whole,
+            last: later(now, ANSWER_MILLIS),
+        };
+        ClientConnection::opened(
+            alloc,
+            Stage::Answering(answering),
+            settings,
+            later(now, STILL_MILLIS),
+        )
+    }
+
+    /// A connection that has left.
+    pub fn of_none(alloc: Global, settings: ClientSettings) -> ClientConnection
+        ensures { result ≡ without_any settings }
+    {
+        ClientConnection::opened(alloc, Stage::Left, settings, 0)
+    }
+
+    /// A connection that begins at this stage, of which no byte came.
+    fn opened(alloc: Global, stage: Stage, settings: ClientSettings, until: u64) -> ClientConnection
+        requires { IsSound true stage (opened stage settings until).facts }
+        ensures { result ≡ opened stage settings until }
+    {
         ClientConnection {
             stream: RequestStream::new(alloc),
-            stage: Stage::Reading,
+            arriving: ArrivingBytes::new(alloc, settings.keeps_arriving),
+            stage,
             facts: ClientFacts {
                 settings,
                 answered: 0,
                 is_to_stay: false,
-                until: later(now, settings.request_millis),
+                until,
                 has_ended: false,
                 has_failed: false,
                 is_closing: false,
@@ -138,6 +200,13 @@ impl ClientConnection {
         ensures { result.now ≡ self.now.since }
     {
         self.stream.unread()
+    }
+
+    /// All bytes that came since the end of the last request, if they are kept (`keeps_arriving`) and there was memory for them.
+    pub fn arriving(&self) -> Option<&[u8]>
+        ensures { IfSome result (λ bytes. bytes.now ≡ self.now.since) }
+    {
+        self.arriving.get()
     }
 
     /// Whether the connection failed while its request was inside, or its client was late to take a response that is passed

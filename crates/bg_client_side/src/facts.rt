@@ -18,6 +18,8 @@ pub struct ClientSettings {
     pub idle_millis: u64,
     /// What the refusals of its requests have as their bodies.
     pub refusal_body: RefusalBody,
+    /// Whether the bytes of a request that arrives are kept as they came, so that a large one can be passed on before it is whole.
+    pub keeps_arriving: bool,
 }
 
 /// What is known of a connection beside its stage. Moments are milliseconds from the start of the program.

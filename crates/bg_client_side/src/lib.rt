@@ -3,6 +3,7 @@
 #![tactic(auto)]
 
 mod answering;
+mod arriving_bytes;
 #[cfg(test)]
 mod attacks;
 mod client_connection;

@@ -68,19 +68,23 @@ impl ClientConnection {
     {
         match self.stream.feed(bytes) {
             Ok(RequestStep::More) => {
+                self.arriving.add(bytes);
                 self.rest_now();
                 Fed::More
             }
             Ok(RequestStep::Continue) => {
+                self.arriving.add(bytes);
                 self.stage = Stage::Continuing;
                 Fed::OwesContinue
             }
             Ok(RequestStep::Whole(request)) => {
+                self.arriving.begin(self.stream.unread());
                 self.facts.is_to_stay = asks_to_keep(&request);
                 self.stage = Stage::Waiting(request);
                 Fed::Whole
             }
             Err(fault) => {
+                self.arriving.add(bytes);
                 self.stage = Stage::Refused(fault);
                 Fed::Refused(fault)
             }

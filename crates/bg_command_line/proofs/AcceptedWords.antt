@@ -1,6 +1,6 @@
 -- The matches of the words that the program accepts.
-use Rattle.std.proofs.Common.{◌≡◌, ◌≢◌, inl, inr, arith, slice_index, List, [], ◌∷◌, refl, sym, ◌∙◌, ap, subst}
-use Rattle.std.specs.Prelude.{Bool, true, false, Option, Some, None, codes, is_some, option_map}
+use Rattle.std.proofs.Common.{◌≡◌, ◌≢◌, inl, inr, arith, slice_index, ℕ, List, [], ◌∷◌, refl, sym, ◌∙◌, ap, subst}
+use Rattle.std.specs.Prelude.{Bool, true, false, ◌&&◌, ◌||◌, not, Option, Some, None, codes, is_some, option_map}
 use Rattle.clap.specs.Walk.{Row, Text, first_of, nothing_held, rows_after}
 use Rattle.clap.specs.Simple.{Shape, App, built, argument_words, subcommand_of}
 use Rattle.clap.specs.Faults.{fault_of, level_fault}
@@ -9,9 +9,11 @@ use Rattle.clap.specs.declared.parser.matches.ArgMatches.{ArgMatches}
 use Rattle.clap.proofs.OnLiterals.{clap_on_literals}
 use Rattle.bg_command_line.specs.declared.invocation.Flags.{Flags}
 use Rattle.bg_command_line.specs.declared.invocation.Invocation.{Invocation}
+use Rattle.bg_command_line.specs.declared.invocation.Invocation.TheVariants.{Check, Journal, Replay, RestartJournal, Serve}
 use Rattle.bg_command_line.specs.AcceptedRows.{IsIn, IsKnown, HasWordsOfServe}
-use Rattle.bg_command_line.specs.GivenWords.{is_in_conflict}
-use Rattle.bg_command_line.specs.Invocations.{IsInvocationOf}
+use Rattle.bg_command_line.specs.GivenWords.{is_in_conflict, lacks_stream}
+use Rattle.bg_command_line.specs.Invocations.{IsInvocationOf, NeedsStream}
+use Rattle.bg_command_line.specs.ServeArguments.{has_flag, number}
 use Rattle.bg_command_line.specs.Subcommands.{program, check_app}
 use Rattle.bg_command_line.proofs.Entered.{Among, one_entered}
 use Rattle.bg_command_line.proofs.SubcommandRows.{built_sub, journal, journal_known, replay, replay_known, serve, serve_known}
@@ -171,3 +173,29 @@ invocation_as {f} {flags} {n} {name} {r} {rows} o d e k h =
 
 pub still_in_conflict : {f flags : Flags} {b : Bool} {r rows : List Row} → f ≡ flags → r ≡ rows → b ≡ is_in_conflict f r → is_in_conflict flags rows ≡ b
 still_in_conflict d k h = rw (← d, ← k) (sym h)
+
+pub still_lacks : {b : Bool} {r rows : List Row} → r ≡ rows → b ≡ lacks_stream r → lacks_stream rows ≡ b
+still_lacks k h = rw (← k) (sym h)
+
+-- what a number is made of is there
+number_given : (o : Option Text) (n : Option ℕ) → n ≡ option_map number o → is_some n ≡ true → is_some o ≡ true
+number_given None n is given = rw is at given
+number_given (Some t) n is given = refl
+
+streams_by : (stream buffer body : Bool) → (not stream && (buffer || body)) ≡ false → (buffer ≡ true → stream ≡ true) × (body ≡ true → stream ≡ true)
+streams_by true buffer body e = (λ _. refl, λ _. refl)
+streams_by false true body e = cc
+streams_by false false true e = cc
+streams_by false false false e = (λ h. cc, λ h. cc)
+
+-- what needs `--stream` is set only with it
+pub needs_stream : (flags : Flags) (name : Text) (rows : List Row) (o : Invocation) → lacks_stream rows ≡ false → IsInvocationOf flags name rows o → NeedsStream o
+needs_stream flags name rows Check streams is = tt
+needs_stream flags name rows (Replay seats) streams is = tt
+needs_stream flags name rows (Journal path) streams is = tt
+needs_stream flags name rows (RestartJournal path ports) streams is = tt
+needs_stream flags name rows (Serve settings) streams is =
+    let by = streams_by (has_flag (codes "stream") rows) (is_some (first_of (codes "buffer") rows)) (is_some (first_of (codes "max-request-body") rows)) streams in (
+      λ given. is.1.stream_is ∙ by.0 (number_given (first_of (codes "buffer") rows) settings.buffer is.1.buffer_is given),
+      λ given. is.1.stream_is ∙ by.1 (number_given (first_of (codes "max-request-body") rows) settings.max_request_body is.1.max_request_body_is given),
+    )

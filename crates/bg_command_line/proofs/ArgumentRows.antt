@@ -8,7 +8,7 @@ use Rattle.clap.specs.Kinds.{range_kinds}
 use Rattle.clap.specs.Faults.{level_fault, use_fault, walk_fault, repeat_fault}
 use Rattle.clap.specs.declared.builder.value_parser.Reading.TheVariants as reading
 use Rattle.clap.specs.declared.parser.matches.ValueSource.TheVariants as value_source
-use Rattle.bg_command_line.specs.OptionRules.{number_rule, required_rule, flag_rule_required_if, rule_required_if, text_rule_required_if, texts_rule_required_if, word_rule_required_if}
+use Rattle.bg_command_line.specs.OptionRules.{number_rule, range_rule, required_rule, flag_rule_required_if, rule_required_if, text_rule_required_if, texts_rule_required_if, word_rule_required_if}
 use Rattle.bg_command_line.specs.Subcommands.{count_rule}
 use Rattle.bg_command_line.proofs.WordsTaken.{none_else, walk_keeps, settled_keeps}
 use Rattle.bg_command_line.proofs.ValuesAccepted.{AreGood, append_keeps, is_accepted, flag_full, option_full, use_keeps, with_values_keeps}
@@ -32,11 +32,14 @@ found_each K p (x ∷ xs) a all e = go (p x) e (λ h. found_each K p xs a all.1 
 abbrev pub held : Rule → Rule
 held r = with_index 1 (filled r)
 
-pub number_keeps : (c : List Rule) (name : Text) (most : ℕ) → arg_by_id c (number_rule name most).id ≡ Some (held (number_rule name most)) → Keeps c (held (number_rule name most))
-number_keeps c name most own values rows g e =
+pub range_keeps : (c : List Rule) (name : Text) (least most : ℕ) → arg_by_id c (range_rule name least most).id ≡ Some (held (range_rule name least most)) → Keeps c (held (range_rule name least most))
+range_keeps c name least most own values rows g e =
     let f = none_else (range_kinds 1 1 (length values)) _ e in
-    let h = none_else (repeat_fault false (number_rule name most).id rows) _ f.1 in
-    use_keeps c (held (number_rule name most)) reading.AsWritten value_source.CommandLine _ rows own (option_full (held (number_rule name most)) values f.0) h.1 g
+    let h = none_else (repeat_fault false (range_rule name least most).id rows) _ f.1 in
+    use_keeps c (held (range_rule name least most)) reading.AsWritten value_source.CommandLine _ rows own (option_full (held (range_rule name least most)) values f.0) h.1 g
+
+pub number_keeps : (c : List Rule) (name : Text) (most : ℕ) → arg_by_id c (number_rule name most).id ≡ Some (held (number_rule name most)) → Keeps c (held (number_rule name most))
+number_keeps c name most own = range_keeps c name 1 most own
 
 pub required_keeps : (c : List Rule) (name : Text) (most : ℕ) → arg_by_id c (required_rule name most).id ≡ Some (held (required_rule name most)) → Keeps c (held (required_rule name most))
 required_keeps c name most own values rows g e =

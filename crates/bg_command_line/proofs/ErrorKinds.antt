@@ -12,8 +12,8 @@ use Rattle.clap.specs.declared.error.kind.ErrorKind.{ErrorKind}
 use Rattle.clap.specs.declared.error.kind.ErrorKind.TheVariants as kind
 use Rattle.bg_command_line.specs.declared.invocation.InvocationFault.{InvocationFault}
 use Rattle.bg_command_line.specs.declared.invocation.InvocationFault.TheVariants.{OutOfMemory, Words}
-use Rattle.bg_command_line.specs.GivenWords.{flags_of, is_in_conflict, kinds_of}
-use Rattle.bg_command_line.specs.Invocations.{IsAddressFault, IsConflict, IsFaultFrom, IsFaultIn}
+use Rattle.bg_command_line.specs.GivenWords.{flags_of, is_in_conflict, kinds_of, lacks_stream}
+use Rattle.bg_command_line.specs.Invocations.{IsAddressFault, IsConflict, IsFaultFrom, IsFaultIn, IsMissing}
 use Rattle.bg_command_line.specs.Subcommands.{program}
 use Rattle.bg_command_line.proofs.AcceptedWords.{is_free_program}
 
@@ -34,23 +34,32 @@ fault_as words app e (Words x) is has from =
     ] in
     rw from.0 (inl (among, from.1))
 
--- words that `clap` accepts give no error other than that of a conflict
-kinds_are : (words : List Text) (name : Text) (rows : List Row) (b : Bool) → fault_of (program (flags_of words)) words ≡ []
+-- words that `clap` accepts give no error other than that of a conflict, or else that of `--stream` where it is needed
+kinds_are : (words : List Text) (name : Text) (rows : List Row) (b lacks : Bool) → fault_of (program (flags_of words)) words ≡ []
     → subcommand_of (program (flags_of words)) words ≡ Some (name, rows) → is_in_conflict (flags_of words) rows ≡ b
-    → kinds_of words ≡ cond b (kind.ArgumentConflict ∷ []) []
-kinds_are words name rows b none is conflict = rw (none, is, conflict) refl
+    → lacks_stream rows ≡ lacks
+    → kinds_of words ≡ cond b (kind.ArgumentConflict ∷ []) (cond lacks (kind.MissingRequiredArgument ∷ []) [])
+kinds_are words name rows b lacks none is conflict stream = rw (none, is, conflict, stream) refl
 
 pub no_kinds : (words : List Text) (name : Text) (rows : List Row) → fault_of (program (flags_of words)) words ≡ []
     → subcommand_of (program (flags_of words)) words ≡ Some (name, rows) → is_in_conflict (flags_of words) rows ≡ false
-    → kinds_of words ≡ []
-no_kinds words name rows none is conflict = kinds_are words name rows false none is conflict
+    → lacks_stream rows ≡ false → kinds_of words ≡ []
+no_kinds words name rows none is conflict stream = kinds_are words name rows false false none is conflict stream
 
 pub conflict_as : (words : List Text) (name : Text) (rows : List Row) (fault : InvocationFault) → fault_of (program (flags_of words)) words ≡ []
     → subcommand_of (program (flags_of words)) words ≡ Some (name, rows) → is_in_conflict (flags_of words) rows ≡ true
     → IsConflict fault → IsFaultIn words fault
 conflict_as words name rows OutOfMemory none is conflict e_is = tt
 conflict_as words name rows (Words e) none is conflict e_is =
-    let kinds : kinds_of words ≡ kind.ArgumentConflict ∷ [] = kinds_are words name rows true none is conflict in
+    let kinds : kinds_of words ≡ kind.ArgumentConflict ∷ [] = kinds_are words name rows true (lacks_stream rows) none is conflict refl in
+    inl (rw kinds (inl e_is), λ memory. cc)
+
+pub missing_as : (words : List Text) (name : Text) (rows : List Row) (fault : InvocationFault) → fault_of (program (flags_of words)) words ≡ []
+    → subcommand_of (program (flags_of words)) words ≡ Some (name, rows) → is_in_conflict (flags_of words) rows ≡ false
+    → lacks_stream rows ≡ true → IsMissing fault → IsFaultIn words fault
+missing_as words name rows OutOfMemory none is conflict stream e_is = tt
+missing_as words name rows (Words e) none is conflict stream e_is =
+    let kinds : kinds_of words ≡ kind.MissingRequiredArgument ∷ [] = kinds_are words name rows false true none is conflict stream in
     inl (rw kinds (inl e_is), λ memory. cc)
 
 -- the fault for a bad address, if the words are accepted but for it

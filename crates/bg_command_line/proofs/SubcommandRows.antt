@@ -13,12 +13,12 @@ use Rattle.clap.specs.Faults.{level_fault, walk_fault, settle_fault, defaults_fa
 use Rattle.clap.specs.declared.builder.value_parser.ValueParser.TheVariants as value_parser
 use Rattle.clap.proofs.ValueTestLemmas.{accepts-Accepts}
 use Rattle.bg_command_line.specs.AcceptedRows.{IsIn, HasWordsOfServe}
-use Rattle.bg_command_line.specs.OptionRules.{number_rule, required_rule, flag_rule, rule_required_if, text_rule, text_rule_required_if, texts_rule, word_rule_required_if}
+use Rattle.bg_command_line.specs.OptionRules.{number_rule, range_rule, required_rule, flag_rule, rule_required_if, text_rule, text_rule_required_if, texts_rule, word_rule_required_if}
 use Rattle.bg_command_line.specs.Subcommands.{journal_app, program, replay_app, serve_app, count_rule, forever_rule}
 use Rattle.bg_command_line.specs.declared.invocation.Flags.{Flags}
 use Rattle.bg_command_line.proofs.WordsTaken.{none_else}
 use Rattle.bg_command_line.proofs.ValuesAccepted.{AreGood, has_none, first_accepted}
-use Rattle.bg_command_line.proofs.ArgumentRows.{Keeps, Each, held, number_keeps, required_keeps, required_if_keeps, text_keeps, texts_keeps, word_keeps, count_keeps, flag_keeps, help_keeps, DefaultKeeps, no_default_keeps, flag_default_keeps, help_default_keeps, leaf_good}
+use Rattle.bg_command_line.proofs.ArgumentRows.{Keeps, Each, held, number_keeps, range_keeps, required_keeps, required_if_keeps, text_keeps, texts_keeps, word_keeps, count_keeps, flag_keeps, help_keeps, DefaultKeeps, no_default_keeps, flag_default_keeps, help_default_keeps, leaf_good}
 
 abbrev pub built_sub : Shape → Shape
 built_sub s = built_leaf (inherited (with_leaf_noted (marked_built (program (record { forever = false; concurrency = false; socket = false })).top)) s)
@@ -30,13 +30,17 @@ replay_keeps : Each (Keeps replay.rules) replay.rules
 replay_keeps = (number_keeps replay.rules (codes "seats") 8 refl, (help_keeps replay.rules, tt))
 
 -- a number that is given to an option with this parser is in its range
-in_range : (c : List Rule) (r : Rule) (id : Text) (most : ℕ) (rows : List Row) → arg_by_id c id ≡ Some r → r.ignore_case ≡ false
-    → r.parser ≡ Some (value_parser.Unsigned 1 most) → AreGood c rows → IsIn 1 most id rows
-in_range c r id most rows own plain parser good t at =
+within : (c : List Rule) (r : Rule) (id : Text) (least most : ℕ) (rows : List Row) → arg_by_id c id ≡ Some r → r.ignore_case ≡ false
+    → r.parser ≡ Some (value_parser.Unsigned least most) → AreGood c rows → IsIn least most id rows
+within c r id least most rows own plain parser good t at =
     let accepted : option_map_or (λ a. value_passes a t) (arg_by_id c id) true ≡ true = first_accepted c id rows t good at in
     let own_accepted : value_passes r t ≡ true = rw own at accepted in
-    let test : accepts false (value_parser.Unsigned 1 most) t ≡ true = rw (plain, parser) at own_accepted in
-    accepts-Accepts false (value_parser.Unsigned 1 most) t test
+    let test : accepts false (value_parser.Unsigned least most) t ≡ true = rw (plain, parser) at own_accepted in
+    accepts-Accepts false (value_parser.Unsigned least most) t test
+
+in_range : (c : List Rule) (r : Rule) (id : Text) (most : ℕ) (rows : List Row) → arg_by_id c id ≡ Some r → r.ignore_case ≡ false
+    → r.parser ≡ Some (value_parser.Unsigned 1 most) → AreGood c rows → IsIn 1 most id rows
+in_range c r id most rows own plain parser good = within c r id 1 most rows own plain parser good
 
 -- `--seats` has a number from 1 to 8, if it is given
 pub replay_known : (words : List Text) → level_fault replay [] nothing_held words false [] ≡ [] → IsIn 1 8 (codes "seats") (rows_after replay.rules [] words)
@@ -59,7 +63,8 @@ kept_and_count flags =
 
 abbrev message_and_later : Flags → List Rule
 message_and_later flags =
-    held (flag_rule (codes "stream")) ∷ held (number_rule (codes "silence") 3600)
+    held (flag_rule (codes "stream")) ∷ held (range_rule (codes "buffer") 16384 1048576)
+    ∷ held (range_rule (codes "max-request-body") 65536 1099511627776) ∷ held (number_rule (codes "silence") 3600)
     ∷ held (flag_rule (codes "forwarded")) ∷ held (flag_rule (codes "trust-forwarded")) ∷ held (flag_rule (codes "upgrade"))
     ∷ kept_and_count flags
 
@@ -102,12 +107,18 @@ message_and_later_keep : (flags : Flags) → Each (Keeps (serve flags).rules) (m
 message_and_later_keep flags = let c = (serve flags).rules in (
   flag_keeps c false (codes "stream") refl,
   (
-    number_keeps c (codes "silence") 3600 refl,
+    range_keeps c (codes "buffer") 16384 1048576 refl,
     (
-      flag_keeps c false (codes "forwarded") refl,
+      range_keeps c (codes "max-request-body") 65536 1099511627776 refl,
       (
-        flag_keeps c false (codes "trust-forwarded") refl,
-        (flag_keeps c false (codes "upgrade") refl, kept_and_count_keep flags),
+        number_keeps c (codes "silence") 3600 refl,
+        (
+          flag_keeps c false (codes "forwarded") refl,
+          (
+            flag_keeps c false (codes "trust-forwarded") refl,
+            (flag_keeps c false (codes "upgrade") refl, kept_and_count_keep flags),
+          ),
+        ),
       ),
     ),
   ),
@@ -192,12 +203,18 @@ message_and_later_defaults : (flags : Flags) → Each (DefaultKeeps (serve flags
 message_and_later_defaults flags = let c = (serve flags).rules in (
   flag_default_keeps c false (codes "stream") refl,
   (
-    no_default_keeps c (held (number_rule (codes "silence") 3600)) refl,
+    no_default_keeps c (held (range_rule (codes "buffer") 16384 1048576)) refl,
     (
-      flag_default_keeps c false (codes "forwarded") refl,
+      no_default_keeps c (held (range_rule (codes "max-request-body") 65536 1099511627776)) refl,
       (
-        flag_default_keeps c false (codes "trust-forwarded") refl,
-        (flag_default_keeps c false (codes "upgrade") refl, kept_and_count_defaults flags),
+        no_default_keeps c (held (number_rule (codes "silence") 3600)) refl,
+        (
+          flag_default_keeps c false (codes "forwarded") refl,
+          (
+            flag_default_keeps c false (codes "trust-forwarded") refl,
+            (flag_default_keeps c false (codes "upgrade") refl, kept_and_count_defaults flags),
+          ),
+        ),
       ),
     ),
   ),
@@ -336,6 +353,8 @@ serve_known flags words e =
       endpoint_limit = in_range c (held (number_rule (codes "endpoint-limit") 1023)) (codes "endpoint-limit") 1023 rows refl refl refl good;
       shutdown_grace = in_range c (held (number_rule (codes "shutdown-grace") 60)) (codes "shutdown-grace") 60 rows refl refl refl good;
       shutdown_timeout = in_range c (held (number_rule (codes "shutdown-timeout") 3600)) (codes "shutdown-timeout") 3600 rows refl refl refl good;
+      buffer = within c (held (range_rule (codes "buffer") 16384 1048576)) (codes "buffer") 16384 1048576 rows refl refl refl good;
+      max_request_body = within c (held (range_rule (codes "max-request-body") 65536 1099511627776)) (codes "max-request-body") 65536 1099511627776 rows refl refl refl good;
       silence = in_range c (held (number_rule (codes "silence") 3600)) (codes "silence") 3600 rows refl refl refl good;
       keep_alive_timeout = in_range c (held (number_rule (codes "keep-alive-timeout") 3600)) (codes "keep-alive-timeout") 3600 rows refl refl refl good;
       keep_alive_requests = in_range c (held (number_rule (codes "keep-alive-requests") 1000000)) (codes "keep-alive-requests") 1000000 rows refl refl refl good;

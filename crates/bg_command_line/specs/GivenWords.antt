@@ -1,10 +1,11 @@
 -- What the words after the program's name give, and the kinds of error that they may give.
-use Rattle.std.specs.Prelude.{eqb, ◌&&◌, ◌||◌, Bool, List, [], ◌∷◌, codes, drop, Option, Some, None, if◌then◌else◌, is_some}
+use Rattle.std.specs.Prelude.{eqb, ◌&&◌, ◌||◌, Bool, List, [], ◌∷◌, codes, drop, not, Option, Some, None, if◌then◌else◌, is_some}
 use Rattle.std.specs.List.{list_any, starts_with}
 use Rattle.std.specs.Str.{bytes_eq}
 use Rattle.clap.specs.Kinds.{or_else}
 use Rattle.clap.specs.Words.{Kinds, Row, Text, fault_of, first_of, subcommand_of}
 use Rattle.clap.specs.declared.error.kind.ErrorKind.TheVariants as kind
+use Rattle.bg_command_line.specs.ServeArguments.{has_flag}
 use Rattle.bg_command_line.specs.Subcommands.{program}
 use Rattle.bg_command_line.specs.declared.invocation.Flags.{Flags}
 
@@ -34,14 +35,24 @@ is_in_conflict flags rows =
     flags.forever && is_some (first_of (codes "count") rows)
     || is_some (first_of (codes "concurrency") rows) && is_some (first_of (codes "workers") rows)
 
-abbrev pub conflict_kinds : Flags → Option (Text × List Row) → Kinds
-conflict_kinds flags None = []
-conflict_kinds flags (Some s) =
-    if is_in_conflict flags s.1 then kind.ArgumentConflict ∷ [] else []
+-- `--buffer` or `--max-request-body` is given without `--stream`, which each of them needs
+abbrev pub lacks_stream : List Row → Bool
+lacks_stream rows = not (has_flag (codes "stream") rows)
+    && (is_some (first_of (codes "buffer") rows) || is_some (first_of (codes "max-request-body") rows))
 
--- the kinds of error that words may give: those of `clap`, and if it accepts them, that of a conflict
+abbrev pub kinds_of_rows : Flags → List Row → Kinds
+kinds_of_rows flags rows =
+    if is_in_conflict flags rows then kind.ArgumentConflict ∷ []
+    else if lacks_stream rows then kind.MissingRequiredArgument ∷ [] else []
+
+abbrev pub kinds_beside_clap : Flags → Option (Text × List Row) → Kinds
+kinds_beside_clap flags None = []
+kinds_beside_clap flags (Some s) = kinds_of_rows flags s.1
+
+-- the kinds of error that words may give: those of `clap`, and if it accepts them, that of a conflict, or else that of
+-- `--stream` where it is needed
 abbrev pub kinds_of : List Text → Kinds
 kinds_of words =
     let flags = flags_of words in
     or_else (fault_of (program flags) words)
-    (conflict_kinds flags (subcommand_of (program flags) words))
+    (kinds_beside_clap flags (subcommand_of (program flags) words))

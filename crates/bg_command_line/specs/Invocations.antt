@@ -1,7 +1,8 @@
 -- What the words ask for, and the faults of words.
-use Rattle.std.specs.Prelude.{◌≡◌, ◌≢◌, ◌⊎◌, List, [], codes, Some, false, true, option_map, unwrap_or}
+use Rattle.std.specs.Prelude.{◌≡◌, ◌≢◌, ◌⊎◌, List, [], codes, Some, is_some, false, true, option_map, unwrap_or}
 use Rattle.clap.specs.Words.{IsAmong, Row, Text, first_of, kind_of, subcommand_of}
 use Rattle.clap.specs.declared.error.Error.{Error}
+use Rattle.clap.specs.declared.error.kind.ErrorKind.{ErrorKind}
 use Rattle.clap.specs.declared.error.kind.ErrorKind.TheVariants as kind
 use Rattle.bg_command_line.specs.GivenAddresses.{HasBadAddress}
 use Rattle.bg_command_line.specs.GivenWords.{flags_of, kinds_of}
@@ -34,6 +35,15 @@ IsInvocationIn words o = (kinds_of words ≡ [])
     × (subcommand_of (program (flags_of words)) words ≡ Some (name, rows))
     × IsInvocationOf (flags_of words) name rows o)
 
+-- how much of a request is held and how long its body may be are set only with `--stream`
+abbrev pub NeedsStream : Invocation → Type 0
+NeedsStream (Serve settings) = (is_some settings.buffer ≡ true → settings.stream ≡ true)
+    × (is_some settings.max_request_body ≡ true → settings.stream ≡ true)
+NeedsStream Check = Unit {0}
+NeedsStream (Replay seats) = Unit {0}
+NeedsStream (Journal path) = Unit {0}
+NeedsStream (RestartJournal path ports) = Unit {0}
+
 -- the words are accepted but for an address, which is bad
 abbrev pub HasBadAddressIn : List Text → Type 0
 HasBadAddressIn words = (kinds_of words ≡ [])
@@ -58,10 +68,18 @@ abbrev pub IsFaultFrom : Error → InvocationFault → Type 0
 IsFaultFrom e OutOfMemory = kind_of e ≡ kind.OutOfMemory
 IsFaultFrom e (Words x) = (x ≡ e) × (kind_of e ≢ kind.OutOfMemory)
 
+-- the fault with an error of this kind
+abbrev pub IsFaultOf : ErrorKind → InvocationFault → Type 0
+IsFaultOf k OutOfMemory = Unit {0}
+IsFaultOf k (Words e) = kind_of e ≡ k
+
 -- the fault for two words of which one replaces the other
 abbrev pub IsConflict : InvocationFault → Type 0
-IsConflict OutOfMemory = Unit {0}
-IsConflict (Words e) = kind_of e ≡ kind.ArgumentConflict
+IsConflict fault = IsFaultOf kind.ArgumentConflict fault
+
+-- the fault for a word that is missing beside another one
+abbrev pub IsMissing : InvocationFault → Type 0
+IsMissing fault = IsFaultOf kind.MissingRequiredArgument fault
 
 -- the fault for a bad value
 abbrev pub IsValueFault : InvocationFault → Type 0

@@ -7,13 +7,21 @@ use Rattle.bg_command_line.specs.declared.command_option.CommandOption.{CommandO
 use Rattle.bg_command_line.specs.declared.command_option.OptionValue.{OptionValue}
 use Rattle.bg_command_line.specs.declared.command_option.OptionValue.TheVariants as option_value
 
--- `--NAME N`, with N from 1 to `most`
-abbrev pub number_rule : Text → ℕ → Rule
-number_rule name most = record (new_rule name) {
+-- `--NAME N`, with N from `least` to `most`
+abbrev pub range_rule : Text → ℕ → ℕ → Rule
+range_rule name least most = record (new_rule name) {
   long = Some name;
   value_names = 1;
-  parser = Some (value_parser.Unsigned 1 most);
+  parser = Some (value_parser.Unsigned least most);
 }
+
+-- `--NAME N`, with N from `least` to `most`, which is required if `required` says so
+abbrev pub range_rule_required_if : Bool → Text → ℕ → ℕ → Rule
+range_rule_required_if required name least most = record (range_rule name least most) { required = required }
+
+-- `--NAME N`, with N from 1 to `most`
+abbrev pub number_rule : Text → ℕ → Rule
+number_rule name most = range_rule name 1 most
 
 -- the required `--NAME N`, with N from 1 to `most`
 abbrev pub required_rule : Text → ℕ → Rule
@@ -21,7 +29,7 @@ required_rule name most = record (number_rule name most) { required = true }
 
 -- `--NAME N`, with N from 1 to `most`, which is required if `required` says so
 abbrev pub rule_required_if : Bool → Text → ℕ → Rule
-rule_required_if required name most = record (number_rule name most) { required = required }
+rule_required_if required name most = range_rule_required_if required name 1 most
 
 -- the flag `--NAME`, which has no value
 abbrev pub flag_rule : Text → Rule
@@ -62,10 +70,12 @@ text_rule_required_if required name = record (text_rule name) { required = requi
 abbrev pub texts_rule_required_if : Bool → Text → Rule
 texts_rule_required_if required name = record (texts_rule name) { required = required }
 
--- the flag `--NAME`, `--NAME N` with N from 1 to the number, `--NAME TEXT` once or several times, or the word NAME
+-- the flag `--NAME`, `--NAME N` with N from 1 to the number or in the range, `--NAME TEXT` once or several times, or the
+-- word NAME
 abbrev pub rule_of_kind : OptionValue → Bool → Text → Rule
 rule_of_kind option_value.Nothing required name = flag_rule_required_if required name
 rule_of_kind (option_value.UpTo most) required name = rule_required_if required name most
+rule_of_kind (option_value.Between least most) required name = range_rule_required_if required name least most
 rule_of_kind (option_value.Text value) required name = text_rule_required_if required name
 rule_of_kind (option_value.Texts value) required name = texts_rule_required_if required name
 rule_of_kind (option_value.Word value) required name = word_rule_required_if required name

@@ -105,6 +105,10 @@ pub record IsServe (flags : Flags) (rows : List Row) (settings : ServeSettings) 
   pub shutdown_timeout_range : IsBetween 1 3600 settings.shutdown_timeout
   pub error_pages_is : settings.error_pages ≡ has_flag (codes "error-pages") rows
   pub stream_is : settings.stream ≡ has_flag (codes "stream") rows
+  pub buffer_is : settings.buffer ≡ number_of (codes "buffer") rows
+  pub buffer_range : IfSome settings.buffer (IsBetween 16384 1048576)
+  pub max_request_body_is : settings.max_request_body ≡ number_of (codes "max-request-body") rows
+  pub max_request_body_range : IfSome settings.max_request_body (IsBetween 65536 1099511627776)
   pub silence_is : settings.silence ≡ number_of (codes "silence") rows
   pub silence_range : IfSome settings.silence (IsBetween 1 3600)
   pub forwarded_is : settings.forwarded ≡ has_flag (codes "forwarded") rows

@@ -2,7 +2,7 @@
 ghost use Rattle.std.specs.Prelude.{◌≡◌, IfOk, false, fold, map};
 ghost use Rattle.clap.specs.Words.{app_of, rule_of, with_rule};
 ghost use Rattle.clap.specs.declared.builder.command.Command.TheViews.{out-Command as fields_of};
-ghost use Rattle.bg_command_line.specs.OptionRules.{flag_rule, number_rule, option_rule, text_rule, texts_rule, word_rule};
+ghost use Rattle.bg_command_line.specs.OptionRules.{flag_rule, option_rule, range_rule, text_rule, texts_rule, word_rule};
 
 use clap::builder::ValueParser;
 use clap::{Arg, ArgAction, Command};
@@ -15,6 +15,8 @@ pub(crate) enum OptionValue<'a> {
     Nothing,
     /// A number from 1 to this one.
     UpTo(u64),
+    /// A number from the first of these to the second.
+    Between(u64, u64),
     /// A text that is not empty. The help calls it by this word.
     Text(&'a str),
     /// Texts that are not empty, each after a `--NAME` of its own. The help calls one by this word.
@@ -35,15 +37,15 @@ pub(crate) struct CommandOption<'a> {
     pub(crate) help: &'a str,
 }
 
-/// The optional `--NAME N`, with N from 1 to `most`.
-fn number_argument<'a>(alloc: Global, name: &'a str, most: u64) -> Arg<'a>
-    ensures rule { rule_of result ≡ number_rule name.entry.now most }
+/// The optional `--NAME N`, with N from `least` to `most`.
+fn number_argument<'a>(alloc: Global, name: &'a str, least: u64, most: u64) -> Arg<'a>
+    ensures rule { rule_of result ≡ range_rule name.entry.now least most }
     ensures local { result.global ≡ false }
 {
     Arg::new(alloc, name)
         .long(name)
         .value_name("N")
-        .value_parser(ValueParser::unsigned(1, most))
+        .value_parser(ValueParser::unsigned(least, most))
 }
 
 /// The optional `--NAME TEXT`, with a text that is not empty, which the help calls `value`.
@@ -90,7 +92,8 @@ fn argument<'a>(alloc: Global, option: &CommandOption<'a>) -> Arg<'a>
 {
     let argument = match option.value {
         OptionValue::Nothing => flag(alloc, option.name),
-        OptionValue::UpTo(most) => number_argument(alloc, option.name, most),
+        OptionValue::UpTo(most) => number_argument(alloc, option.name, 1, most),
+        OptionValue::Between(least, most) => number_argument(alloc, option.name, least, most),
         OptionValue::Text(value) => text_argument(alloc, option.name, value),
         OptionValue::Texts(value) => texts_argument(alloc, option.name, value),
         OptionValue::Word(value) => word_argument(alloc, option.name, value),

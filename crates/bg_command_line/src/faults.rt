@@ -1,7 +1,7 @@
 //! The faults for words that are refused.
 ghost use Rattle.std.specs.Prelude.{◌≡◌, IfOk};
 ghost use Rattle.clap.specs.Words.{kind_of};
-ghost use Rattle.bg_command_line.specs.Invocations.{IsConflict, IsFaultFrom, IsValueFault};
+ghost use Rattle.bg_command_line.specs.Invocations.{IsConflict, IsFaultFrom, IsFaultOf, IsMissing, IsValueFault};
 
 use crate::arguments::argument_text;
 use crate::command_line::error_of_serve;
@@ -10,6 +10,16 @@ use crate::invocation::InvocationFault;
 use clap::error::ErrorKind;
 use clap::{ArgMatches, Error};
 use std::alloc::{AllocError, Global};
+
+/// The fault of this kind for the words of `serve`.
+fn fault_with(alloc: Global, kind: ErrorKind, message: &str) -> InvocationFault
+    ensures { IsFaultOf kind result }
+{
+    match error_of_serve(alloc, kind, message) {
+        Ok(error) => InvocationFault::Words(error),
+        Err(_) => InvocationFault::OutOfMemory,
+    }
+}
 
 /// Which two words are in conflict.
 fn conflict_message(matches: &ArgMatches) -> &'static str {
@@ -26,14 +36,31 @@ fn conflict_message(matches: &ArgMatches) -> &'static str {
 pub(crate) fn conflict_fault(alloc: Global, matches: &ArgMatches) -> InvocationFault
     ensures { IsConflict result }
 {
-    match error_of_serve(
+    fault_with(
         alloc,
         ErrorKind::ArgumentConflict,
         conflict_message(matches),
-    ) {
-        Ok(error) => InvocationFault::Words(error),
-        Err(_) => InvocationFault::OutOfMemory,
+    )
+}
+
+/// Which word needs `--stream`.
+fn missing_stream_message(matches: &ArgMatches) -> &'static str {
+    if argument_text(matches, "buffer").is_some() {
+        "the argument '--buffer <N>' cannot be used without '--stream'"
+    } else {
+        "the argument '--max-request-body <N>' cannot be used without '--stream'"
     }
+}
+
+/// The fault for a word that needs `--stream`, which is not given.
+pub(crate) fn missing_stream_fault(alloc: Global, matches: &ArgMatches) -> InvocationFault
+    ensures { IsMissing result }
+{
+    fault_with(
+        alloc,
+        ErrorKind::MissingRequiredArgument,
+        missing_stream_message(matches),
+    )
 }
 
 pub(crate) fn fault_of(error: Error) -> InvocationFault

@@ -123,8 +123,15 @@ pub struct ServeSettings<'a> {
     /// Whether an answer of the switch itself has a body with its status and reason (nginx's `error_page`, HAProxy's
     /// `errorfile`).
     pub error_pages: bool,
-    /// Whether a response is passed on to its client as it comes, whatever its length (nginx's `proxy_buffering off`).
+    /// Whether a response is passed on to its client as it comes, whatever its length (nginx's `proxy_buffering off`), and a
+    /// request of more than `buffer` bytes to its endpoint (nginx's `proxy_request_buffering off`).
     pub stream: bool,
+    /// How many bytes of a request are held before it is passed on as it comes (nginx's `client_body_buffer_size`, HAProxy's
+    /// `tune.bufsize`), 16,384 to 1,048,576; `None` stands for 65,536. It is given only if `stream` holds.
+    pub buffer: Option<u32>,
+    /// The most bytes of the body of a request with `stream` (nginx's `client_max_body_size`), 65,536 to 1,099,511,627,776;
+    /// `None` stands for no limit. It is given only if `stream` holds.
+    pub max_request_body: Option<u64>,
     /// For how many seconds an endpoint may be silent whose response is passed on as it comes, or both sides of a tunnel (nginx's
     /// `proxy_read_timeout`, HAProxy's `timeout server` and `timeout tunnel`), 1 to 3,600; `None` stands for as many as a message may
     /// take.

@@ -12,6 +12,8 @@ mod listen_addresses;
 mod message_timeout;
 mod numbers;
 mod serve_options;
+#[cfg(test)]
+mod tests;
 mod words;
 
 pub use invocation::{

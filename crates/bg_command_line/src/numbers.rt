@@ -28,11 +28,20 @@ pub(crate) fn grace_in(text: &str) -> u8
     text.parse::<u8>().unwrap()
 }
 
-/// A number of connections of a worker, or of requests of a connection.
-pub(crate) fn count_in(text: &str) -> u32
-    requires { IsUnsignedIn 1 1000000 text.now }
+/// The most bytes of the body of a request.
+pub(crate) fn body_in(text: &str) -> u64
+    requires { IsUnsignedIn 65536 1099511627776 text.now }
     ensures value { result ≡ number text.now }
-    ensures range { IsBetween 1 1000000 result }
+    ensures range { IsBetween 65536 1099511627776 result }
+{
+    text.parse::<u64>().unwrap()
+}
+
+/// A number from `LEAST` to `MOST`.
+pub(crate) fn u32_in<const LEAST: u32, const MOST: u32>(text: &str) -> u32
+    requires { IsUnsignedIn LEAST MOST text.now }
+    ensures value { result ≡ number text.now }
+    ensures range { IsBetween LEAST MOST result }
 {
     text.parse::<u32>().unwrap()
 }

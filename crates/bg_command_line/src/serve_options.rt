@@ -27,14 +27,24 @@ const MOST_SECONDS: u64 = 3_600;
 /// How many connections a worker may take, or how many requests a connection may carry.
 const MOST_COUNT: u64 = 1_000_000;
 
+/// How few and how many bytes of a request may be held before it is passed on as it comes.
+const LEAST_BUFFER: u64 = 16_384;
+
+const MOST_BUFFER: u64 = 1_048_576;
+
+/// How few and how many bytes the body of a request may be allowed.
+const LEAST_BODY: u64 = 65_536;
+
+const MOST_BODY: u64 = 1_099_511_627_776;
+
 /// The options of `serve`: `--active P [--preview P] [--listen ADDRESS]..`; `--control P`, `--control-socket PATH`,
 /// `[--control-socket-mode MODE]` and `[--control-socket-group GROUP]`; `--workers N`, `--concurrency N`,
 /// `[--preview-concurrency M]` and `[--threads N]`; `[--redispatch] [--endpoint-limit M]
 /// [--endpoint-address ADDRESS]`; `[--abort-on-close] [--shutdown-grace S] [--shutdown-timeout S] [--error-pages]`;
-/// `[--stream] [--silence S] [--forwarded] [--trust-forwarded] [--upgrade]`; `[--keep-alive] [--keep-alive-timeout S]
-/// [--keep-alive-requests N] [--endpoint-keep-alive-timeout S]`; `[--journal FILE]`; `--count K` and `--forever`. The flags say which of `--control` and `--control-socket` is required, which of `--workers` and
+/// `[--stream] [--buffer N] [--max-request-body N] [--silence S] [--forwarded] [--trust-forwarded] [--upgrade]`;
+/// `[--keep-alive] [--keep-alive-timeout S] [--keep-alive-requests N] [--endpoint-keep-alive-timeout S]`; `[--journal FILE]`; `--count K` and `--forever`. The flags say which of `--control` and `--control-socket` is required, which of `--workers` and
 /// `--concurrency`, and which of `--count` and `--forever`.
-pub(crate) fn serve_options<'a>(flags: Flags) -> [CommandOption<'a>; 30]
+pub(crate) fn serve_options<'a>(flags: Flags) -> [CommandOption<'a>; 32]
     ensures { (before : App) → fold with_rule before (map option_rule result) ≡ with_connection_rules flags.forever
         (with_journal_rule (with_keep_alive_rules (with_message_rules (with_client_rules (with_endpoint_rules
         (with_worker_rules flags.concurrency (with_control_rules flags.socket (with_port_rules before)))))))) }
@@ -152,7 +162,19 @@ pub(crate) fn serve_options<'a>(flags: Flags) -> [CommandOption<'a>; 30]
             name: "stream",
             value: OptionValue::Nothing,
             required: false,
-            help: "A response is passed on to its client as it comes, whatever its length",
+            help: "A response is passed on to its client as it comes, whatever its length, and a request of more than --buffer bytes to its endpoint",
+        },
+        CommandOption {
+            name: "buffer",
+            value: OptionValue::Between(LEAST_BUFFER, MOST_BUFFER),
+            required: false,
+            help: "How many bytes of a request are held before it is passed on as it comes, 16384 to 1048576; 65536 where it isn't given; needs --stream",
+        },
+        CommandOption {
+            name: "max-request-body",
+            value: OptionValue::Between(LEAST_BODY, MOST_BODY),
+            required: false,
+            help: "The most bytes of the body of a request with --stream, 65536 to 1099511627776; no limit where it isn't given; needs --stream",
         },
         CommandOption {
             name: "silence",

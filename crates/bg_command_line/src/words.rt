@@ -4,19 +4,19 @@ ghost use Rattle.std.specs.List.{list_any};
 ghost use Rattle.clap.specs.Words.{IsUnsignedIn, first_of, found_of, rows_of};
 ghost use Rattle.bg_command_line.specs.Addresses.{IsEndpointAddress};
 ghost use Rattle.bg_command_line.specs.AcceptedRows.{HasWordsOfServe, IsIn, IsKnown};
-ghost use Rattle.bg_command_line.specs.GivenWords.{flags_of, has_option, has_word, is_in_conflict, is_option};
-ghost use Rattle.bg_command_line.specs.Invocations.{IsAddressFault, IsFaultIn, IsInvocationIn, IsInvocationOf};
+ghost use Rattle.bg_command_line.specs.GivenWords.{flags_of, has_option, has_word, is_in_conflict, is_option, lacks_stream};
+ghost use Rattle.bg_command_line.specs.Invocations.{IsAddressFault, IsFaultIn, IsInvocationIn, IsInvocationOf, NeedsStream};
 ghost use Rattle.bg_command_line.specs.ServeArguments.{AreConnections, AreWorkers, IsBetween, IsControlSocket, IsKeepAlive, IsMode, default_preview_workers, has_flag, number, number_of};
 ghost use Rattle.bg_command_line.specs.ListenAddresses.{AreListenAddresses, listed, listen_texts};
 
 use crate::arguments::{argument_text, has_flag, required_text, u16_of, u16_or};
 use crate::command_line::program_command;
-use crate::faults::{address_fault, conflict_fault, fault_of};
+use crate::faults::{address_fault, conflict_fault, fault_of, missing_stream_fault};
 use crate::given_addresses::{GivenAddresses, addresses_of};
 use crate::invocation::{
     Connections, ControlSocket, Flags, Invocation, InvocationFault, KeepAlive, ServeSettings,
 };
-use crate::numbers::{count_in, grace_in, seats_in, u16_in};
+use crate::numbers::{body_in, grace_in, seats_in, u16_in, u32_in};
 use clap::ArgMatches;
 use std::alloc::Global;
 
@@ -47,6 +47,7 @@ const DEFAULT_KEPT_REQUESTS: u32 = 1_000;
 /// with N from 1 to 1023, and either `--count K` with K from 1 to 1,000,000 or `--forever`. `serve` also takes
 /// `--preview-concurrency M` and `--endpoint-limit M` with M from 1 to 1023, `--threads N` with N from 1 to 64,
 /// `--redispatch`, `--endpoint-address ADDRESS`, `--listen ADDRESS` up to eight times, `--abort-on-close`, `--error-pages`, `--stream`,
+/// `--buffer N` with N from 16,384 to 1,048,576 and `--max-request-body N` with N from 65,536 to 1,099,511,627,776, which need `--stream`,
 /// `--silence S` with S from 1 to 3,600, `--forwarded`, `--trust-forwarded`, `--upgrade`,
 /// `--shutdown-grace S` with S from 1 to 60, `--shutdown-timeout S` with S from 1 to 3,600,
 /// `--control-socket-mode MODE` with MODE from 1 to 777, `--control-socket-group GROUP`, `--keep-alive`,
@@ -54,14 +55,16 @@ const DEFAULT_KEPT_REQUESTS: u32 = 1_000;
 /// 1 to 1,000,000, and `--journal FILE`. A value may also follow its option after `=`, in the same word.
 ///
 /// The error is `Words` only if `clap` refuses the words, if they ask for help or for the version, if
-/// both `--count` and `--forever` are given, or both `--workers` and `--concurrency`, or if an ADDRESS is no IPv4 or IPv6 address
-/// (RFC 4291 section 2.2), if that of `--endpoint-address` is 0.0.0.0 or `::`, or if one of `--listen` is the same as one before,
-/// is 0.0.0.0 or `::` beside another one of its family, or is the ninth. It is `OutOfMemory` if an allocation fails.
+/// both `--count` and `--forever` are given, or both `--workers` and `--concurrency`, if `--buffer` or `--max-request-body` is
+/// given without `--stream`, or if an ADDRESS is no IPv4 or IPv6 address (RFC 4291 section 2.2), if that of `--endpoint-address`
+/// is 0.0.0.0 or `::`, or if one of `--listen` is the same as one before, is 0.0.0.0 or `::` beside another one of its family, or
+/// is the ninth. It is `OutOfMemory` if an allocation fails.
 pub fn parse_command_line<'a>(
     alloc: Global,
     words: &'a [&'a str],
 ) -> Result<Invocation<'a>, InvocationFault>
     ensures ok { IfOk result (IsInvocationIn (map (λ w. w.now) words.now)) }
+    ensures streams { IfOk result NeedsStream }
     ensures fault { IfErr result (IsFaultIn (map (λ w. w.now) words.now)) }
 {
     let flags = flags_in(words);
@@ -73,6 +76,8 @@ pub fn parse_command_line<'a>(
     let (name, inner) = matches.subcommand().unwrap();
     if is_in_conflict(flags, inner) {
         Err(conflict_fault(alloc, inner))
+    } else if lacks_stream(inner) {
+        Err(missing_stream_fault(alloc, inner))
     } else {
         invocation_of(alloc, flags, name, inner)
     }
@@ -130,6 +135,15 @@ fn is_in_conflict(flags: Flags, matches: &ArgMatches) -> bool
     flags.forever && argument_text(matches, "count").is_some()
         || argument_text(matches, "concurrency").is_some()
             && argument_text(matches, "workers").is_some()
+}
+
+/// Whether `--buffer` or `--max-request-body` is given without `--stream`, which each of them needs.
+fn lacks_stream(matches: &ArgMatches) -> bool
+    ensures { result ≡ lacks_stream (rows_of (found_of matches.now)) }
+{
+    !has_flag(matches, "stream")
+        && (argument_text(matches, "buffer").is_some()
+            || argument_text(matches, "max-request-body").is_some())
 }
 
 fn invocation_of<'a>(
@@ -200,6 +214,8 @@ fn serve_of<'a>(flags: Flags, addresses: GivenAddresses, matches: &ArgMatches<'a
         shutdown_timeout: u16_or::<3600>(matches, "shutdown-timeout", DEFAULT_SHUTDOWN_SECONDS),
         error_pages: has_flag(matches, "error-pages"),
         stream: has_flag(matches, "stream"),
+        buffer: buffer_of(matches),
+        max_request_body: max_request_body_of(matches),
         silence: u16_of::<3600>(matches, "silence"),
         forwarded: has_flag(matches, "forwarded"),
         trust_forwarded: has_flag(matches, "trust-forwarded"),
@@ -282,6 +298,30 @@ fn shutdown_grace_of(matches: &ArgMatches) -> u8
     }
 }
 
+/// How many bytes of a request are held before it is passed on as it comes, if that is given.
+fn buffer_of(matches: &ArgMatches) -> Option<u32>
+    requires { IsIn 16384 1048576 (codes "buffer") (rows_of (found_of matches.now)) }
+    ensures value { result ≡ number_of (codes "buffer") (rows_of (found_of matches.now)) }
+    ensures range { IfSome result (IsBetween 16384 1048576) }
+{
+    match argument_text(matches, "buffer") {
+        Some(text) => Some(u32_in::<16384, 1048576>(text)),
+        None => None,
+    }
+}
+
+/// The most bytes of the body of a request, if that is given.
+fn max_request_body_of(matches: &ArgMatches) -> Option<u64>
+    requires { IsIn 65536 1099511627776 (codes "max-request-body") (rows_of (found_of matches.now)) }
+    ensures value { result ≡ number_of (codes "max-request-body") (rows_of (found_of matches.now)) }
+    ensures range { IfSome result (IsBetween 65536 1099511627776) }
+{
+    match argument_text(matches, "max-request-body") {
+        Some(text) => Some(body_in(text)),
+        None => None,
+    }
+}
+
 /// How connections are kept for further requests, if they are.
 fn keep_alive_of(matches: &ArgMatches) -> Option<KeepAlive>
     requires timeout { IsIn 1 3600 (codes "keep-alive-timeout") (rows_of (found_of matches.now)) }
@@ -311,7 +351,7 @@ fn kept_requests_of(matches: &ArgMatches) -> u32
     ensures range { IsBetween 1 1000000 result }
 {
     match argument_text(matches, "keep-alive-requests") {
-        Some(text) => count_in(text),
+        Some(text) => u32_in::<1, 1000000>(text),
         None => DEFAULT_KEPT_REQUESTS,
     }
 }
@@ -324,6 +364,6 @@ fn connections_of(forever: bool, matches: &ArgMatches) -> Connections
     if forever {
         Connections::Forever
     } else {
-        Connections::Count(count_in(required_text(matches, "count")))
+        Connections::Count(u32_in::<1, 1000000>(required_text(matches, "count")))
     }
 }

@@ -5,6 +5,7 @@ ghost use Rattle.bg_endpoint_side.specs.declared.outcome.GivingUp.TheVariants as
 
 use crate::answer_progress::{AnswerProgress, LingeringClose};
 use crate::events::Told;
+use crate::large_requests::HeldRequest;
 use crate::readiness::Readiness;
 use crate::request_record::RequestRecord;
 use crate::tries::Tries;
@@ -12,6 +13,7 @@ use bg_both_sides::{BothSides, Given};
 use bg_endpoint_side::GivingUp;
 use bg_forward::Route;
 use bg_tunnel::Tunnel;
+use bg_upload::{Upload, UploadFault};
 use std::net::{IpAddr, TcpStream};
 
 /// The connection of a client, with its socket.
@@ -30,6 +32,11 @@ pub(crate) struct Client {
     pub(crate) endpoint: Option<usize>,
     /// The tunnel that the request became, if it has become one. The connection of `sides` has left then, but not its socket.
     pub(crate) tunnel: Option<Tunnel>,
+    /// Its large request, if that is not passed on yet.
+    pub(crate) held: Option<HeldRequest>,
+    /// Its large request, if that is passed on, and why it is over by a fault.
+    pub(crate) upload: Option<Box<Upload>>,
+    pub(crate) upload_fault: Option<UploadFault>,
     /// The ports that were chosen for the request.
     pub(crate) tries: Option<Tries>,
     /// Whether only a reset tells a response that is cut from a whole one: the client of the request reads no chunks.
@@ -59,6 +66,9 @@ impl Drop for Client {
             seat: _,
             endpoint: _,
             tunnel: _,
+            held: _,
+            upload: _,
+            upload_fault: _,
             tries: _,
             needs_reset: _,
             given: _,
@@ -88,6 +98,9 @@ impl Client {
             seat: None,
             endpoint: None,
             tunnel: None,
+            held: None,
+            upload: None,
+            upload_fault: None,
             tries: None,
             needs_reset: false,
             given: None,
@@ -142,6 +155,7 @@ impl Client {
         self.writes()
             || self.passes_on()
             || self.tunnel.is_some()
+            || self.passes_request_on()
             || self.sides.client().wants_read()
     }
 

@@ -124,12 +124,14 @@ impl Client {
     }
 
     /// After the last answer, shuts the writing side. The connection leaves at once if that fails, or if the request was read
-    /// whole and no byte is unread.
+    /// whole and no byte is unread. A large request that was refused before it was passed on was not read whole.
     fn begin_lingering(&mut self) {
         if self.sides.client().has_left() {
             return;
         }
-        let is_over = self.sides.client().was_whole() && is_drained(&self.stream);
+        let is_over = self.held.is_none()
+            && self.sides.client().was_whole()
+            && is_drained(&self.stream);
         if is_over || self.stream.shutdown(Shutdown::Write).is_err() {
             self.sides.fail();
         }

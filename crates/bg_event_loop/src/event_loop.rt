@@ -235,12 +235,13 @@ impl<'a, P: EndpointPorts, L: RequestLog> EventLoop<'a, P, L> {
         }
     }
 
-    /// Lets a request wait for a seat that has become whole. It is refused if the most requests wait. What is no request is
+    /// Lets a request wait for a seat that has become whole, or is large. It is refused if the most requests wait. What is no request is
     /// over.
     pub(crate) fn note_fed(&mut self, key: usize, fed: Fed) {
         let Some(client) = self.clients.get_mut(key) else {
             return;
         };
+        let fed = client.hold_large(self.alloc, &self.settings, fed, self.now);
         match fed {
             Fed::Whole => {
                 client.record.note_whole(self.now);

@@ -60,7 +60,8 @@ impl<P: EndpointPorts> Endpoints<'_, P> {
             let Some(port) = client.port() else {
                 return;
             };
-            if self.takes_kept(client, key, port, now) {
+            // a large request cannot be repeated, so it takes no connection that its endpoint may have closed meanwhile
+            if client.held.is_none() && self.takes_kept(client, key, port, now) {
                 return;
             }
             match self.dial(port, key) {
@@ -155,7 +156,7 @@ impl<P: EndpointPorts> Endpoints<'_, P> {
     /// Makes the steps of the request of a client that are due.
     pub(crate) fn forward(&mut self, client: &mut Client, key: usize, piece: &mut [u8], now: u64) {
         for _ in 0..STEPS_A_TURN {
-            if !self.is_due(client) {
+            if client.passes_request_on() || !self.is_due(client) {
                 return;
             }
             match self.step(client, key, piece, now) {
@@ -211,7 +212,11 @@ impl<P: EndpointPorts> Endpoints<'_, P> {
     fn end_dial(&mut self, client: &mut Client, key: usize, now: u64) {
         match self.used_by(client) {
             Some(endpoint) if !endpoint.ready.reset => {
-                self.connect(client, false, now);
+                if client.held.is_some() {
+                    self.begin_upload(client, now);
+                } else {
+                    self.connect(client, false, now);
+                }
             }
             _ => self.fail_dial(client, key, DialFault::Failed, now),
         }

@@ -70,6 +70,9 @@ impl<'a, P: EndpointPorts, L: RequestLog> EventLoop<'a, P, L> {
         if client.tunnel.is_some() {
             return self.serve_tunnel(key, is_given_up);
         }
+        if client.passes_request_on() {
+            return self.serve_upload(key, is_given_up);
+        }
         // at the end of a shutdown, what is passed on is cut
         let is_cut = has_come(self.closes_at, self.now) && client.sides.client().is_passing_on();
         let aborts_on_close = self.settings.aborts_on_close;
@@ -82,6 +85,9 @@ impl<'a, P: EndpointPorts, L: RequestLog> EventLoop<'a, P, L> {
         }
         if client.tunnel.is_some() {
             return self.serve_tunnel(key, is_given_up);
+        }
+        if client.passes_request_on() {
+            return self.serve_upload(key, is_given_up);
         }
         if client.sides.client().is_inside() {
             if self.endpoints.is_due(client) {

@@ -12,6 +12,19 @@ use bg_load::LoadSettings;
 use bg_revisions::Service;
 use std::net::{IpAddr, Ipv4Addr};
 
+/// The limits of requests that are passed on before they are whole.
+#[derive(Clone, Copy, Drop)]
+pub struct UploadSettings {
+    /// The most bytes of a request that are held before it is passed on.
+    pub most_held: usize,
+    /// The most bytes of its body.
+    pub most_body: usize,
+    /// Bytes of it are taken while fewer bytes of it are to be written to the endpoint; so are bytes of its response.
+    pub window: usize,
+    /// The most bytes that the Content-Length of its response may name.
+    pub most_response: usize,
+}
+
 /// The settings of the connections to endpoints. Times are milliseconds.
 #[derive(Clone, Copy, Drop)]
 pub struct EndpointSettings {
@@ -27,6 +40,8 @@ pub struct EndpointSettings {
     pub kept_millis: u64,
     /// The limits of responses that are passed on as they come; `None` if a response is passed on once it is whole.
     pub stream: Option<StreamLimits>,
+    /// The limits of requests that are passed on before they are whole; `None` if each request is held until it is whole.
+    pub uploads: Option<UploadSettings>,
     /// The time for which a tunnel may be silent; `None` if a request that asks for an upgrade is forwarded as one that does not.
     pub tunnel_millis: Option<u64>,
 }
@@ -81,13 +96,16 @@ pub struct LoopSettings {
 
 impl LoopSettings {
     /// The usual settings: endpoints are at 127.0.0.1, each connection, of either side, carries one request, a response is passed on
-    /// once it is whole, no upgrade is passed on, a request does not tell where it comes from, a refusal has an empty body, and the gate is asked whether requests go on.
+    /// once it is whole, and so is a request, no upgrade is passed on, a request does not tell where it comes from, a refusal has an
+    /// empty body, and the gate is asked whether requests go on.
     pub fn usual(service: Service) -> LoopSettings
         ensures service { result.service ≡ service }
         ensures clients { keeps result.clients.persistence ≡ false }
         ensures endpoints { keeps result.endpoints.persistence ≡ false }
         ensures address { IsLocalhost result.endpoints.address }
         ensures stream { result.endpoints.stream ≡ None }
+        ensures uploads { result.endpoints.uploads ≡ None }
+        ensures arriving { result.clients.keeps_arriving ≡ false }
         ensures tunnels { result.endpoints.tunnel_millis ≡ None }
         ensures origin { result.origin ≡ None }
         ensures refusals { result.clients.refusal_body ≡ body.Empty }
@@ -101,6 +119,7 @@ impl LoopSettings {
                 request_millis: 60_000,
                 idle_millis: 75_000,
                 refusal_body: RefusalBody::Empty,
+                keeps_arriving: false,
             },
             endpoints: EndpointSettings {
                 address: IpAddr::V4(Ipv4Addr::LOCALHOST),
@@ -112,6 +131,7 @@ impl LoopSettings {
                 most_kept: 1_024,
                 kept_millis: 60_000,
                 stream: None,
+                uploads: None,
                 tunnel_millis: None,
             },
             origin: None,

@@ -1,21 +1,24 @@
 //! The settings of the event loops of a port.
 ghost use Rattle.std.specs.Prelude.{◌≡◌, ◌*◌, ◌<◌, ◌^◌, if◌then◌else◌, IfSome, None, Some, is_some, true, unwrap_or};
 ghost use Rattle.bg_command_line.specs.MessageTimeout.{seconds_of};
-ghost use Rattle.bg_switch.specs.StreamLimits.{AreStreamLimits};
+ghost use Rattle.bg_switch.specs.StreamLimits.{AreStreamLimits, AreUploadLimits};
 
 use crate::context::ServeContext;
 use bg_both_sides::StreamLimits;
 use bg_client_side::ClientSettings;
-use bg_command_line::{KeepAlive, MessageTimeout};
+use bg_command_line::{KeepAlive, MessageTimeout, ServeSettings};
 use bg_endpoint_side::Timeouts;
 use bg_endpoints::ResponseTimeout;
-use bg_event_loop::{EndpointSettings, KeptSettings, LoopSettings, OriginSettings};
+use bg_event_loop::{EndpointSettings, KeptSettings, LoopSettings, OriginSettings, UploadSettings};
 use bg_load::LoadSettings;
 use bg_ports::bounds_of;
 use bg_revisions::Service;
 
-/// How many bytes of a response may wait for a client before no more are read from the endpoint.
+/// How many bytes of a response may wait for a client before no more are read from the endpoint, and of a request the other way round.
 const STREAM_WINDOW: usize = 65_536;
+
+/// How many bytes of a request are held before it is passed on, if the words do not say so.
+const USUAL_BUFFER: u32 = 65_536;
 
 /// The settings of the event loops of a port. The bounds are those of the port. The gate is asked whether requests go on if the
 /// strategy has a drain limit.
@@ -24,6 +27,10 @@ pub fn settings_of<R>(context: &ServeContext<R>, service: Service) -> LoopSettin
     ensures address { result.endpoints.address ≡ context.now.words.now.endpoint_address }
     ensures stream { is_some result.endpoints.stream ≡ context.now.words.now.stream }
     ensures limits { IfSome result.endpoints.stream AreStreamLimits }
+    ensures uploads { is_some result.endpoints.uploads ≡ context.now.words.now.stream }
+    ensures upload_limits { IfSome result.endpoints.uploads
+        (AreUploadLimits context.now.words.now.buffer context.now.words.now.max_request_body) }
+    ensures arriving { result.clients.keeps_arriving ≡ context.now.words.now.stream }
     ensures duration { context.now.words.now.stream ≡ true → result.endpoints.timeouts.response ≡ 18446744073709551615 }
     ensures silence { context.now.words.now.stream ≡ true → seconds_of context.now.timeout < 2 ^ 32
         → result.endpoints.timeouts.idle ≡ unwrap_or context.now.words.now.silence (seconds_of context.now.timeout) * 1000 }
@@ -43,12 +50,14 @@ pub fn settings_of<R>(context: &ServeContext<R>, service: Service) -> LoopSettin
     LoopSettings {
         clients: ClientSettings {
             request_millis: millis(context.timeout.seconds()),
+            keeps_arriving: context.words.stream,
             ..usual.clients
         },
         endpoints: EndpointSettings {
             address: context.words.endpoint_address,
             timeouts: timeouts_of(context.timeout, context.words.silence, context.words.stream),
             stream: stream_limits(context.words.stream),
+            uploads: upload_settings(context.words),
             tunnel_millis: tunnel_millis(context),
             ..usual.endpoints
         },
@@ -95,6 +104,22 @@ fn stream_limits(is_streamed: bool) -> Option<StreamLimits>
     Some(StreamLimits {
         window: STREAM_WINDOW,
         most_body: usize::MAX,
+    })
+}
+
+/// The limits of requests that are passed on before they are whole, if they are. Without a limit their bodies may have any length.
+fn upload_settings(words: &ServeSettings<'_>) -> Option<UploadSettings>
+    ensures uploads { is_some result ≡ words.now.stream }
+    ensures limits { IfSome result (AreUploadLimits words.now.buffer words.now.max_request_body) }
+{
+    if !words.stream {
+        return None;
+    }
+    Some(UploadSettings {
+        most_held: words.buffer.unwrap_or(USUAL_BUFFER) as usize,
+        most_body: words.max_request_body.unwrap_or(u64::MAX) as usize,
+        window: STREAM_WINDOW,
+        most_response: usize::MAX,
     })
 }
 

@@ -1,4 +1,6 @@
-//! The tests of messages, over the public calls of bg_http, bg_http_read, bg_relay and bg_streams.
+//! The tests of messages, over the public calls of their crates.
+//!
+//! These crates are bg_http, bg_http_read, bg_relay and bg_streams.
 #![tactic(auto)]
 
 #[cfg(test)]

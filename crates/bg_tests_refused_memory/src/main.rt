@@ -1,7 +1,6 @@
-//! Makes the allocating calls of the libraries of books, messages and tunnels, and from the libraries above them
-//! `parse_command_line`, `parse_line`, `check` and `serve_in_memory`. After an allocation
-//! failure, it checks the state that the refused call has left, and repeats the call. All allocations fail while a
-//! request leaves or seats are gathered.
+//! Makes the allocating calls of the libraries of books, messages and tunnels, and a few others. From the libraries above, these
+//! are `parse_command_line`, `parse_line`, `check` and `serve_in_memory`. After an allocation failure, it checks the
+//! state that the refused call has left, and repeats the call. All allocations fail while a request leaves or seats are gathered.
 //!
 //! Standard output names each call that was made, with its result. It is the same whichever allocation fails, unless
 //! a refused call has changed something. Standard error names each call that was refused.
@@ -27,6 +26,7 @@ mod state;
 mod stop;
 mod strategies;
 mod upgrades;
+mod uploads;
 
 use crate::stop::Stop;
 
@@ -42,6 +42,7 @@ fn main(rt: HostRuntime) -> Result<(), Stop> {
     each_growth::make_calls(&rt)?;
     messages::make_calls(&rt)?;
     upgrades::make_calls(&rt)?;
+    uploads::make_calls(&rt)?;
     readings::make_calls(&rt)?;
     forwarding::make_calls(&rt)
 }

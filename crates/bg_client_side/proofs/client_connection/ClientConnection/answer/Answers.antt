@@ -13,4 +13,5 @@ invariant_of-self-2 c = (
       ∙ sym c.goes_on_after.ensures ∙ goes_on in
       sound_answer inside.stream.is_open inside.stage inside.facts persistence c.self.invariant.0 is,
   tt,
+  c.self.invariant.2,
 )
