@@ -1,13 +1,18 @@
 #!/usr/bin/env python3
 """bg_switch --stream beside nginx and HAProxy, in alternating rounds before one endpoint on loopback.
 
-usage: bench/streams.py [--rounds N] [--mebibytes N] [--downloads N] [--streams N] [--seconds S]
+usage: bench/streams.py [--rounds N] [--mebibytes N] [--downloads N] [--uploads N] [--streams N] [--seconds S]
+                        [--only NAME,..]
 
 Downloads: N clients at a time take a response of so many MiB each, and the bench prints MiB a second,
-the processor seconds of a GiB and the most memory that the proxy took. Streams: so many clients have
-an open response each, to which an endpoint adds an event a second, and the bench prints the 99th
-percentile of the time from an event's sending to its coming, beside the processor seconds and the
-memory. All proxies have as many threads. nginx buffers in memory alone, and sends events at once.
+the processor seconds of a GiB and the most memory that the proxy took. Uploads: N clients at a time
+send a request of so many MiB each to an endpoint that drops bodies as they come; the same is printed,
+and the rate without a proxy, which has to be well above the others: else the bench measures its own
+clients. Streams: so many clients have an open response each, to which an endpoint adds an event a
+second, and the bench prints the 99th percentile of the time from an event's sending to its coming,
+beside the processor seconds and the memory. All proxies have as many threads. nginx buffers in memory
+alone, and sends events and bodies of requests at once. Other proxies run for the uploads, so that
+the memory is theirs. `--only` names those of downloads, streams and uploads that are measured.
 
 Exit status: 0 if each ratio keeps its limit, 1 if one does not or a proxy does not run, 2 if the
 words are wrong. Without nginx or haproxy the bench says so, measures nothing, and ends with status
@@ -38,15 +43,17 @@ sys.path.insert(0, str(TOP / "scripts"))
 
 from support import processes  # noqa: E402 (its folder is known by now)
 from support.peers import MeasurementError, configurations, proxies  # noqa: E402
+from support.peers import upload_clients, upload_sink  # noqa: E402
 from support.peers.configurations import SWITCH, Mode, Place  # noqa: E402
 from support.peers.processor_time import family, microseconds_between, thread_times  # noqa: E402
 from support.peers.proxies import PEERS, PORTS, Proxy  # noqa: E402
-from support.peers.words import whole  # noqa: E402
+from support.peers.words import names_of, whole  # noqa: E402
 from support.ports import HOST, is_open  # noqa: E402
 from support.processes import greatest_memory  # noqa: E402
 from support.reserved import reserved, reserved_block  # noqa: E402
 
-# Of the better peer's rate, of the smaller peer's memory, and of the better peer's percentile.
+# Of the better peer's rate, of the memory of the peer that a kind names, and of the better peer's
+# percentile.
 LEAST_RATE, MOST_MEMORY, MOST_DELAY = 0.9, 1.0, 1 / 0.9
 THREADS = 4
 DESCRIPTORS = 16_384  # of each program, if the system allows them
@@ -54,6 +61,8 @@ LONGEST = 120.0  # seconds for which a client waits
 SWITCH_WORDS = ("--stream", "--threads", str(THREADS))
 LARGE, EVENTS = "large", "/events"
 BUFFERS = "proxy_max_temp_file_size 0; location /events { proxy_pass http://endpoint; proxy_buffering off; }"
+# By these nginx passes the body of a request on as it comes, whatever its length.
+UNBUFFERED = "proxy_request_buffering off; client_max_body_size 0;"
 
 
 class Figures(NamedTuple):
@@ -67,17 +76,21 @@ class Figures(NamedTuple):
 
 class Kind(NamedTuple):
     """What is measured: its name, the unit of its value and of its processor time, whether a greater
-    value is better, and the limit of the ratio to the better peer."""
+    value is better, the limit of the ratio to the better peer, and whether the memory is compared
+    with that of the smaller peer, or of the greater one."""
 
     name: str
     unit: str
     work: str
     is_rate: bool
     limit: float
+    is_beside_smaller: bool = False
 
 
 DOWNLOADS = Kind("downloads", "MiB a second", "processor seconds a GiB", True, LEAST_RATE)
 STREAMS = Kind("streams", "milliseconds, 99th percentile", "processor seconds", False, MOST_DELAY)
+UPLOADS = DOWNLOADS._replace(name="uploads", is_beside_smaller=True)
+KINDS = (DOWNLOADS.name, STREAMS.name, UPLOADS.name)
 
 
 def file_server(port: int, size: int, folder: pathlib.Path) -> str:
@@ -149,10 +162,21 @@ def endpoint(size: int, folder: pathlib.Path) -> Iterator[int]:
         yield port
 
 
+@contextlib.contextmanager
+def sink(folder: pathlib.Path) -> Iterator[int]:
+    """The port of an endpoint that drops what is sent to it."""
+    port = reserved(PORTS)
+    with proxies.started([sys.executable, "-B", upload_sink.__file__, str(port)], folder):
+        proxies.need(functools.partial(is_open, port), "the sink does not listen", folder)
+        yield port
+
+
 def nginx(place: Place, mode: Mode, threads: int) -> str:
-    """The text of nginx.conf, by which responses are buffered in memory alone."""
+    """The text of nginx.conf, by which responses are buffered in memory alone, and requests are not
+    buffered."""
     text = configurations.nginx(place, mode, threads)
-    return text.replace("        location / {", f"        {BUFFERS}\n        location / {{", 1)
+    own = f"        {UNBUFFERED}\n        {BUFFERS}\n"
+    return text.replace("        location / {", f"{own}        location / {{", 1)
 
 
 @contextlib.contextmanager
@@ -201,6 +225,18 @@ def downloaded(proxy: Proxy, asked: argparse.Namespace) -> Figures:
         spent / sum(counts) * (1 << 30),
         memory_of(proxy.process),
     )
+
+
+def uploaded(proxy: Proxy, asked: argparse.Namespace) -> Figures:
+    """So many uploads at a time. `MeasurementError` if one of them is not answered by the sink."""
+    before = thread_times(proxy.process)
+    try:
+        rate = upload_clients.rate(proxy.port, asked.uploads, asked.mebibytes)
+    except (MeasurementError, OSError) as error:
+        raise MeasurementError(f"{proxy.name}: an upload has failed: {error}") from error
+    spent = microseconds_between(before, thread_times(proxy.process)) / 1e6
+    gibibytes = asked.uploads * asked.mebibytes / 1024
+    return Figures(rate, spent / gibibytes, memory_of(proxy.process))
 
 
 def streamed(proxy: Proxy, asked: argparse.Namespace) -> Figures:
@@ -252,8 +288,9 @@ def verdicts(kind: Kind, found: dict[str, Figures]) -> Iterator[tuple[str, bool]
     ratio = own.value / better
     holds = ratio >= kind.limit if kind.is_rate else ratio <= kind.limit
     yield f"{kind.name}: {kind.unit}, ratio to the better peer: {ratio:.2f} ({kind.limit:.2f})", holds
-    memory = own.memory / max(each.memory for each in others)
-    yield f"{kind.name}: memory, ratio to the greater peer: {memory:.2f} ({MOST_MEMORY:.2f})", memory <= MOST_MEMORY
+    word, pick = ("smaller", min) if kind.is_beside_smaller else ("greater", max)
+    memory = own.memory / pick(each.memory for each in others)
+    yield f"{kind.name}: memory, ratio to the {word} peer: {memory:.2f} ({MOST_MEMORY:.2f})", memory <= MOST_MEMORY
 
 
 def measured(
@@ -288,11 +325,38 @@ def asked_for(words: Sequence[str]) -> argparse.Namespace:
         ("rounds", 5),
         ("mebibytes", 1024),
         ("downloads", 2),
+        ("uploads", 2),
         ("streams", 1000),
         ("seconds", 10),
     ):
         parser.add_argument(f"--{name}", type=whole, default=default, metavar="N")
+    names = ",".join(KINDS)
+    parser.add_argument("--only", type=names_of(KINDS), default=names, metavar="NAME,..")
     return parser.parse_args(words)
+
+
+def responses(asked: argparse.Namespace, new_folder: Callable[[], pathlib.Path]) -> bool:
+    """Downloads and streams. Whether each ratio keeps its limit."""
+    with endpoint(asked.mebibytes << 20, new_folder()) as port, running(
+        lambda: Place(reserved(PORTS), port, new_folder()), min(asked.streams + 1, 1023)
+    ) as found:
+        holds = DOWNLOADS.name not in asked.only or measured(DOWNLOADS, found, asked, downloaded)
+        if STREAMS.name in asked.only:
+            holds = measured(STREAMS, found, asked, streamed) and holds
+    return holds
+
+
+def requests(asked: argparse.Namespace, new_folder: Callable[[], pathlib.Path]) -> bool:
+    """Uploads, also without a proxy. Whether each ratio keeps its limit."""
+    with sink(new_folder()) as port, running(
+        lambda: Place(reserved(PORTS), port, new_folder()), min(asked.uploads + 1, 1023)
+    ) as found:
+        rates = [
+            upload_clients.rate(port, asked.uploads, asked.mebibytes) for _ in range(asked.rounds)
+        ]
+        direct = f"{statistics.median(rates):.1f} {UPLOADS.unit}"
+        print(f"{UPLOADS.name}: without a proxy: {direct}", flush=True)
+        return measured(UPLOADS, found, asked, uploaded)
 
 
 def main(words: Sequence[str]) -> int:
@@ -310,11 +374,9 @@ def main(words: Sequence[str]) -> int:
             return pathlib.Path(tempfile.mkdtemp(dir=top))
 
         try:
-            with endpoint(asked.mebibytes << 20, new_folder()) as port, running(
-                lambda: Place(reserved(PORTS), port, new_folder()), min(asked.streams + 1, 1023)
-            ) as found:
-                holds = measured(DOWNLOADS, found, asked, downloaded)
-                holds = measured(STREAMS, found, asked, streamed) and holds
+            holds = asked.only == [UPLOADS.name] or responses(asked, new_folder)
+            if UPLOADS.name in asked.only:
+                holds = requests(asked, new_folder) and holds
             return 0 if holds else 1
         except (MeasurementError, OSError, subprocess.SubprocessError) as error:
             print(f"streams: {error}", file=sys.stderr)
