@@ -32,7 +32,10 @@ NAME, PREVIEW_NAME, UNKNOWN_NAME = "web.example", "preview.web.example", "other.
 ACTIVE, PREVIEW, CONTROL = 8080, 8081, "/run/bg-switch/control"
 JOURNAL = ("--journal", "/var/lib/bg-switch/journal")
 SOCKET = ("--control-socket-mode", "660", "--control-socket-group", "bg-operators")
-CONCURRENCY = ("--concurrency", "255", "--keep-alive", "--stream", "--upgrade", "--redispatch")
+# Bytes of a body that is above what the switch holds, and of the largest one of web.conf.
+UPLOAD, MOST_BODY = 3 << 20, 16 << 20
+STREAM = ("--stream", "--max-request-body", str(MOST_BODY))
+CONCURRENCY = ("--concurrency", "255", "--keep-alive", *STREAM, "--upgrade", "--redispatch")
 DESCRIPTORS = 8192
 SOON = 60
 # A user without rights, who runs the commands of the stop if this script is run by root.
@@ -85,7 +88,9 @@ CASES = {
     "the largest body": Case(200, "/echo", "POST", body=bytes(LARGEST_BODY)),
     "a body in chunks": Case(200, "/echo", "POST", body=b"body" * 9000, is_chunked=True),
     "a body after 100 Continue": Case(200, "/echo", "POST", {"Expect": "100-continue"}, b"body"),
-    "a body that is too large": Case(413, "/echo", "POST", body=bytes(LARGEST_BODY + 1)),
+    "an upload": Case(200, "/echo", "POST", body=bytes(UPLOAD)),
+    "an upload in chunks": Case(200, "/echo", "POST", body=bytes(UPLOAD), is_chunked=True),
+    "a body that is too large": Case(413, "/echo", "POST", body=bytes(MOST_BODY + 1)),
     "long fields": Case(200, "/page.txt", fields={"Cookie": "c" * 6900, "X-Long": "x" * 6900}),
     "fields that are too long": Case(
         400, "/page.txt", fields={name: "x" * 6900 for name in ("Cookie", "X-A", "X-B")}
@@ -182,7 +187,7 @@ class NginxSetup:
         python = Endpoint(by_target(b"")).port
         sent = "".join(
             f"location = {target} {{ proxy_pass http://127.0.0.1:{python}; proxy_set_header Host $http_host; "
-            "client_max_body_size 1m; proxy_http_version 1.1; }\n"
+            "client_max_body_size 16m; proxy_http_version 1.1; }\n"
             for target in ("/echo", "/all-fields")
         )
         speaker = Endpoint(send_back).port
