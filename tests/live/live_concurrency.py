@@ -36,7 +36,7 @@ CALL = re.compile(r"\[pid +(?P<thread>\d+)\] (?P<name>\w+)\(")
 SEEN = 0.3
 # For how many seconds a switch makes few calls that has nothing to do.
 QUIET = 3
-SINGLE_CLIENTS = 20
+SINGLE_CLIENTS, STAYING = 20, 40
 SEED = 52
 EACH_ORDER = 10  # requests at least, for each order beside them
 # The descriptors that a switch needs with a thousand requests at a time, by its soft and its hard
@@ -245,7 +245,42 @@ def accepts_of_single_clients() -> None:
         with traced(switch.process.pid) as trace:
             for _ in range(SINGLE_CLIENTS):
                 check("a request", clients.asked(switch.active, request()), answer(b"ok"))
-            check("the calls that accept them", trace.named("accept4"), SINGLE_CLIENTS)
+        # (strace has told all calls now)
+        check("the calls that accept them", trace.named("accept4"), SINGLE_CLIENTS)
+
+
+def clients_that_stay() -> None:
+    """Clients that come one after another, and stay, are spread over the event loops."""
+    gate = Gate()
+    with contextlib.ExitStack() as stack:
+        switch = stack.enter_context(
+            serving(gate, MANY, "--concurrency", str(STAYING), *LOOPS_GIVEN, preview=False)
+        )
+        check("each event loop waits", comes(lambda: all_wait(switch)), True)
+        before = watched(switch)
+        for count in range(1, STAYING + 1):
+            stack.enter_context(held(switch.active, 1))
+            check("a request at the endpoint", comes(lambda: gate.held == count), True)
+        # the sockets of clients and of their requests, which are as many for each; the other set
+        # is that of the operators
+        counts = sorted(count - before[one] for one, count in watched(switch).items())[-LOOPS:]
+        check_within(f"sockets of the event loops {counts}", counts[-1], 1.5 * counts[0])
+        gate.opening.set()
+
+
+def all_wait(switch: Switch) -> bool:
+    """Whether each event loop has begun, and so have the operators: none of their epoll sets changes
+    for a while."""
+    begun = watched(switch)
+    time.sleep(SEEN)
+    return len(begun) == LOOPS + OTHER_THREADS and watched(switch) == begun
+
+
+def watched(switch: Switch) -> dict[int, int]:
+    """How many descriptors each epoll set of a switch watches."""
+    process = switch.process.pid
+    sets = processes.epoll_sets(process)
+    return {one: len(processes.watched_by(process, one)) for one in sets}
 
 
 def threads_and_memory() -> None:
@@ -462,6 +497,7 @@ if __name__ == "__main__":
             a_slow_route_beside_a_fast_one,
             calls_of_idle_loops,
             accepts_of_single_clients,
+            clients_that_stay,
             threads_and_memory,
             number_of_loops,
             descriptors_of_many_requests,

@@ -4,6 +4,7 @@ use crate::client::Client;
 use crate::endpoint_ports::EndpointPorts;
 use crate::event_loop::EventLoop;
 use crate::events::Source;
+use crate::fair_share::is_above_mean;
 use crate::moments::has_come;
 use crate::request_log::RequestLog;
 use bg_both_sides::BothSides;
@@ -84,8 +85,30 @@ impl<'a, P: EndpointPorts, L: RequestLog> EventLoop<'a, P, L> {
         let is_backlog_left = self.port.is_backlog_left();
         for _ in 0..self.accept_rounds.most_in_a_row(is_backlog_left) {
             if !self.accept_one(listener) {
-                return;
+                break;
             }
+            self.let_others_accept(listener);
+        }
+    }
+
+    /// Lets the other loops accept the next clients of a listener if this one has more connections than the mean of the others. An
+    /// event of a listener wakes the loop that has watched it longest, of those that wait, so this one watches it anew (as nginx
+    /// does, in `ngx_reorder_accept_events`).
+    fn let_others_accept(&mut self, listener: usize) {
+        let own = self.loads.totals().connections;
+        let others = self.port.others(self.shared).connections;
+        if self.watches_listeners && is_above_mean(own, others, self.settings.loads.loops) {
+            self.watch_listener_anew(listener);
+        }
+    }
+
+    /// Watches a listener anew that is watched. If that fails, no client is accepted for a while.
+    fn watch_listener_anew(&mut self, listener: usize) {
+        if let Some(descriptor) = self.port.descriptor(listener) {
+            self.set.remove(descriptor);
+        }
+        if !self.watch_listener(listener) {
+            self.pause_accepts(PAUSE_MILLIS);
         }
     }
 

@@ -17,6 +17,7 @@ mod endpoint_ports;
 mod endpoints;
 mod event_loop;
 mod events;
+mod fair_share;
 mod forwarding;
 mod inside;
 mod large_requests;
