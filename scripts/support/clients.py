@@ -70,13 +70,18 @@ def reset(connection: socket.socket) -> None:
     connection.close()
 
 
-def send_in_pieces(connection: socket.socket, pieces: Iterable[bytes], pause: float) -> None:
+def send_in_pieces(connection: socket.socket, pieces: Iterable[bytes], pause: float) -> bool:
     """Sends the pieces, with a pause before each but the first, until all are sent or the peer has
-    ended."""
-    with contextlib.suppress(OSError):
+    ended. Gives whether the sender was told of a reset; what receives is not told of it then."""
+    try:
         for number, piece in enumerate(pieces):
             time.sleep(pause if number else 0)
             connection.sendall(piece)
+    except ConnectionResetError:
+        return True
+    except OSError:
+        pass  # the peer has ended
+    return False
 
 
 def answer_of(connection: socket.socket, text: bytes, *later: bytes) -> bytes | None:

@@ -4,8 +4,8 @@ import pathlib
 import random
 import socket
 import tempfile
-import threading
 from collections.abc import Iterable, Iterator, Sequence
+from concurrent.futures import ThreadPoolExecutor
 from typing import NamedTuple
 
 from bg_switch_tools.switch.access_log import LogEntry
@@ -91,12 +91,16 @@ def rest_of(client: socket.socket) -> Delivered:
 
 def sent_and_received(port: int, *pieces: bytes, pause: float = 0.0) -> Delivered:
     """What comes to a client that sends these pieces, and does not end its side. It receives while
-    it sends, as a client does that may be answered early."""
-    with connect(port) as client:
+    it sends, as a client does that may be answered early. A reset is told to one call only, which
+    may be one that sends."""
+    with connect(port) as client, ThreadPoolExecutor(1) as pool:
         client.setsockopt(socket.IPPROTO_TCP, socket.TCP_NODELAY, 1)
-        sender = threading.Thread(target=send_in_pieces, args=(client, pieces, pause), daemon=True)
-        sender.start()
-        return rest_of(client)
+        sending = pool.submit(send_in_pieces, client, pieces, pause)
+        got = rest_of(client)
+        # wakes the sender if it waits until more is taken
+        with contextlib.suppress(OSError):
+            client.shutdown(socket.SHUT_RDWR)
+        return Delivered(got.text, got.is_reset or sending.result())
 
 
 def taken(client: socket.socket, count: int) -> bytes:

@@ -10,7 +10,7 @@ from typing import NamedTuple
 
 from support import checks
 from support.access_logs import entries_of
-from support.checks import check
+from support.checks import check, comes
 from support.clients import asked, received
 from support.endpoints import LONGEST, Request
 from support.kept import KeptClient, KeptEndpoint
@@ -265,7 +265,7 @@ def many() -> None:
                 answers = [client.answer()[:15] for client in clients]
                 check("answers", set(answers), {b"HTTP/1.1 200 OK"})
         check("ids", len({told(one)[REQUEST_ID][0] for one in tells.active.requests}), 300)
-        check("the operators' count", tells.switch.open_requests(), [0, 0])
+        check("the operators' count", comes(lambda: tells.switch.open_requests() == [0, 0]), True)
 
 
 if __name__ == "__main__":
