@@ -24,6 +24,17 @@ REFUSALS = (
     ("body", 413, None),
     ("memory", 503, None),
 )
+# Why a response can be cut off, of which its client got a part.
+CUTS = (
+    "connect_failed",
+    "response_timeout",
+    "response_malformed",
+    "response_too_large",
+    "given_up",
+    "head",
+    "body",
+    "memory",
+)
 
 
 class Part(NamedTuple):
@@ -72,6 +83,13 @@ def refused(reason: str, number: int = 1) -> LogEntry:
         request=number if revision else None,
         port=None,
         upstream_ms=None,
+    )
+
+
+def cut_off(reason: str) -> LogEntry:
+    """An entry of a request whose response was cut off for this reason, after 40 bytes."""
+    return refused(reason)._replace(
+        end="cut", revision=1, request=1, port=9101, response_bytes=40, upstream_ms=3.0
     )
 
 

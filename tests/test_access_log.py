@@ -17,7 +17,17 @@ from bg_switch_tools.switch.access_log import (
     written,
 )
 from tests.costs import processor_seconds_of, steps_of
-from tests.synthetic_log import ANSWERED, BEGIN, REFUSALS, GrowingLog, Part, entries, refused
+from tests.synthetic_log import (
+    ANSWERED,
+    BEGIN,
+    CUTS,
+    REFUSALS,
+    GrowingLog,
+    Part,
+    cut_off,
+    entries,
+    refused,
+)
 
 LINE = (
     b'{"time":"2026-11-25T18:03:12.042Z","service":"active","revision":2,"request":17,"port":9201,"method":"GET",'
@@ -141,6 +151,7 @@ class Lines(unittest.TestCase):
         told = [
             ANSWERED,
             *(refused(reason) for reason, *_ in REFUSALS),
+            *map(cut_off, CUTS),
             ANSWERED._replace(target='"\\\n\u2028<'),
             ANSWERED._replace(connection_request=1, upstream_reused=False),
             ANSWERED._replace(connection_request=2, upstream_reused=True),
@@ -185,6 +196,15 @@ class Lines(unittest.TestCase):
         self.assertEqual(
             (refused("given_up").has_client_gone, refused("given_up").is_error), (False, True)
         )
+
+    def test_a_response_that_was_cut(self) -> None:
+        """It is an error where a refusal for the same reason is one."""
+        for reason in CUTS:
+            entry = cut_off(reason)
+            self.assertEqual((entry.end, entry.status), ("cut", refused(reason).status), reason)
+            self.assertEqual(entry.is_error, refused(reason).is_error, reason)
+        told = [reason for reason in CUTS if not cut_off(reason).is_error]
+        self.assertEqual(told, ["head", "body"])
 
     def test_what_is_no_line(self) -> None:
         whole = json.loads(LINE)

@@ -31,7 +31,7 @@ from bg_switch_tools.switch.durations import (
 from support.pace import is_within
 from support.processes import Run
 from tests.fake_switch import FakeSwitch
-from tests.synthetic_log import ANSWERED, GrowingLog, Part, entries, refused
+from tests.synthetic_log import ANSWERED, GrowingLog, Part, cut_off, entries, refused
 from tests.tool_runs import run_in_process
 
 LIMITS = Limits(0.01, None, 50, 0)
@@ -98,6 +98,13 @@ class Measured(unittest.TestCase):
         unanswered = [ANSWERED._replace(status=None, end="write_failed")] * 2
         told = [request_of(entry, LIMITS) for entry in requests(98) + unanswered]
         self.assertEqual(measure(told, LIMITS).errors, 2)
+
+    def test_responses_that_were_cut_are_errors(self) -> None:
+        reasons = ("response_malformed", "response_timeout", "given_up")
+        broken = [cut_off(reason) for reason in reasons]
+        told = [request_of(entry, LIMITS) for entry in requests(97) + broken]
+        self.assertEqual(measure(told, LIMITS).errors, 3)
+        self.assertEqual([each.duration for each in told[97:]], [ANSWERED.duration_ms] * 3)
 
     def test_a_refusal_without_an_endpoint_is_an_error_and_has_no_duration(self) -> None:
         told = [request_of(NOT_FOUND, Limits(None, 300, 1, 0))] * 9

@@ -28,7 +28,7 @@ from bg_switch_tools.switch.report_text import in_one_line
 from bg_switch_tools.switch.reports import Report, read_report
 from tests.costs import processor_seconds_of, steps_of
 from tests.fake_switch import FakeBook, FakeSwitch
-from tests.synthetic_log import ANSWERED, BEGIN, Part, entries, refused
+from tests.synthetic_log import ANSWERED, BEGIN, Part, cut_off, entries, refused
 
 
 def reports(*lines: str) -> list[Report]:
@@ -190,6 +190,16 @@ class Counted(unittest.TestCase):
             counted.add(ANSWERED._replace(port=9102, slot_port=slot_port, tries=tries), "a")
         found = counted.counted[Labels("active", "a", "2xx")]
         self.assertEqual((found.requests, found.redispatched, found.retries), (5, 2, 5))
+
+    def test_responses_that_were_cut(self) -> None:
+        """They count by the status of their fault, with the bytes that were forwarded."""
+        counted = Totals()
+        for reason in ("response_malformed", "given_up", "body"):
+            counted.add(cut_off(reason), "a")
+        self.assertEqual(
+            {labels.status: (found.requests, found.bytes) for labels, found in counted.items()},
+            {"5xx": (2, 80), "4xx": (1, 40)},
+        )
 
     def test_clients_that_have_gone_and_idle_connections(self) -> None:
         counted = Totals()

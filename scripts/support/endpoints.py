@@ -126,6 +126,21 @@ def chunked(body: bytes, size: int) -> bytes:
     )
 
 
+# The bytes of a body in one chunk beside its data and its trailers.
+AROUND_DATA = len(b"00000000\r\n" + b"\r\n0\r\n\r\n")
+
+
+def in_one_chunk(data: bytes, trailers: bytes = b"") -> bytes:
+    """A response in one chunk, with these trailers."""
+    head = b"HTTP/1.1 200 OK\r\nTransfer-Encoding: chunked\r\n\r\n"
+    return b"%s%08x\r\n%s\r\n0\r\n%s\r\n" % (head, len(data), data, trailers)
+
+
+def up_to_the_end(body: bytes) -> bytes:
+    """A response whose body goes up to the end of the connection."""
+    return b"HTTP/1.1 200 OK\r\n\r\n" + body
+
+
 SEED = 30
 CUT_HEAD = b"HTTP/1.1 200 OK\r\nContent-Len"
 # What an endpoint sends that is no whole response, by the target that asks for it; after it the

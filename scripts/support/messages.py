@@ -36,6 +36,19 @@ def answer(body: bytes) -> bytes:
     )
 
 
+def data_of_chunks(text: bytes) -> tuple[bytes, bytes | None]:
+    """The data of a body in chunks, as far as it came, and what follows its last chunk, `None` if
+    the last chunk is missing. A chunk may be cut at any byte."""
+    data, at = bytearray(), 0
+    while (end := text.find(b"\r\n", at)) >= 0:
+        size = int(text[at:end], 16)
+        if size == 0:
+            return bytes(data), text[end + 4 :]
+        data += text[end + 2 : end + 2 + size]
+        at = end + 2 + size + 2
+    return bytes(data), None
+
+
 def refusal(status: bytes) -> bytes:
     """What a client gets that the switch itself answers."""
     return b"HTTP/1.1 %s\r\nContent-Length: 0\r\nConnection: close\r\n\r\n" % status

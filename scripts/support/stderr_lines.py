@@ -46,6 +46,13 @@ def full() -> re.Pattern[str]:
     )
 
 
+def cut_off() -> re.Pattern[str]:
+    """Responses were cut off after a part of them was forwarded; the group is how many."""
+    return re.compile(
+        r"bg_switch: responses that were cut off after a part of them was forwarded: (\d+)"
+    )
+
+
 def refused_connections() -> re.Pattern[str]:
     """Connections of users that aren't listed were turned away; the group is how many."""
     return re.compile(

@@ -9,7 +9,8 @@ from collections.abc import Callable, Mapping
 
 from support.checks import comes
 from support.clients import reset
-from support.endpoints import END_OF_HEAD, LONGEST, Endpoint, reset_at_once
+from support.endpoints import AROUND_DATA, END_OF_HEAD, LONGEST, Endpoint, in_one_chunk
+from support.endpoints import reset_at_once, up_to_the_end
 from support.messages import response
 
 LINE_END = b"\r\n"
@@ -23,6 +24,9 @@ CLOSED, RESET, LEFT = "closed", "reset", "left"
 SLOW, SILENT, STALLS = b"/slow", b"/silent", b"/stalls"
 EARLY, EARLY_UNREAD, ECHOES = b"/early", b"/early-unread", b"/echoes"
 RESETS, ENDS, PART = b"/resets", b"/ends", b"/part"
+# It answers a whole request with zeros, by length, in one chunk or up to the end of the connection. The body has as many bytes
+# as the query says, with the lines of the chunk.
+LENGTH, ONE_CHUNK, TO_THE_END = b"/by-length", b"/one-chunk", b"/to-the-end"
 ENOUGH = 100_000  # bytes of a body that it reads before it leaves
 PAUSE = 0.001  # seconds that it sleeps after each piece that it reads slowly
 PAGE = b"you may not send this" * 100
@@ -77,6 +81,11 @@ class Upload:
 
     def value(self, name: bytes) -> bytes | None:
         return next((value for field, value in self.fields if field == name.lower()), None)
+
+    @property
+    def number(self) -> int:
+        """The number that is the query of its target."""
+        return int(self.target.partition(b"?")[2])
 
     @property
     def is_in_chunks(self) -> bool:
@@ -215,6 +224,20 @@ class UploadEndpoint(Endpoint):
         text = text_of(upload.target, upload.count, upload.checksum)
         source.connection.sendall(response(text))
 
+    def answer_by_length(self, upload: Upload, source: Source) -> None:
+        upload.read(source)
+        source.connection.sendall(response(bytes(upload.number)))
+
+    def answer_in_one_chunk(self, upload: Upload, source: Source) -> None:
+        upload.read(source)
+        source.connection.sendall(in_one_chunk(bytes(upload.number - AROUND_DATA)))
+
+    def answer_to_the_end(self, upload: Upload, source: Source) -> None:
+        upload.read(source)
+        source.connection.sendall(up_to_the_end(bytes(upload.number)))
+        source.connection.shutdown(socket.SHUT_WR)
+        read_on(source)
+
     def be_silent(self, upload: Upload, source: Source) -> None:
         """Reads a request and whatever follows it, and answers nothing."""
         upload.read(source)
@@ -278,4 +301,7 @@ ACTS: Mapping[bytes, Callable[[UploadEndpoint, Upload, Source], None]] = {
     RESETS: UploadEndpoint.reset_halfway,
     ENDS: UploadEndpoint.end_halfway,
     PART: UploadEndpoint.answer_in_part,
+    LENGTH: UploadEndpoint.answer_by_length,
+    ONE_CHUNK: UploadEndpoint.answer_in_one_chunk,
+    TO_THE_END: UploadEndpoint.answer_to_the_end,
 }

@@ -141,7 +141,8 @@ def endpoints_that_leave() -> None:
             found.endpoint.may_go.set()
             check("then a reset", rest_of(client), Delivered(b"", True))
         line = found.entries(5)[4]
-        check("its line", (line.status, line.response_bytes), (502, len(half)))
+        told = line.status, line.end, line.response_bytes
+        check("its line", told, (502, "cut", len(half)))
 
 
 def clients_that_go() -> None:
@@ -206,6 +207,8 @@ def malformed() -> None:
             is_cut = True
         check("it is cut", is_cut, True)
         found.check_cut("a malformed chunk behind it", ECHOES)
+        (line,) = found.entries(1)
+        check("its line", (line.status, line.end, line.reason), (400, "cut", "head"))
 
 
 def most_body() -> None:

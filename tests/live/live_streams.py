@@ -9,17 +9,19 @@ import tempfile
 import threading
 import time
 import zlib
-from collections.abc import Callable, Iterator, Sequence
+from collections.abc import Callable, Iterator, Mapping, Sequence
 from typing import NamedTuple
 
 from support import checks
 from support.access_logs import entries_of
 from support.checks import check, check_soon, check_within, comes
 from support.clients import connect, polite, received, reset, timed
-from support.endpoints import LONGEST, Request, chunked
+from support.endpoints import AROUND_DATA, END_OF_HEAD, LONGEST, Request, chunked, in_one_chunk
+from support.endpoints import up_to_the_end
 from support.kept import TO_THE_END, KeptEndpoint, echo, last
-from support.messages import BAD_GATEWAY, NO_PREVIEW, answer, request
+from support.messages import BAD_GATEWAY, NO_PREVIEW, answer, data_of_chunks, request, response
 from support.processes import greatest_memory
+from support.stderr_lines import cut_off, told
 from support.switch import Switch
 from support.traffic import ACCESS_LOG
 
@@ -50,6 +52,8 @@ SHORT, SHORT_CHUNKS, BAD_CHUNK, SHORT_END = (
 )
 NO_CONTENT, NOT_MODIFIED, BAD_HEAD, CHUNKS = b"/204", b"/304", b"/bad-head", b"/chunks"
 SLOW_READERS = 20
+MAX_BODY, MOST = "--max-response-body", 100_000
+FEW = 1_000  # bytes of a chunk that come in one piece
 
 
 class StreamEndpoint(KeptEndpoint):
@@ -78,6 +82,8 @@ class StreamEndpoint(KeptEndpoint):
                     self.sent += len(BLOCK)
         elif target == CHUNKS:
             connection.sendall(chunked(BLOCK, 1000))
+        elif target in SIZED:
+            self.send_sized(asked_for, connection)
         elif target in BROKEN_OFF:
             connection.sendall(BROKEN_OFF[target])
             connection.close()
@@ -96,6 +102,19 @@ class StreamEndpoint(KeptEndpoint):
             connection.sendall(b"HTTP/1.1 304 Not Modified\r\nContent-Length: 10\r\n\r\n")
         else:
             super().answer_by_target(asked_for, connection)
+
+    def send_sized(self, asked_for: Request, connection: socket.socket) -> None:
+        """Sends the first piece at once, and each later one at a step. A body without a framing goes
+        up to the end of the connection."""
+        first, *later = SIZED[asked_for.target]
+        if asked_for.method == b"HEAD":
+            first, later = first.partition(END_OF_HEAD)[0] + END_OF_HEAD, []
+        connection.sendall(first)
+        for piece in later:
+            self.steps.acquire(timeout=LONGEST)
+            connection.sendall(piece)
+        if first.startswith(up_to_the_end(b"")):
+            connection.close()
 
     def send_events(self, connection: socket.socket) -> None:
         connection.sendall(IN_CHUNKS)
@@ -116,6 +135,32 @@ BROKEN_OFF = {
 }
 
 
+# What an endpoint sends at each target: a body of as many bytes as it may have, or of more.
+ABOVE = BLOCK * 4
+TRAILER = b"X-Sum: 1\r\n"
+LENGTH_BLOCK, LENGTH_MOST, LENGTH_ABOVE = b"/length-block", b"/length-most", b"/length-above"
+CHUNK_MOST, CHUNK_ABOVE, TRAILER_MOST = b"/chunk-most", b"/chunk-above", b"/trailer-most"
+CHUNK_BY_1, TRAILER_BY_1, LATER_ABOVE = b"/chunk-by-1", b"/trailer-by-1", b"/later-above"
+END_MOST, END_BY_1, END_ABOVE = b"/end-most", b"/end-by-1", b"/end-above"
+SIZED: Mapping[bytes, Sequence[bytes]] = {
+    LENGTH_BLOCK: (response(BLOCK),),
+    LENGTH_MOST: (response(ABOVE[:MOST]),),
+    LENGTH_ABOVE: (response(ABOVE[: MOST + 1]),),
+    CHUNK_MOST: (in_one_chunk(ABOVE[: MOST - AROUND_DATA]),),
+    CHUNK_BY_1: (in_one_chunk(ABOVE[: MOST - AROUND_DATA + 1]),),
+    TRAILER_MOST: (in_one_chunk(ABOVE[: MOST - AROUND_DATA - len(TRAILER)], TRAILER),),
+    TRAILER_BY_1: (in_one_chunk(ABOVE[: MOST - AROUND_DATA - len(TRAILER) + 1], TRAILER),),
+    CHUNK_ABOVE: (in_one_chunk(ABOVE),),
+    LATER_ABOVE: (
+        IN_CHUNKS + b"%x\r\n%s\r\n" % (FEW, ABOVE[:FEW]),
+        b"%x\r\n%s\r\n0\r\n\r\n" % (len(ABOVE) - FEW, ABOVE[FEW:]),
+    ),
+    END_MOST: (up_to_the_end(ABOVE[:MOST]),),
+    END_BY_1: (up_to_the_end(ABOVE[: MOST + 1]),),
+    END_ABOVE: (up_to_the_end(ABOVE),),
+}
+
+
 class Streaming(NamedTuple):
     """A switch that passes responses on, its endpoint, and the file of its access log."""
 
@@ -127,12 +172,15 @@ class Streaming(NamedTuple):
         """The entries of the log, once there are `count` of them."""
         return entries_of(self.log, count)
 
+    def is_left(self) -> bool:
+        """Whether no request is open at a time that comes soon: a client may have the end of its
+        response before its request has left."""
+        return comes(lambda: self.switch.open_requests() == [0])
+
     def is_free(self) -> bool:
         """Whether no request is open, and the endpoint has no connection, at a time that comes
         soon."""
-        return comes(lambda: self.switch.open_requests() == [0]) and comes(
-            lambda: self.endpoint.open == 0
-        )
+        return self.is_left() and comes(lambda: self.endpoint.open == 0)
 
 
 @contextlib.contextmanager
@@ -209,19 +257,6 @@ def received_up_to(client: socket.socket, text: bytes, before: bytes) -> bytes:
             raise EOFError(f"the connection ended before {text!r}")
         got += piece
     return got
-
-
-def data_of_chunks(text: bytes) -> tuple[bytes, bytes | None]:
-    """The data of a body in chunks, as far as it came, and what follows its last chunk, `None` if
-    the last chunk is missing. A chunk may be cut at any byte."""
-    data, at = bytearray(), 0
-    while (end := text.find(b"\r\n", at)) >= 0:
-        size = int(text[at:end], 16)
-        if size == 0:
-            return bytes(data), text[end + 4 :]
-        data += text[end + 2 : end + 2 + size]
-        at = end + 2 + size + 2
-    return bytes(data), None
 
 
 def one_in_chunks(text: bytes) -> tuple[bytes, bytes]:
@@ -392,10 +427,115 @@ def cut() -> None:
         check(
             "the lines of cut responses",
             {(one.status, one.end, one.reason) for one in entries},
-            {(502, "refused", "response_malformed")},
+            {(502, "cut", "response_malformed")},
         )
         check("bytes of cut responses", all(one.response_bytes for one in entries), True)
-        check("no request is open", switch.open_requests(), [0])
+        check_told(switch, len(cases))
+        check("no request is open", streamed.is_left(), True)
+
+
+def check_told(switch: Switch, count: int) -> None:
+    """A check that standard error soon has so many responses that were cut off."""
+
+    def counted() -> int:
+        return sum(int(line[1]) for line in told(switch, cut_off()))
+
+    comes(lambda: counted() >= count)
+    check("responses that were cut off, by standard error", counted(), count)
+
+
+def within_the_limit() -> None:
+    """A response whose body has as many bytes as it may have comes whole, and a larger length of one
+    without a body is passed on."""
+    most = ABOVE[:MOST]
+    in_chunk = most[: MOST - AROUND_DATA]
+    with streaming(KEEP_ALIVE, MAX_BODY, str(MOST)) as streamed:
+        switch = streamed.switch
+        found = answered(switch.active, last(request(LENGTH_MOST)))
+        check("a length of as many", found, Answered(answer(most), False))
+        for target, text, data in (
+            (CHUNK_MOST, last(request(CHUNK_MOST)), in_chunk),
+            (TRAILER_MOST, last(request(TRAILER_MOST)), in_chunk[: -len(TRAILER)]),
+            (END_MOST, last(request(END_MOST)), most),
+        ):
+            body = answered(switch.active, text).text.partition(b"\r\n\r\n")[2]
+            check(f"{target.decode()}: as many", one_in_chunks(body), (data, b""))
+            found = answered(switch.active, old(request(target)))
+            body = found.text.partition(b"\r\n\r\n")[2]
+            check(f"{target.decode()}: as many to HTTP/1.0", (body, found.is_reset), (data, False))
+        found = answered(switch.active, last(request(LENGTH_ABOVE, b"HEAD")))
+        more = ABOVE[: MOST + 1]
+        check("a HEAD of more", found.text, answer(more).removesuffix(more))
+        check("no request is open", streamed.is_left(), True)
+        check("all are answered", {one.status for one in streamed.entries(8)}, {200})
+    with streaming(MAX_BODY, str(len(BLOCK))) as streamed:
+        found = answered(streamed.switch.active, request(LENGTH_BLOCK))
+        check("a length of the least limit", found, Answered(answer(BLOCK), False))
+        found = answered(streamed.switch.active, request(CHUNKS))
+        check_part("as many bytes in chunks, whose lines count", found, 0, False)
+
+
+def above_the_limit() -> None:
+    """--max-response-body: a greater length is a 502 before a byte of the response is passed on. What
+    turns out to be larger is cut, which a client can tell. The connection to the endpoint is used by
+    no other request."""
+    with streaming(KEEP_ALIVE, MAX_BODY, str(MOST)) as streamed:
+        switch, endpoint, _ = streamed
+        cases: Sequence[tuple[bytes, bool, int]] = (
+            (CHUNK_BY_1, False, 0),
+            (TRAILER_BY_1, False, 0),
+            (CHUNK_ABOVE, False, 0),
+            (LATER_ABOVE, False, FEW),
+            (END_BY_1, False, 0),
+            (END_ABOVE, False, 0),
+            (CHUNK_ABOVE, True, 0),
+            (LATER_ABOVE, True, 0),
+            (END_BY_1, True, 0),
+            (END_ABOVE, True, 0),
+        )
+        for text in (request(LENGTH_ABOVE), old(request(LENGTH_ABOVE))):
+            found = answered(switch.active, text)
+            check("a length above it", found, Answered(BAD_GATEWAY, False))
+            check_next(switch)
+        for target, is_old, least in cases:
+            name = target.decode() + " to HTTP/1.0" * is_old
+            text = old(request(target)) if is_old else request(target)
+            # it sends what is too much once the client has got the first piece
+            then: Callable[[], object] = nothing
+            if target == LATER_ABOVE:
+                then = endpoint.steps.release
+            check_part(name, answered(switch.active, text, then), least, is_old)
+            check_next(switch)
+        count = 2 + len(cases)
+        # one for the first response, and a new one after each that was too large
+        check("connections to the endpoint", endpoint.connections, 1 + count)
+        lines = [one for one in streamed.entries(2 * count) if one.target != "/next"]
+        check(
+            "the lines of responses that are too large",
+            [(one.status, one.end, one.reason) for one in lines],
+            [(502, end, "response_too_large") for end in ["refused"] * 2 + ["cut"] * len(cases)],
+        )
+        check("no request is open", streamed.is_left(), True)
+
+
+def check_next(switch: Switch) -> None:
+    """A check that a request behind others is answered."""
+    found = answered(switch.active, last(request(b"/next"))).text
+    check("a whole one later", found, answer(echo(b"/next")))
+
+
+def check_part(name: str, found: Answered, least: int, is_old: bool) -> None:
+    """A check that a part of a body that is above the limit came to a client, which is told by a reset if
+    its version is 1.0. A reset may overtake bytes."""
+    head, _, got = found.text.partition(b"\r\n\r\n")
+    if not is_old:
+        check(f"{name}: its status", head[:12], b"HTTP/1.1 200")
+        got, left = data_of_chunks(got)
+        check(f"{name}: no last chunk", left, None)
+    check(f"{name}: a part of its body", ABOVE.startswith(got), True)
+    check_within(f"{name}: bytes of it", len(got), MOST)
+    check(f"{name}: those before", len(got) >= least, True)
+    check(f"{name}: a reset", found.is_reset, is_old)
 
 
 def slow_readers() -> None:
@@ -444,8 +584,8 @@ def clients_that_go() -> None:
         check("no request is open", streamed.is_free(), True)
         check(
             "their lines",
-            [(one.status, one.reason) for one in streamed.entries(2)],
-            [(499, "client_gone")] * 2,
+            [(one.status, one.end, one.reason) for one in streamed.entries(2)],
+            [(499, "refused", "client_gone")] * 2,
         )
 
 
@@ -472,8 +612,8 @@ def silent_endpoint() -> None:
         entries = streamed.entries(2)
         check(
             "their lines",
-            [(one.status, one.reason) for one in entries],
-            [(502, "response_timeout"), (200, None)],
+            [(one.status, one.end, one.reason) for one in entries],
+            [(502, "cut", "response_timeout"), (200, "answered", None)],
         )
         waited = entries[1].upstream_ms
         is_short = waited is not None and waited < 1000 * SHORT_TIMEOUT
@@ -512,8 +652,8 @@ def drained() -> None:
         other.stop()
         check(
             "its line",
-            [(one.status, one.reason) for one in streamed.entries(1)],
-            [(503, "given_up")],
+            [(one.status, one.end, one.reason) for one in streamed.entries(1)],
+            [(503, "cut", "given_up")],
         )
 
 
@@ -549,6 +689,8 @@ if __name__ == "__main__":
             framings,
             kept,
             cut,
+            within_the_limit,
+            above_the_limit,
             clients_that_go,
             drained,
             shut_down,

@@ -9,15 +9,20 @@ from functools import partial
 from support import checks
 from support.checks import check
 from support.clients import at_once, connect
+from support.endpoints import AROUND_DATA
 from support.kept import KeptClient
-from support.messages import CONTINUE, LARGEST_BODY, NO_PREVIEW, TOO_LARGE, request
+from support.messages import BAD_GATEWAY, CONTINUE, LARGEST_BODY, NO_PREVIEW, TOO_LARGE, answer
+from support.messages import data_of_chunks, request
 from support.ports import free_ports
 from support.switch import run_to_end
-from support.upload_endpoint import Upload, told
-from support.uploads import BODY, CHUNKED, LAST_CHUNK, MEBIBYTE, STREAM, Uploading, by_length
-from support.uploads import chunks, head, in_chunks, rest_of, split, taken, uploading, whole
+from support.upload_endpoint import ECHOES, LENGTH, ONE_CHUNK, TO_THE_END, Upload, told
+from support.uploads import BODY, CHUNKED, LAST_CHUNK, MEBIBYTE, STREAM, Delivered, Uploading
+from support.uploads import by_length, chunks, head, in_chunks, rest_of, split, taken, uploading
+from support.uploads import whole
 
 KEEP_ALIVE = "--keep-alive"
+# The most bytes of the body of a response.
+MAX_RESPONSE, MOST = "--max-response-body", 100_000
 BUFFER, DEFAULT_BUFFER, LARGEST_BUFFER = 16_384, 65_536, 1_048_576
 EXPECT = b"Expect: 100-continue"
 QUIET = 0.5  # seconds in which what may not happen would have happened
@@ -310,13 +315,78 @@ def without_the_flag() -> None:
         check("no endpoint got one", found.endpoint.connections, before)
 
 
+def responses_at_the_limit() -> None:
+    """--max-response-body: a response to an upload comes whole if its body has as many bytes, with the
+    lines of its chunk."""
+    body = BODY[:MEBIBYTE]
+    with uploading(MAX_RESPONSE, str(MOST)) as found:
+        target = b"%s?%d" % (LENGTH, MOST)
+        got = found.sends(by_length(target, body))
+        check("a length of as many", got, Delivered(answer(bytes(MOST)), False))
+        for kind, size in ((ONE_CHUNK, MOST - AROUND_DATA), (TO_THE_END, MOST)):
+            target = b"%s?%d" % (kind, MOST)
+            for text in (by_length(target, body), in_chunks(target, body, 1000)):
+                got = found.sends(text)
+                data, left = data_of_chunks(got.text.partition(b"\r\n\r\n")[2])
+                check(f"{kind.decode()}: as many", (data, left), (bytes(size), b""))
+                check(f"{kind.decode()}: no reset", got.is_reset, False)
+            got = found.sends(by_length(target, body, version=b"1.0"))
+            data = got.text.partition(b"\r\n\r\n")[2]
+            check(f"{kind.decode()}: to HTTP/1.0", (data, got.is_reset), (bytes(size), False))
+        check("their statuses", {one.status for one in found.entries(7)}, {200})
+
+
+def responses_above_the_limit() -> None:
+    """--max-response-body: if a response to an upload has a greater length, the client gets 502 and no
+    byte of it. If it turns out to be larger, it is cut, and the client's connection is reset."""
+    body = BODY[:MEBIBYTE]
+    with uploading(MAX_RESPONSE, str(MOST)) as found:
+        target = b"%s?%d" % (LENGTH, MOST + 1)
+        for version in (b"1.1", b"1.0"):
+            got = found.sends(by_length(target, body, version=version))
+            check("a greater length", got, Delivered(BAD_GATEWAY, False))
+        targets = [b"%s?%d" % (kind, MOST + 1) for kind in (ONE_CHUNK, TO_THE_END)]
+        targets += [b"%s?%d" % (kind, 3 * MOST) for kind in (ONE_CHUNK, TO_THE_END)]
+        for target in targets:
+            for version in (b"1.1", b"1.0"):
+                got = found.sends(by_length(target, body, version=version))
+                check_part(f"{target.decode()} to {version.decode()}", got, bytes(3 * MOST))
+        # one that begins before the request is whole
+        text = in_chunks(ECHOES, BODY, 1000)
+        check_part("one that comes early", found.sends(text), BODY)
+        found.check_cut("the request beside it", ECHOES)
+        count = 2 + 2 * len(targets) + 1
+        ends = ["refused"] * 2 + ["cut"] * (count - 2)
+        lines = [(one.status, one.end, one.reason) for one in found.entries(count)]
+        check("their lines", lines, [(502, end, "response_too_large") for end in ends])
+        ended = [upload.has_ended() for upload in found.endpoint.uploads]
+        check("their connections end", ended, [True] * count)
+        check("and are used once", found.endpoint.connections, count)
+        small = by_length(b"/small", BODY[:1000])
+        check("a small one later", found.sends(small), whole(b"/small", BODY[:1000]))
+
+
+def check_part(name: str, got: Delivered, body: bytes) -> None:
+    """A check that a reset ended a response to a client, and that it got a part of this body, which is
+    above the limit, or nothing: a reset may overtake bytes."""
+    head_of_it, _, data = got.text.partition(b"\r\n\r\n")
+    if CHUNKED in head_of_it:
+        data, left = data_of_chunks(data)
+        check(f"{name}: no last chunk", left, None)
+    check(f"{name}: a part of the body", body.startswith(data) and len(data) <= MOST, True)
+    check(f"{name}: a reset", got.is_reset, True)
+
+
 def wrong_words() -> None:
-    """A buffer has 16,384 to 1,048,576 bytes."""
+    """A buffer has 16,384 to 1,048,576 bytes, and a limit of bodies 65,536 to 1,099,511,627,776."""
     for words in (
         ("--buffer", "16383"),
         ("--buffer", "1048577"),
         ("--buffer", "x"),
         ("--max-request-body", "x"),
+        (MAX_RESPONSE, "x"),
+        (MAX_RESPONSE, "65535"),
+        (MAX_RESPONSE, "1099511627777"),
     ):
         run = run_to_end(NO_PREVIEW, *free_ports(2), flags=(STREAM, *words))
         check(" ".join(words), (run.status, run.printed), (2, ""))
@@ -335,6 +405,8 @@ if __name__ == "__main__":
             seats,
             expectations,
             kept,
+            responses_at_the_limit,
+            responses_above_the_limit,
             without_the_flag,
             wrong_words,
         ),

@@ -10,7 +10,8 @@ use bg_streams::StreamTerms;
 pub struct StreamLimits {
     /// Bytes of its body are taken while fewer bytes of it are to be written to the client; with 0 none are taken.
     pub window: usize,
-    /// The most bytes that a Content-Length may name: a response of more bytes is refused.
+    /// The most bytes of its body, those of one in chunks with its chunk lines and trailers. A response with a greater Content-Length is
+    /// refused.
     pub most_body: usize,
 }
 

@@ -182,11 +182,13 @@ number_given : (o : Option Text) (n : Option ℕ) → n ≡ option_map number o 
 number_given None n is given = rw is at given
 number_given (Some t) n is given = refl
 
-streams_by : (stream buffer body : Bool) → (not stream && (buffer || body)) ≡ false → (buffer ≡ true → stream ≡ true) × (body ≡ true → stream ≡ true)
-streams_by true buffer body e = (λ _. refl, λ _. refl)
-streams_by false true body e = cc
-streams_by false false true e = cc
-streams_by false false false e = (λ h. cc, λ h. cc)
+streams_by : (stream buffer asked answered : Bool) → (not stream && ((buffer || asked) || answered)) ≡ false
+    → (buffer ≡ true → stream ≡ true) × (asked ≡ true → stream ≡ true) × (answered ≡ true → stream ≡ true)
+streams_by true buffer asked answered e = (λ _. refl, λ _. refl, λ _. refl)
+streams_by false true asked answered e = cc
+streams_by false false true answered e = cc
+streams_by false false false true e = cc
+streams_by false false false false e = (λ h. cc, λ h. cc, λ h. cc)
 
 -- what needs `--stream` is set only with it
 pub needs_stream : (flags : Flags) (name : Text) (rows : List Row) (o : Invocation) → lacks_stream rows ≡ false → IsInvocationOf flags name rows o → NeedsStream o
@@ -195,7 +197,9 @@ needs_stream flags name rows (Replay seats) streams is = tt
 needs_stream flags name rows (Journal path) streams is = tt
 needs_stream flags name rows (RestartJournal path ports) streams is = tt
 needs_stream flags name rows (Serve settings) streams is =
-    let by = streams_by (has_flag (codes "stream") rows) (is_some (first_of (codes "buffer") rows)) (is_some (first_of (codes "max-request-body") rows)) streams in (
+    let by = streams_by (has_flag (codes "stream") rows) (is_some (first_of (codes "buffer") rows)) (is_some (first_of (codes "max-request-body") rows))
+    (is_some (first_of (codes "max-response-body") rows)) streams in (
       λ given. is.1.stream_is ∙ by.0 (number_given (first_of (codes "buffer") rows) settings.buffer is.1.buffer_is given),
       λ given. is.1.stream_is ∙ by.1 (number_given (first_of (codes "max-request-body") rows) settings.max_request_body is.1.max_request_body_is given),
+      λ given. is.1.stream_is ∙ by.2 (number_given (first_of (codes "max-response-body") rows) settings.max_response_body is.1.max_response_body_is given),
     )

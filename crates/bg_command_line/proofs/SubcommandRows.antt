@@ -64,7 +64,8 @@ kept_and_count flags =
 abbrev message_and_later : Flags → List Rule
 message_and_later flags =
     held (flag_rule (codes "stream")) ∷ held (range_rule (codes "buffer") 16384 1048576)
-    ∷ held (range_rule (codes "max-request-body") 65536 1099511627776) ∷ held (number_rule (codes "silence") 3600)
+    ∷ held (range_rule (codes "max-request-body") 65536 1099511627776)
+    ∷ held (range_rule (codes "max-response-body") 65536 1099511627776) ∷ held (number_rule (codes "silence") 3600)
     ∷ held (flag_rule (codes "forwarded")) ∷ held (flag_rule (codes "trust-forwarded")) ∷ held (flag_rule (codes "upgrade"))
     ∷ kept_and_count flags
 
@@ -111,12 +112,15 @@ message_and_later_keep flags = let c = (serve flags).rules in (
     (
       range_keeps c (codes "max-request-body") 65536 1099511627776 refl,
       (
-        number_keeps c (codes "silence") 3600 refl,
+        range_keeps c (codes "max-response-body") 65536 1099511627776 refl,
         (
-          flag_keeps c false (codes "forwarded") refl,
+          number_keeps c (codes "silence") 3600 refl,
           (
-            flag_keeps c false (codes "trust-forwarded") refl,
-            (flag_keeps c false (codes "upgrade") refl, kept_and_count_keep flags),
+            flag_keeps c false (codes "forwarded") refl,
+            (
+              flag_keeps c false (codes "trust-forwarded") refl,
+              (flag_keeps c false (codes "upgrade") refl, kept_and_count_keep flags),
+            ),
           ),
         ),
       ),
@@ -207,12 +211,15 @@ message_and_later_defaults flags = let c = (serve flags).rules in (
     (
       no_default_keeps c (held (range_rule (codes "max-request-body") 65536 1099511627776)) refl,
       (
-        no_default_keeps c (held (number_rule (codes "silence") 3600)) refl,
+        no_default_keeps c (held (range_rule (codes "max-response-body") 65536 1099511627776)) refl,
         (
-          flag_default_keeps c false (codes "forwarded") refl,
+          no_default_keeps c (held (number_rule (codes "silence") 3600)) refl,
           (
-            flag_default_keeps c false (codes "trust-forwarded") refl,
-            (flag_default_keeps c false (codes "upgrade") refl, kept_and_count_defaults flags),
+            flag_default_keeps c false (codes "forwarded") refl,
+            (
+              flag_default_keeps c false (codes "trust-forwarded") refl,
+              (flag_default_keeps c false (codes "upgrade") refl, kept_and_count_defaults flags),
+            ),
           ),
         ),
       ),
@@ -355,6 +362,7 @@ serve_known flags words e =
       shutdown_timeout = in_range c (held (number_rule (codes "shutdown-timeout") 3600)) (codes "shutdown-timeout") 3600 rows refl refl refl good;
       buffer = within c (held (range_rule (codes "buffer") 16384 1048576)) (codes "buffer") 16384 1048576 rows refl refl refl good;
       max_request_body = within c (held (range_rule (codes "max-request-body") 65536 1099511627776)) (codes "max-request-body") 65536 1099511627776 rows refl refl refl good;
+      max_response_body = within c (held (range_rule (codes "max-response-body") 65536 1099511627776)) (codes "max-response-body") 65536 1099511627776 rows refl refl refl good;
       silence = in_range c (held (number_rule (codes "silence") 3600)) (codes "silence") 3600 rows refl refl refl good;
       keep_alive_timeout = in_range c (held (number_rule (codes "keep-alive-timeout") 3600)) (codes "keep-alive-timeout") 3600 rows refl refl refl good;
       keep_alive_requests = in_range c (held (number_rule (codes "keep-alive-requests") 1000000)) (codes "keep-alive-requests") 1000000 rows refl refl refl good;

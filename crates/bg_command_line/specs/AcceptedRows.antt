@@ -34,6 +34,7 @@ pub record HasWordsOfServe (flags : Flags) (rows : List Row) : Type 0 where
   pub shutdown_timeout : IsIn 1 3600 (codes "shutdown-timeout") rows
   pub buffer : IsIn 16384 1048576 (codes "buffer") rows
   pub max_request_body : IsIn 65536 1099511627776 (codes "max-request-body") rows
+  pub max_response_body : IsIn 65536 1099511627776 (codes "max-response-body") rows
   pub silence : IsIn 1 3600 (codes "silence") rows
   pub keep_alive_timeout : IsIn 1 3600 (codes "keep-alive-timeout") rows
   pub keep_alive_requests : IsIn 1 1000000 (codes "keep-alive-requests") rows

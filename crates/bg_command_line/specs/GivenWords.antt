@@ -35,10 +35,11 @@ is_in_conflict flags rows =
     flags.forever && is_some (first_of (codes "count") rows)
     || is_some (first_of (codes "concurrency") rows) && is_some (first_of (codes "workers") rows)
 
--- `--buffer` or `--max-request-body` is given without `--stream`, which each of them needs
+-- `--buffer`, `--max-request-body` or `--max-response-body` is given without `--stream`, which each of them needs
 abbrev pub lacks_stream : List Row → Bool
 lacks_stream rows = not (has_flag (codes "stream") rows)
-    && (is_some (first_of (codes "buffer") rows) || is_some (first_of (codes "max-request-body") rows))
+    && ((is_some (first_of (codes "buffer") rows) || is_some (first_of (codes "max-request-body") rows))
+    || is_some (first_of (codes "max-response-body") rows))
 
 abbrev pub kinds_of_rows : Flags → List Row → Kinds
 kinds_of_rows flags rows =

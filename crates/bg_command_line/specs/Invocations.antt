@@ -35,10 +35,11 @@ IsInvocationIn words o = (kinds_of words ≡ [])
     × (subcommand_of (program (flags_of words)) words ≡ Some (name, rows))
     × IsInvocationOf (flags_of words) name rows o)
 
--- how much of a request is held and how long its body may be are set only with `--stream`
+-- how much of a request is held, how long its body may be and how long that of a response are set only with `--stream`
 abbrev pub NeedsStream : Invocation → Type 0
 NeedsStream (Serve settings) = (is_some settings.buffer ≡ true → settings.stream ≡ true)
     × (is_some settings.max_request_body ≡ true → settings.stream ≡ true)
+    × (is_some settings.max_response_body ≡ true → settings.stream ≡ true)
 NeedsStream Check = Unit {0}
 NeedsStream (Replay seats) = Unit {0}
 NeedsStream (Journal path) = Unit {0}

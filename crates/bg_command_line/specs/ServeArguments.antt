@@ -109,6 +109,8 @@ pub record IsServe (flags : Flags) (rows : List Row) (settings : ServeSettings) 
   pub buffer_range : IfSome settings.buffer (IsBetween 16384 1048576)
   pub max_request_body_is : settings.max_request_body ≡ number_of (codes "max-request-body") rows
   pub max_request_body_range : IfSome settings.max_request_body (IsBetween 65536 1099511627776)
+  pub max_response_body_is : settings.max_response_body ≡ number_of (codes "max-response-body") rows
+  pub max_response_body_range : IfSome settings.max_response_body (IsBetween 65536 1099511627776)
   pub silence_is : settings.silence ≡ number_of (codes "silence") rows
   pub silence_range : IfSome settings.silence (IsBetween 1 3600)
   pub forwarded_is : settings.forwarded ≡ has_flag (codes "forwarded") rows

@@ -63,11 +63,12 @@ with_client_rules a = with_rule (with_rule (with_rule (with_rule a (flag_rule (c
     (number_rule (codes "shutdown-timeout") 3600))
     (flag_rule (codes "error-pages"))
 
--- `[--stream] [--buffer N] [--max-request-body N] [--silence S] [--forwarded] [--trust-forwarded] [--upgrade]`
+-- `[--stream] [--buffer N] [--max-request-body N] [--max-response-body N] [--silence S] [--forwarded] [--trust-forwarded] [--upgrade]`
 abbrev pub with_message_rules : App → App
-with_message_rules a = with_rule (with_rule (with_rule (with_rule (with_rule (with_rule (with_rule a (flag_rule (codes "stream")))
+with_message_rules a = with_rule (with_rule (with_rule (with_rule (with_rule (with_rule (with_rule (with_rule a (flag_rule (codes "stream")))
     (range_rule (codes "buffer") 16384 1048576))
     (range_rule (codes "max-request-body") 65536 1099511627776))
+    (range_rule (codes "max-response-body") 65536 1099511627776))
     (number_rule (codes "silence") 3600))
     (flag_rule (codes "forwarded")))
     (flag_rule (codes "trust-forwarded")))
@@ -90,8 +91,8 @@ with_connection_rules forever a = with_rule (with_rule a (count_rule forever)) (
 
 -- `serve --active P [--preview P] [--listen ADDRESS].. [--control-socket-mode MODE] [--control-socket-group GROUP]
 -- [--preview-concurrency M] [--threads N] [--redispatch] [--endpoint-limit M] [--endpoint-address ADDRESS] [--abort-on-close]
--- [--shutdown-grace S] [--shutdown-timeout S] [--error-pages] [--stream] [--buffer N] [--max-request-body N] [--silence S]
--- [--forwarded] [--trust-forwarded] [--upgrade] [--keep-alive] [--keep-alive-timeout S] [--keep-alive-requests N] [--endpoint-keep-alive-timeout S] [--journal FILE]`, with `--control P` or `--control-socket PATH` or both, `--workers N` or `--concurrency N`, and `--count K`
+-- [--shutdown-grace S] [--shutdown-timeout S] [--error-pages] [--stream] [--buffer N] [--max-request-body N]
+-- [--max-response-body N] [--silence S] [--forwarded] [--trust-forwarded] [--upgrade] [--keep-alive] [--keep-alive-timeout S] [--keep-alive-requests N] [--endpoint-keep-alive-timeout S] [--journal FILE]`, with `--control P` or `--control-socket PATH` or both, `--workers N` or `--concurrency N`, and `--count K`
 -- or `--forever`; the flags say which of each two is required
 abbrev pub serve_app : Flags → App
 serve_app flags = with_connection_rules flags.forever (with_journal_rule (with_keep_alive_rules (with_message_rules (with_client_rules

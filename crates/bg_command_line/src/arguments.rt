@@ -4,7 +4,7 @@ ghost use Rattle.clap.specs.Words.{all_of, first_of, found_of, rows_of};
 ghost use Rattle.bg_command_line.specs.AcceptedRows.{IsIn};
 ghost use Rattle.bg_command_line.specs.ServeArguments.{IsBetween, has_flag, number_of};
 
-use crate::numbers::u16_in;
+use crate::numbers::{body_in, u16_in};
 use clap::ArgMatches;
 
 /// Whether a flag is given. `clap` gives it the value `true` or `false`.
@@ -47,6 +47,18 @@ pub(crate) fn u16_of<const MOST: u16>(matches: &ArgMatches, id: &str) -> Option<
 {
     match argument_text(matches, id) {
         Some(text) => Some(u16_in::<MOST>(text)),
+        None => None,
+    }
+}
+
+/// The most bytes of a body by an argument, if it is given.
+pub(crate) fn body_of(matches: &ArgMatches, id: &str) -> Option<u64>
+    requires { IsIn 65536 1099511627776 id.now (rows_of (found_of matches.now)) }
+    ensures value { result ≡ number_of id.now (rows_of (found_of matches.now)) }
+    ensures range { IfSome result (IsBetween 65536 1099511627776) }
+{
+    match argument_text(matches, id) {
+        Some(text) => Some(body_in(text)),
         None => None,
     }
 }

@@ -39,11 +39,13 @@ responses that their clients have not taken. A request that is being served keep
 With --error-pages, an answer of the switch itself has a short body with its status and reason: HTML if the client
 accepts text/html, else text. Without it, such an answer has no body.
 With --stream, a response is passed on to its client as it comes, whatever its length and however long it takes.
-Without it, a response of up to 4 MiB is passed on once it is whole, and a longer one is answered 502. --silence
-is how many seconds an endpoint may be silent meanwhile. It has no effect without --stream or --upgrade.
+Without it, a response of up to 4 MiB is passed on once it is whole, and a longer one is answered 502.
+--max-response-body is the most bytes of the body of a response with --stream: a response that says more is answered
+502, and one that turns out to have more is cut off. --silence is how many seconds an endpoint may be silent
+meanwhile. It has no effect without --stream or --upgrade.
 With --stream, a request of more than --buffer bytes is passed on as it comes, too. Its connections, to the client
 and to the endpoint, end after it. --max-request-body is the most bytes of its body. Without --stream, a body above
-1 MiB is answered 413. --buffer and --max-request-body need --stream.
+1 MiB is answered 413. --buffer, --max-request-body and --max-response-body need --stream.
 With --forwarded, a request tells its endpoint where it comes from: X-Forwarded-For, X-Forwarded-Proto,
 X-Forwarded-Host, Forwarded and X-Request-Id. What the client tells by these fields is dropped, unless
 --trust-forwarded says that clients are proxies. It has no effect without --forwarded.
@@ -118,6 +120,9 @@ serve takes, on ports of 127.0.0.1:
                where it isn't given; it needs --stream
   --max-request-body N
                the most bytes of the body of a request with --stream, 65536 to 1099511627776; no limit where it
+               isn't given; it needs --stream
+  --max-response-body N
+               the most bytes of the body of a response with --stream, 65536 to 1099511627776; no limit where it
                isn't given; it needs --stream
   --silence S  for how many seconds an endpoint may be silent, or a tunnel, 1 to 3600; as many as a response may
                take where it isn't given; it has no effect without --stream or --upgrade
@@ -208,8 +213,8 @@ fn journal_command<'a>(alloc: Global) -> Result<Command<'a>, AllocError>
 
 /// `serve --active P [--preview P] [--listen ADDRESS].. [--control-socket-mode MODE] [--control-socket-group GROUP]
 /// [--preview-concurrency M] [--threads N] [--redispatch] [--endpoint-limit M] [--endpoint-address ADDRESS] [--abort-on-close]
-/// [--shutdown-grace S] [--shutdown-timeout S] [--error-pages] [--stream] [--buffer N] [--max-request-body N] [--silence S]
-/// [--forwarded] [--trust-forwarded] [--upgrade] [--keep-alive] [--keep-alive-timeout S] [--keep-alive-requests N] [--endpoint-keep-alive-timeout S] [--journal FILE]`, with `--control P` or `--control-socket PATH` or both, `--workers N` or `--concurrency N`, and `--count K`
+/// [--shutdown-grace S] [--shutdown-timeout S] [--error-pages] [--stream] [--buffer N] [--max-request-body N]
+/// [--max-response-body N] [--silence S] [--forwarded] [--trust-forwarded] [--upgrade] [--keep-alive] [--keep-alive-timeout S] [--keep-alive-requests N] [--endpoint-keep-alive-timeout S] [--journal FILE]`, with `--control P` or `--control-socket PATH` or both, `--workers N` or `--concurrency N`, and `--count K`
 /// or `--forever`. The flags say which of each two is required.
 fn serve_command<'a>(alloc: Global, flags: Flags) -> Result<Command<'a>, AllocError>
     ensures app { IfOk result (λ c. app_of c ≡ serve_app flags) }

@@ -47,8 +47,10 @@ pub(crate) fn conflict_fault(alloc: Global, matches: &ArgMatches) -> InvocationF
 fn missing_stream_message(matches: &ArgMatches) -> &'static str {
     if argument_text(matches, "buffer").is_some() {
         "the argument '--buffer <N>' cannot be used without '--stream'"
-    } else {
+    } else if argument_text(matches, "max-request-body").is_some() {
         "the argument '--max-request-body <N>' cannot be used without '--stream'"
+    } else {
+        "the argument '--max-response-body <N>' cannot be used without '--stream'"
     }
 }
 

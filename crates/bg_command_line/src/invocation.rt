@@ -132,6 +132,9 @@ pub struct ServeSettings<'a> {
     /// The most bytes of the body of a request with `stream` (nginx's `client_max_body_size`), 65,536 to 1,099,511,627,776;
     /// `None` stands for no limit. It is given only if `stream` holds.
     pub max_request_body: Option<u64>,
+    /// The most bytes of the body of a response with `stream`, 65,536 to 1,099,511,627,776; `None` stands for no limit. It is given
+    /// only if `stream` holds.
+    pub max_response_body: Option<u64>,
     /// For how many seconds an endpoint may be silent whose response is passed on as it comes, or both sides of a tunnel (nginx's
     /// `proxy_read_timeout`, HAProxy's `timeout server` and `timeout tunnel`), 1 to 3,600; `None` stands for as many as a message may
     /// take.

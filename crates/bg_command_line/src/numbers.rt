@@ -28,7 +28,7 @@ pub(crate) fn grace_in(text: &str) -> u8
     text.parse::<u8>().unwrap()
 }
 
-/// The most bytes of the body of a request.
+/// The most bytes of a body.
 pub(crate) fn body_in(text: &str) -> u64
     requires { IsUnsignedIn 65536 1099511627776 text.now }
     ensures value { result ≡ number text.now }

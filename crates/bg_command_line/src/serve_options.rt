@@ -32,7 +32,7 @@ const LEAST_BUFFER: u64 = 16_384;
 
 const MOST_BUFFER: u64 = 1_048_576;
 
-/// How few and how many bytes the body of a request may be allowed.
+/// How few and how many bytes the body of a message may be allowed.
 const LEAST_BODY: u64 = 65_536;
 
 const MOST_BODY: u64 = 1_099_511_627_776;
@@ -41,10 +41,10 @@ const MOST_BODY: u64 = 1_099_511_627_776;
 /// `[--control-socket-mode MODE]` and `[--control-socket-group GROUP]`; `--workers N`, `--concurrency N`,
 /// `[--preview-concurrency M]` and `[--threads N]`; `[--redispatch] [--endpoint-limit M]
 /// [--endpoint-address ADDRESS]`; `[--abort-on-close] [--shutdown-grace S] [--shutdown-timeout S] [--error-pages]`;
-/// `[--stream] [--buffer N] [--max-request-body N] [--silence S] [--forwarded] [--trust-forwarded] [--upgrade]`;
+/// `[--stream] [--buffer N] [--max-request-body N] [--max-response-body N] [--silence S] [--forwarded] [--trust-forwarded] [--upgrade]`;
 /// `[--keep-alive] [--keep-alive-timeout S] [--keep-alive-requests N] [--endpoint-keep-alive-timeout S]`; `[--journal FILE]`; `--count K` and `--forever`. The flags say which of `--control` and `--control-socket` is required, which of `--workers` and
 /// `--concurrency`, and which of `--count` and `--forever`.
-pub(crate) fn serve_options<'a>(flags: Flags) -> [CommandOption<'a>; 32]
+pub(crate) fn serve_options<'a>(flags: Flags) -> [CommandOption<'a>; 33]
     ensures { (before : App) → fold with_rule before (map option_rule result) ≡ with_connection_rules flags.forever
         (with_journal_rule (with_keep_alive_rules (with_message_rules (with_client_rules (with_endpoint_rules
         (with_worker_rules flags.concurrency (with_control_rules flags.socket (with_port_rules before)))))))) }
@@ -175,6 +175,12 @@ pub(crate) fn serve_options<'a>(flags: Flags) -> [CommandOption<'a>; 32]
             value: OptionValue::Between(LEAST_BODY, MOST_BODY),
             required: false,
             help: "The most bytes of the body of a request with --stream, 65536 to 1099511627776; no limit where it isn't given; needs --stream",
+        },
+        CommandOption {
+            name: "max-response-body",
+            value: OptionValue::Between(LEAST_BODY, MOST_BODY),
+            required: false,
+            help: "The most bytes of the body of a response with --stream, 65536 to 1099511627776; no limit where it isn't given; needs --stream",
         },
         CommandOption {
             name: "silence",

@@ -9,14 +9,14 @@ ghost use Rattle.bg_command_line.specs.Invocations.{IsAddressFault, IsFaultIn, I
 ghost use Rattle.bg_command_line.specs.ServeArguments.{AreConnections, AreWorkers, IsBetween, IsControlSocket, IsKeepAlive, IsMode, default_preview_workers, has_flag, number, number_of};
 ghost use Rattle.bg_command_line.specs.ListenAddresses.{AreListenAddresses, listed, listen_texts};
 
-use crate::arguments::{argument_text, has_flag, required_text, u16_of, u16_or};
+use crate::arguments::{argument_text, body_of, has_flag, required_text, u16_of, u16_or};
 use crate::command_line::program_command;
 use crate::faults::{address_fault, conflict_fault, fault_of, missing_stream_fault};
 use crate::given_addresses::{GivenAddresses, addresses_of};
 use crate::invocation::{
     Connections, ControlSocket, Flags, Invocation, InvocationFault, KeepAlive, ServeSettings,
 };
-use crate::numbers::{body_in, grace_in, seats_in, u16_in, u32_in};
+use crate::numbers::{grace_in, seats_in, u16_in, u32_in};
 use clap::ArgMatches;
 use std::alloc::Global;
 
@@ -47,7 +47,8 @@ const DEFAULT_KEPT_REQUESTS: u32 = 1_000;
 /// with N from 1 to 1023, and either `--count K` with K from 1 to 1,000,000 or `--forever`. `serve` also takes
 /// `--preview-concurrency M` and `--endpoint-limit M` with M from 1 to 1023, `--threads N` with N from 1 to 64,
 /// `--redispatch`, `--endpoint-address ADDRESS`, `--listen ADDRESS` up to eight times, `--abort-on-close`, `--error-pages`, `--stream`,
-/// `--buffer N` with N from 16,384 to 1,048,576 and `--max-request-body N` with N from 65,536 to 1,099,511,627,776, which need `--stream`,
+/// `--buffer N` with N from 16,384 to 1,048,576, `--max-request-body N` and `--max-response-body N` with N from 65,536 to
+/// 1,099,511,627,776, which need `--stream`,
 /// `--silence S` with S from 1 to 3,600, `--forwarded`, `--trust-forwarded`, `--upgrade`,
 /// `--shutdown-grace S` with S from 1 to 60, `--shutdown-timeout S` with S from 1 to 3,600,
 /// `--control-socket-mode MODE` with MODE from 1 to 777, `--control-socket-group GROUP`, `--keep-alive`,
@@ -55,10 +56,10 @@ const DEFAULT_KEPT_REQUESTS: u32 = 1_000;
 /// 1 to 1,000,000, and `--journal FILE`. A value may also follow its option after `=`, in the same word.
 ///
 /// The error is `Words` only if `clap` refuses the words, if they ask for help or for the version, if
-/// both `--count` and `--forever` are given, or both `--workers` and `--concurrency`, if `--buffer` or `--max-request-body` is
-/// given without `--stream`, or if an ADDRESS is no IPv4 or IPv6 address (RFC 4291 section 2.2), if that of `--endpoint-address`
-/// is 0.0.0.0 or `::`, or if one of `--listen` is the same as one before, is 0.0.0.0 or `::` beside another one of its family, or
-/// is the ninth. It is `OutOfMemory` if an allocation fails.
+/// both `--count` and `--forever` are given, or both `--workers` and `--concurrency`, if `--buffer`, `--max-request-body` or
+/// `--max-response-body` is given without `--stream`, or if an ADDRESS is no IPv4 or IPv6 address (RFC 4291 section 2.2), if that
+/// of `--endpoint-address` is 0.0.0.0 or `::`, or if one of `--listen` is the same as one before, is 0.0.0.0 or `::` beside another
+/// one of its family, or is the ninth. It is `OutOfMemory` if an allocation fails.
 pub fn parse_command_line<'a>(
     alloc: Global,
     words: &'a [&'a str],
@@ -137,13 +138,14 @@ fn is_in_conflict(flags: Flags, matches: &ArgMatches) -> bool
             && argument_text(matches, "workers").is_some()
 }
 
-/// Whether `--buffer` or `--max-request-body` is given without `--stream`, which each of them needs.
+/// Whether `--buffer`, `--max-request-body` or `--max-response-body` is given without `--stream`, which each of them needs.
 fn lacks_stream(matches: &ArgMatches) -> bool
     ensures { result ≡ lacks_stream (rows_of (found_of matches.now)) }
 {
     !has_flag(matches, "stream")
         && (argument_text(matches, "buffer").is_some()
-            || argument_text(matches, "max-request-body").is_some())
+            || argument_text(matches, "max-request-body").is_some()
+            || argument_text(matches, "max-response-body").is_some())
 }
 
 fn invocation_of<'a>(
@@ -215,7 +217,8 @@ fn serve_of<'a>(flags: Flags, addresses: GivenAddresses, matches: &ArgMatches<'a
         error_pages: has_flag(matches, "error-pages"),
         stream: has_flag(matches, "stream"),
         buffer: buffer_of(matches),
-        max_request_body: max_request_body_of(matches),
+        max_request_body: body_of(matches, "max-request-body"),
+        max_response_body: body_of(matches, "max-response-body"),
         silence: u16_of::<3600>(matches, "silence"),
         forwarded: has_flag(matches, "forwarded"),
         trust_forwarded: has_flag(matches, "trust-forwarded"),
@@ -306,18 +309,6 @@ fn buffer_of(matches: &ArgMatches) -> Option<u32>
 {
     match argument_text(matches, "buffer") {
         Some(text) => Some(u32_in::<16384, 1048576>(text)),
-        None => None,
-    }
-}
-
-/// The most bytes of the body of a request, if that is given.
-fn max_request_body_of(matches: &ArgMatches) -> Option<u64>
-    requires { IsIn 65536 1099511627776 (codes "max-request-body") (rows_of (found_of matches.now)) }
-    ensures value { result ≡ number_of (codes "max-request-body") (rows_of (found_of matches.now)) }
-    ensures range { IfSome result (IsBetween 65536 1099511627776) }
-{
-    match argument_text(matches, "max-request-body") {
-        Some(text) => Some(body_in(text)),
         None => None,
     }
 }

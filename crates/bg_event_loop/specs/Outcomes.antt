@@ -41,13 +41,15 @@ abbrev pub fault_end : Bool → Option Reason → RequestFault → End
 fault_end is_written (Some why) fault = refused_end is_written why
 fault_end is_written None fault = unanswered fault
 
--- how a request ended, whose answer was written or could not be
+-- how a request ended, whose answer was written or could not be; if its response was cut off, its end and its reason are as if
+-- the client had taken nothing of the response
 abbrev pub cause_end : Bool → Cause → End
 cause_end is_written (cause.Given (given.Response code)) = answered_end is_written code
 cause_end is_written (cause.Given (given.Refusal fault)) = refused_end is_written (fault_reason fault)
 cause_end is_written (cause.Given (given.Cut fault)) = refused_end is_written (fault_reason fault)
 cause_end is_written (cause.Refused why) = refused_end is_written why
 cause_end is_written (cause.Fault fault) = fault_end is_written (request_reason fault) fault
+cause_end is_written (cause.CutByFault fault) = fault_end is_written (request_reason fault) fault
 
 -- why it was refused
 abbrev pub cause_reason : Bool → Cause → Option Reason
@@ -56,6 +58,16 @@ cause_reason is_written (cause.Given (given.Refusal fault)) = Some (fault_reason
 cause_reason is_written (cause.Given (given.Cut fault)) = Some (fault_reason fault)
 cause_reason is_written (cause.Refused why) = Some why
 cause_reason is_written (cause.Fault fault) = request_reason fault
+cause_reason is_written (cause.CutByFault fault) = request_reason fault
+
+-- whether its response was cut off, which its client took a part of
+abbrev pub is_cut_by : Cause → Bool
+is_cut_by (cause.Given (given.Response code)) = false
+is_cut_by (cause.Given (given.Refusal fault)) = false
+is_cut_by (cause.Given (given.Cut fault)) = true
+is_cut_by (cause.Refused why) = false
+is_cut_by (cause.Fault fault) = false
+is_cut_by (cause.CutByFault fault) = true
 
 -- how a request ended that was not answered: its client went before the answer to a whole request; else it ended its input, or
 -- the connection failed or timed out

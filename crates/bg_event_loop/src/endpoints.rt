@@ -1,5 +1,5 @@
 //! The connections to endpoints of a loop.
-ghost use Rattle.std.specs.Prelude.{◌≡◌, ◌&&◌, not, false, IfOk, IfSome};
+ghost use Rattle.std.specs.Prelude.{◌≡◌, ◌&&◌, not, false, IfOk, IfSome, None};
 
 use crate::client::Client;
 use crate::endpoint::Endpoint;
@@ -8,7 +8,7 @@ use crate::events::{Source, Told, watch};
 use crate::readiness::Readiness;
 use crate::settings::EndpointSettings;
 use crate::slots::Slots;
-use crate::sockets::{DialledStream, connect};
+use crate::sockets::{DialledStream, connect, reset};
 use bg_endpoint_side::{DialFault, KeptConnection, KeptConnections};
 use bg_http::Persistence;
 use bg_sockets::EpollSet;
@@ -160,12 +160,26 @@ impl<'a, P: EndpointPorts> Endpoints<'a, P> {
         }
     }
 
-    pub(crate) fn close(&mut self, key: usize) {
+    pub(crate) fn close(&mut self, key: usize)
+        ensures kept { self.new.kept ≡ self.old.kept }
+    {
         self.connections.remove(key);
     }
 
+    /// Resets the connection of the request of a client, so that its endpoint can tell that the request was cut off.
+    pub(crate) fn reset_used_by(&self, client: &Client) {
+        if let Some(key) = client.endpoint
+            && let Some(endpoint) = self.connections.get(key)
+        {
+            reset(&endpoint.stream);
+        }
+    }
+
     /// Closes the connection of the request of a client, and gives the port of its endpoint.
-    pub(crate) fn close_used_by(&mut self, client: &mut Client) -> Option<u16> {
+    pub(crate) fn close_used_by(&mut self, client: &mut Client) -> Option<u16>
+        ensures unused { client.new.endpoint ≡ None }
+        ensures kept { self.new.kept ≡ self.old.kept }
+    {
         let key = client.endpoint.take()?;
         let port = self.connections.get(key)?.port;
         self.close(key);

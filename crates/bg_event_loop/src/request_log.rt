@@ -14,6 +14,9 @@ pub struct RequestLine<'a> {
 #[derive(Drop)]
 pub struct EndedRequest<'a> {
     pub served: Served,
+    /// Whether its response was cut off, of which its client took a part. Its end and its reason are as if the client had taken
+    /// nothing.
+    pub is_cut: bool,
     /// The method and the target, if the head of the request was parsed.
     pub line: Option<RequestLine<'a>>,
     /// The id that its endpoint was told, at most its first 1,024 bytes; `None` if it was told none.

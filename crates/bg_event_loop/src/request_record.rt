@@ -199,6 +199,7 @@ impl RequestRecord {
                 end: ended.outcome.end,
                 reason: ended.outcome.reason,
             },
+            is_cut: ended.outcome.is_cut,
             line,
             id: match &self.id {
                 Some(id) => Some(id.as_slice()),

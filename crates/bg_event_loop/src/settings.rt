@@ -17,11 +17,11 @@ use std::net::{IpAddr, Ipv4Addr};
 pub struct UploadSettings {
     /// The most bytes of a request that are held before it is passed on.
     pub most_held: usize,
-    /// The most bytes of its body.
+    /// The most bytes of its body, those of one in chunks with its chunk lines and trailers.
     pub most_body: usize,
     /// Bytes of it are taken while fewer bytes of it are to be written to the endpoint; so are bytes of its response.
     pub window: usize,
-    /// The most bytes that the Content-Length of its response may name.
+    /// The most bytes of the body of its response, counted in the same way.
     pub most_response: usize,
 }
 

@@ -1,5 +1,5 @@
 //! The tunnels of clients, and how the bytes that pass through them are read and written.
-ghost use Rattle.std.specs.Prelude.{◌≡◌, Some};
+ghost use Rattle.std.specs.Prelude.{◌≡◌, None, Some};
 ghost use Rattle.std.specs.Option.{option_and_then, option_map};
 ghost use Rattle.bg_tunnel.specs.Tunnels.{begun, failed, looked};
 ghost use Rattle.bg_event_loop.specs.TunnelSteps.{is_due as is_tunnel_due, reads as tunnel_reads, writes as tunnel_writes};
@@ -251,17 +251,17 @@ impl<P: EndpointPorts> Endpoints<'_, P> {
         true
     }
 
-    /// The tunnel of a client is over: closes the connection to the endpoint, and counts the request at its port no longer. Unless
-    /// each peer got all bytes of the other one and its end, both connections are reset, so that the peers can tell.
-    fn end_tunnel(&mut self, client: &mut Client, ending: TunnelEnding) {
-        let is_whole = ending == TunnelEnding::Ended(TunnelEnd::Whole);
-        if !is_whole {
+    /// The tunnel of a client is over: closes the connection to the endpoint, which no other request is given, and counts the
+    /// request at its port no longer. Unless each peer got all bytes of the other one and its end, both connections are reset, so
+    /// that the peers can tell.
+    fn end_tunnel(&mut self, client: &mut Client, ending: TunnelEnding)
+        ensures unused { client.new.endpoint ≡ None }
+        ensures over { client.new.tunnel ≡ None }
+        ensures kept { self.new.kept ≡ self.old.kept }
+    {
+        if ending != TunnelEnding::Ended(TunnelEnd::Whole) {
             reset(&client.stream);
-        }
-        if let Some(endpoint) = self.used_by(client)
-            && !is_whole
-        {
-            reset(&endpoint.stream);
+            self.reset_used_by(client);
         }
         self.close_used_by(client);
         if let Some(tries) = &mut client.tries {

@@ -1,4 +1,6 @@
 //! How the large requests of clients are passed on, and how they end.
+ghost use Rattle.std.specs.Prelude.{◌≡◌, None, true};
+ghost use Rattle.bg_event_loop.specs.Outcomes.{is_cut_by};
 
 use crate::client::Client;
 use crate::endpoint::Endpoint;
@@ -214,11 +216,13 @@ impl Client {
     }
 
     /// Cuts the response to its large request off, of which the client took a part: its connection is reset.
-    fn cut_large(&mut self, alloc: Global, settings: ClientSettings, fault: UploadFault) -> Cause {
+    fn cut_large(&mut self, alloc: Global, settings: ClientSettings, fault: UploadFault) -> Cause
+        ensures cut { is_cut_by result ≡ true }
+    {
         reset(&self.stream);
         self.sides = BothSides::of_none(alloc, settings);
         match fault {
-            UploadFault::Request(fault) => Cause::Fault(fault),
+            UploadFault::Request(fault) => Cause::CutByFault(fault),
             UploadFault::Forward(fault) => Cause::Given(Given::Cut(fault)),
         }
     }
@@ -319,8 +323,12 @@ impl<P: EndpointPorts> Endpoints<'_, P> {
         true
     }
 
-    /// The large request of a client is over: closes the connection to its endpoint, and counts the request at its port no longer.
-    fn end_upload(&mut self, client: &mut Client, health: Health) {
+    /// The large request of a client is over: closes the connection to its endpoint, which no other request is given, and counts the
+    /// request at its port no longer.
+    fn end_upload(&mut self, client: &mut Client, health: Health)
+        ensures unused { client.new.endpoint ≡ None }
+        ensures kept { self.new.kept ≡ self.old.kept }
+    {
         self.close_used_by(client);
         if let Some(tries) = &mut client.tries {
             tries.leave(self.ports, health);

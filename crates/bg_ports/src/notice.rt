@@ -35,6 +35,10 @@ pub(crate) enum Notice<'a> {
         lines: u64,
         requests: u64,
     },
+    /// The number of responses that were cut off since the last such notice.
+    ResponsesCut {
+        responses: u64,
+    },
     /// A line of this peer, which was carried out.
     Decision {
         peer: Peer,
@@ -111,6 +115,10 @@ impl fmt::Display for Notice<'_> {
             Notice::HistoryFull { lines, requests } => write!(
                 f,
                 "the history is full; lines refused: {lines}, requests refused: {requests}"
+            ),
+            Notice::ResponsesCut { responses } => write!(
+                f,
+                "responses that were cut off after a part of them was forwarded: {responses}"
             ),
             Notice::Decision { peer, line } => match peer {
                 Peer::User(user) => write!(f, "user {user}: {line}"),

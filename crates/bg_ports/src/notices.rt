@@ -36,13 +36,13 @@ impl PortNotices {
 
 /// Writes notices to standard error while the ports are open: fewer event loops than expected, failed
 /// accepts, a port that is closed because it has taken all its connections, a history that is
-/// nearly full, lines and requests that are refused because it is full, an access log that takes nothing
-/// or has lost lines, decisions that came by the control socket, and, if the control port serves only listed users, their
+/// nearly full, lines and requests that are refused because it is full, responses that are cut off, an access log that takes
+/// nothing or has lost lines, decisions that came by the control socket, and, if the control port serves only listed users, their
 /// decisions and the connections of others; and what was resumed from a journal, that it can't be used, or that it lacks an
 /// order. Each is written once, or once for each client port, with these exceptions. Failed accepts at the control port or at
 /// the control socket, a log that takes nothing, and a journal that lacks an order are written once for each
-/// series of failures. Refusals, and connections of others, are written
-/// each second in which something was refused. Each decision is written. A failed write changes nothing else.
+/// series of failures. Refusals, responses that are cut off, and connections of others, are written
+/// each second in which there were some. Each decision is written. A failed write changes nothing else.
 #[derive(Drop)]
 pub struct Notices<'p> {
     alloc: Global,
@@ -66,6 +66,8 @@ pub struct Notices<'p> {
     refused_lines: AtomicU64,
     /// The number of such requests.
     refused_requests: AtomicU64,
+    /// The number of responses that were cut off, since the last notice about that.
+    cut_responses: AtomicU64,
     /// The number of connections that were refused at the control port, since the last notice about that.
     refused_connections: AtomicU64,
 }
@@ -94,6 +96,7 @@ impl<'p> Notices<'p> {
             nearly_full: AtomicBool::new(false),
             refused_lines: AtomicU64::new(0),
             refused_requests: AtomicU64::new(0),
+            cut_responses: AtomicU64::new(0),
             refused_connections: AtomicU64::new(0),
         }
     }
@@ -165,6 +168,19 @@ impl<'p> Notices<'p> {
     /// The counter of the requests that are refused because the history is full.
     pub fn refused_requests(&self) -> &AtomicU64 {
         &self.refused_requests
+    }
+
+    /// The counter of the responses that are cut off after a part of them was forwarded.
+    pub fn cut_responses(&self) -> &AtomicU64 {
+        &self.cut_responses
+    }
+
+    /// Writes how many responses were cut off, if any were since the last call.
+    pub fn write_cut_responses(&self) {
+        let responses = self.cut_responses.swap(0, Ordering::SeqCst);
+        if responses > 0 {
+            self.write(&Notice::ResponsesCut { responses });
+        }
     }
 
     /// Writes how many lines and requests were refused because the history is full, if any were refused since the
@@ -314,6 +330,7 @@ impl ControlEvents for Notices<'_> {
         self.check_port(Service::Active, is_late);
         self.check_port(Service::Preview, is_late);
         self.write_refusals();
+        self.write_cut_responses();
         self.write_log_trouble();
     }
 }

@@ -1,6 +1,6 @@
 -- What a relay passes on.
-use Rattle.std.proofs.Common.{◌≡◌, ℕ, Bool, true, false, List, [], ◌++◌, take, refl, ap, sym, ◌∙◌, append_assoc, subst, if◌then◌else◌, Result, Ok, Err, OnOk, IfErr, is_err, Option, Some, None, IsFalse, length, drop, ◌≤◌}
-use Rattle.std.proofs.lemmas.List.{append-nil}
+use Rattle.std.proofs.Common.{◌≡◌, ℕ, ◌+◌, ◌<◌, Bool, true, false, List, [], ◌++◌, take, refl, ap, sym, ◌∙◌, append_assoc, subst, if◌then◌else◌, Result, Ok, Err, OnOk, IfErr, is_err, Option, Some, None, IsFalse, length, drop, ◌≤◌, arith}
+use Rattle.std.proofs.lemmas.List.{append-nil, length-append, length-take-le}
 use Rattle.bg_http_read.specs.Bodies.{is_whole}
 use Rattle.bg_http_read.specs.Chunks.{Leads, joined}
 use Rattle.bg_http_read.specs.declared.body.BodyStage.{BodyStage}
@@ -8,6 +8,7 @@ use Rattle.bg_http_read.specs.declared.body.BodyStage.TheVariants as stage
 use Rattle.bg_relay.specs.declared.framing.Framing.{Framing}
 use Rattle.bg_relay.specs.declared.framing.Framing.TheVariants as framing
 use Rattle.bg_relay.specs.declared.relay_fault.RelayFault.{RelayFault}
+use Rattle.bg_relay.specs.declared.relay_fault.RelayFault.TheVariants as relay_fault
 use Rattle.bg_relay.specs.declared.steps.Step.{Step}
 use Rattle.bg_relay.specs.Pieces.{Appends, EndsPiece, IsPiece, IsPieceIn, IsPieceInChunks}
 use Rattle.bg_relay.specs.Places.{ChunksThen, NothingOf, StandsAt}
@@ -79,12 +80,14 @@ output_goes framing.ToTheEnd before next taken bytes output body piece missing l
     all_go bytes output body piece (is_whole before) (is_whole next) h is
 
 -- a relay after bytes of its input, and the piece of its output
-leads_stand : (old : RelayState) (next : BodyStage) (taken bytes piece : List ℕ) → is_whole old.stage ≡ false
+leads_stand : (old : RelayState) (next : BodyStage) (left : ℕ) (taken bytes piece : List ℕ) → is_whole old.stage ≡ false
+    → left + length taken ≡ old.left
     → LeadsTo old.stage next taken bytes → IsPieceIn old.outgoing (is_whole next) bytes piece
-    → PassesOn old (record old { stage = next; rest = old.rest ++ piece }) taken
-leads_stand old next taken bytes piece missing leads made input written (body, passes) = (
+    → PassesOn old (record old { stage = next; left = left; rest = old.rest ++ piece }) taken
+leads_stand old next left taken bytes piece missing counted leads made input written (body, passes) = (
   body ++ bytes,
   record {
+    counts = omega (arith, passes.counts, counted, length-append input taken);
     comes = leads old.incoming input body passes.comes;
     goes = subst (λ l. StandsAt old.outgoing (stage_of_output old.outgoing next) l (body ++ bytes))
         (append_assoc written old.rest piece)
@@ -93,13 +96,14 @@ leads_stand old next taken bytes piece missing leads made input written (body, p
 )
 
 -- a relay after a step
-pub step_stands : (old : RelayState) (bytes bytes_of rest : List ℕ) (room : ℕ) (step : Step) (is_last : Bool)
-    → IsStep old.stage bytes room step → is_last ≡ is_whole step.next → bytes_of ≡ data_of bytes step
-    → Appends (IsPiece old.outgoing is_last bytes_of) old.rest rest
-    → PassesOn old (record old { stage = step.next; rest = rest }) (take step.count bytes)
-step_stands old bytes bytes_of rest room step is_last is last same (piece, made, whole) =
-    subst (λ l. PassesOn old (record old { stage = step.next; rest = l }) (take step.count bytes)) (sym whole)
-    (leads_stand old step.next (take step.count bytes) (data_of bytes step) piece is.goes_on is.leads
+pub step_stands : (old : RelayState) (bytes bytes_of rest : List ℕ) (room left : ℕ) (step : Step) (is_last : Bool)
+    → IsStep old.stage bytes room step → left + step.count ≡ old.left → is_last ≡ is_whole step.next
+    → bytes_of ≡ data_of bytes step → Appends (IsPiece old.outgoing is_last bytes_of) old.rest rest
+    → PassesOn old (record old { stage = step.next; left = left; rest = rest }) (take step.count bytes)
+step_stands old bytes bytes_of rest room left step is_last is counted last same (piece, made, whole) =
+    subst (λ l. PassesOn old (record old { stage = step.next; left = left; rest = l }) (take step.count bytes)) (sym whole)
+    (leads_stand old step.next left (take step.count bytes) (data_of bytes step) piece is.goes_on
+    (ap (λ n. left + n) (length-take-le step.count bytes is.fits) ∙ counted) is.leads
     (subst (λ t. IsPieceIn old.outgoing t (data_of bytes step) piece) last
     (subst (λ l. IsPieceIn old.outgoing is_last l piece) same made.0)))
 
@@ -114,7 +118,7 @@ pub end_stands : (old : RelayState) (rest : List ℕ) → old.stage ≡ stage.To
     → PassesOn old (record old { stage = stage.Whole; rest = rest }) []
 end_stands old rest at (piece, made, whole) =
     subst (λ l. PassesOn old (record old { stage = stage.Whole; rest = l }) []) (sym whole)
-    (leads_stand old stage.Whole [] [] piece (ap is_whole at) (subst (λ s. LeadsTo s stage.Whole [] []) (sym at) input_ends)
+    (leads_stand old stage.Whole old.left [] [] piece (ap is_whole at) (omega arith) (subst (λ s. LeadsTo s stage.Whole [] []) (sym at) input_ends)
     made.0)
 
 -- a relay that passed bytes on, and then others
@@ -138,16 +142,28 @@ sides_both one other next h k = record {
   incoming = k.incoming ∙ h.incoming;
   outgoing = k.outgoing ∙ h.outgoing;
   window = k.window ∙ h.window;
+  most = k.most ∙ h.most;
 }
 
 -- a fault behind bytes that were taken
 pub refused_behind : (old at new : RelayState) (bytes : List ℕ) (taken : ℕ) (named : RelayFault) → taken ≤ length bytes
     → PassesOn old at (take taken bytes)
-    → (new ≡ at) × IsFalse (is_whole at.stage) × IsFaultAt named at.stage (drop taken bytes)
+    → (new ≡ at) × IsFalse (is_whole at.stage) × IsFaultAt named at.stage at.left (drop taken bytes)
     → IsRefusedBehind old new bytes named
 refused_behind old at new bytes taken named fits stands (same, missing, is) =
     subst (λ relay. IsRefusedBehind old relay bytes named) (sym same)
     (record { taken = taken; fits = fits; stands = stands; goes_on = missing; is_fault = is })
+
+-- too many bytes came, and none was taken
+pub too_large : (relay : RelayState) (bytes : List ℕ) → IsFalse (is_whole relay.stage) → relay.left < length bytes
+    → IsRefusedBehind relay relay bytes relay_fault.TooLarge
+too_large relay bytes missing few = record {
+  taken = 0;
+  fits = omega arith;
+  stands = passes_none relay;
+  goes_on = missing;
+  is_fault = few;
+}
 
 -- the fault is kept
 ended : (old new : RelayState) (bytes : List ℕ) (named : RelayFault) (kept : Option RelayFault)
@@ -157,7 +173,7 @@ ended old new bytes named kept h = record {
   fits = h.fits;
   stands = λ input written stands.
       let after = h.stands input written stands in
-      (after.0, record { comes = after.1.comes; goes = after.1.goes });
+      (after.0, record { counts = after.1.counts; comes = after.1.comes; goes = after.1.goes });
   goes_on = h.goes_on;
   is_fault = h.is_fault;
 }

@@ -18,6 +18,12 @@ within most framing.ToTheEnd = ends.ToTheEnd most
 abbrev pub ReadsBody : Framing → List ℕ → List ℕ → List ℕ → Type 0
 ReadsBody named input body rest = FramedReads (within (length body) named) input body rest
 
+-- the most bytes that may come of a body in this framing, by the limit for one whose length is not told
+abbrev pub most_to_come : Framing → ℕ → ℕ
+most_to_come (framing.Length size) most = 18446744073709551615
+most_to_come framing.Chunks most = most
+most_to_come framing.ToTheEnd most = most
+
 -- the framing of the input, and that of the output
 abbrev pub incoming_of : Sides → Framing
 incoming_of (sides.Length size) = framing.Length size

@@ -1,5 +1,5 @@
 -- The laws of a relay.
-use Rattle.std.specs.Prelude.{◌≡◌, ℕ, ◌<◌, true, false, List, [], ◌++◌, length, ⊤}
+use Rattle.std.specs.Prelude.{◌≡◌, ℕ, ◌<◌, ◌≤◌, true, false, List, [], ◌++◌, length, ⊤}
 use Rattle.bg_http_read.specs.Bodies.{is_whole}
 use Rattle.bg_http_read.specs.BodyFaults.{Failure}
 use Rattle.bg_http_read.specs.BodyFramings.{FramedFails}
@@ -72,6 +72,10 @@ FailsBody failure named input = (most : ℕ) × FramedFails failure (within most
 abbrev pub FailsWhole : RelayState → List ℕ → List ℕ → List ℕ → Failure → Type 0
 FailsWhole relay input written bytes failure =
     StandsFor relay input written → FailsHere failure relay.stage bytes → FailsBody failure relay.incoming (input ++ bytes)
+
+-- no more bytes were taken than may be
+abbrev pub KeepsLimit : RelayState → List ℕ → List ℕ → Type 0
+KeepsLimit relay input written = StandsFor relay input written → length input ≤ relay.most
 
 -- fewer bytes wait than trailers may have
 abbrev pub WaitsShortly : BodyStage → List ℕ → Type 0

@@ -1,7 +1,7 @@
 //! How the end of a body is marked.
 ghost use Rattle.std.specs.Prelude.{◌≡◌};
 ghost use Rattle.bg_http_read.specs.Bodies.{is_whole as whole_at};
-ghost use Rattle.bg_relay.specs.Framings.{incoming_of, outgoing_of};
+ghost use Rattle.bg_relay.specs.Framings.{incoming_of, most_to_come, outgoing_of};
 ghost use Rattle.bg_relay.specs.Places.{first_stage};
 
 use bg_http_read::BodyStage;
@@ -59,6 +59,16 @@ pub(crate) fn first_stage(framing: Framing) -> BodyStage
         Framing::Length(size) => BodyStage::Length(size),
         Framing::Chunks => BodyStage::Line,
         Framing::ToTheEnd => BodyStage::ToTheEnd,
+    }
+}
+
+/// The most bytes that may come of a body in this framing, if at most `most` may come of one whose length is not told.
+pub(crate) fn most_to_come(framing: Framing, most: usize) -> usize
+    ensures { result ≡ most_to_come framing most }
+{
+    match framing {
+        Framing::Length(_) => usize::MAX,
+        Framing::Chunks | Framing::ToTheEnd => most,
     }
 }
 

@@ -2,7 +2,7 @@
 ghost use Rattle.std.specs.Prelude.{List, ℕ};
 ghost use Rattle.bg_http_read.specs.BodyFaults.{Failure};
 ghost use Rattle.bg_http_read.specs.declared.body.BodyStage.{BodyStage};
-ghost use Rattle.bg_relay.specs.Laws.{BeginsBodies, FailsWhole, HoldsNoBody, PassesAlike, PassesWhole, WaitsShortly};
+ghost use Rattle.bg_relay.specs.Laws.{BeginsBodies, FailsWhole, HoldsNoBody, KeepsLimit, PassesAlike, PassesWhole, WaitsShortly};
 ghost use Rattle.bg_relay.specs.Relays.{RelayState};
 
 /// Once a relay says that the body is whole, its input is one body by the grammar of `bg_http_read`, and its output, what was
@@ -36,6 +36,11 @@ pub fn the_pieces_do_not_matter()
 pub fn what_is_refused_is_malformed()
     ensures { (relay : RelayState) (input written bytes : List ℕ) (failure : Failure)
         → FailsWhole relay input written bytes failure }
+{}
+
+/// No more bytes of a body are taken than its limit allows.
+pub fn no_more_is_taken_than_the_limit()
+    ensures { (relay : RelayState) (input written : List ℕ) → KeepsLimit relay input written }
 {}
 
 /// If there is room, fewer bytes than trailers may have are not taken. So a buffer of 16,384 bytes is enough to feed a relay.

@@ -3,13 +3,13 @@ ghost use Rattle.std.specs.Prelude.{◌≡◌, ◌≤◌, ◌+◌, ◌++◌, ℕ
 ghost use Rattle.std.specs.Prelude.{Err, IfErr, IfOk, IfSome, IsErr, IsFalse, IsOk, IsTrue, None, Ok, OnOk};
 ghost use Rattle.bg_http_read.specs.Bodies.{can_end, is_whole as whole_at};
 ghost use Rattle.bg_http_read.specs.declared.body.BodyStage.TheVariants as stage;
-ghost use Rattle.bg_relay.specs.Framings.{incoming_of, outgoing_of};
+ghost use Rattle.bg_relay.specs.Framings.{incoming_of, most_to_come as most_of, outgoing_of};
 ghost use Rattle.bg_relay.specs.Places.{first_stage as first_of};
 ghost use Rattle.bg_relay.specs.Relays.{BreaksOff, IsFaultAt, IsRefusedBehind, KeepsSides, PassesOn};
-ghost use Rattle.bg_relay.specs.Relays.{StandsFor, WaitsFor, ended_by, wants_input, with_written};
+ghost use Rattle.bg_relay.specs.Relays.{StandsFor, WaitsFor, ended_by, is_too_large, wants_input, with_written};
 ghost use Rattle.bg_relay.specs.declared.relay_fault.RelayFault.TheVariants as fault;
 
-use crate::framing::{Framing, Sides, first_stage, is_whole};
+use crate::framing::{Framing, Sides, first_stage, is_whole, most_to_come};
 use crate::pieces::push_piece;
 use crate::relay_fault::RelayFault;
 use crate::steps::next_step;
@@ -23,6 +23,9 @@ pub struct Relay {
     incoming: Framing,
     outgoing: Framing,
     window: usize,
+    /// The most bytes of the input that may be taken, and how many more of them may be.
+    most: usize,
+    left: usize,
     stage: BodyStage,
     fault: Option<RelayFault>,
     /// What is to be written.
@@ -44,6 +47,8 @@ impl Drop for Relay {
             incoming: _,
             outgoing: _,
             window: _,
+            most: _,
+            left: _,
             stage: _,
             fault: _,
             rest: _,
@@ -63,6 +68,8 @@ impl Model for Relay {
       incoming = r.incoming;
       outgoing = r.outgoing;
       window = r.window;
+      most = r.most;
+      left = r.left;
       stage = r.stage;
       fault = r.fault;
       rest = r.rest.items;
@@ -74,23 +81,28 @@ impl Model for Relay {
 
 impl Relay {
     /// A relay before the first byte of a body. Its output is filled up while it has fewer than `window` bytes; with a window of 0
-    /// no byte of a body is taken. The only error is an allocation failure.
-    pub fn new(alloc: Global, sides: Sides, window: usize) -> Result<Relay, AllocError>
+    /// no byte of a body is taken. Of a body whose length is not told at most `most` bytes are taken, with its chunk lines and trailers.
+    /// The only error is an allocation failure.
+    pub fn new(alloc: Global, sides: Sides, window: usize, most: usize) -> Result<Relay, AllocError>
         ensures sides { IfOk result (λ relay. (relay.incoming ≡ incoming_of sides)
             × (relay.outgoing ≡ outgoing_of sides) × (relay.window ≡ window)) }
         ensures stage { IfOk result (λ relay. (relay.stage ≡ first_of (incoming_of sides))
             × (relay.fault ≡ None)) }
+        ensures limit { IfOk result (λ relay. relay.most ≡ most_of (incoming_of sides) most) }
         ensures stands { IfOk result (λ relay. StandsFor relay [] []) }
     {
         let incoming = sides.incoming();
         let outgoing = sides.outgoing();
         let stage = first_stage(incoming);
+        let most = most_to_come(incoming, most);
         let mut rest = Vec::new(alloc);
         push_piece(&mut rest, outgoing, &[], is_whole(stage))?;
         Ok(Relay {
             incoming,
             outgoing,
             window,
+            most,
+            left: most,
             stage,
             fault: None,
             rest,
@@ -149,7 +161,9 @@ impl Relay {
     /// Chunks are read as `bg_http_read` reads them: extensions and trailers are dropped, a line may have 1,024 bytes, and trailers
     /// 16,384 bytes and 64 fields. A chunk of the input need not be a chunk of the output.
     ///
-    /// The fault is Malformed or OutOfMemory. After a fault nothing more is taken: each call gives the same fault again.
+    /// The fault is Malformed, TooLarge or OutOfMemory. It is TooLarge, and none of the bytes is taken, if they and those that were
+    /// taken before are more than the limit, and the body is not whole. After a fault nothing more is taken: each call gives the same
+    /// fault again.
     pub fn feed(&mut self, bytes: &[u8]) -> Result<usize, RelayFault>
         ensures fits { IfOk result (λ taken. taken ≤ length bytes.now) }
         ensures stands { IfOk result (λ taken. PassesOn self.old self.new (take taken bytes.now)) }
@@ -157,6 +171,8 @@ impl Relay {
         ensures is_open { IfOk result (λ taken. self.new.fault ≡ None) }
         ensures refused { IfErr result (λ fault. self.old.fault ≡ None
             → BreaksOff self.old self.new bytes.now fault) }
+        ensures limit { self.old.fault ≡ None → IsTrue (is_too_large self.old bytes.now)
+            → (result ≡ Err fault.TooLarge) × (self.new ≡ ended_by fault.TooLarge self.old) }
         ensures stays { IfSome self.old.fault (λ fault. (result ≡ Err fault) × (self.new ≡ self.old)) }
         ensures whole { IsTrue (whole_at self.old.stage) → (result ≡ Ok 0) × (self.new ≡ self.old) }
         ensures sides { KeepsSides self.old self.new }
@@ -164,7 +180,7 @@ impl Relay {
         if let Some(fault) = self.fault {
             return Err(fault);
         }
-        let taken = self.take_all(bytes);
+        let taken = self.take_within_limit(bytes);
         if let Err(fault) = &taken {
             self.fault = Some(*fault);
         }
@@ -222,15 +238,36 @@ impl Relay {
         Ok(())
     }
 
-    /// Takes bytes of the input as far as there is room, and gives their number.
-    fn take_all(&mut self, bytes: &[u8]) -> Result<usize, RelayFault>
+    /// Takes bytes of the input as far as there is room, unless more came than may be taken, and gives their number.
+    fn take_within_limit(&mut self, bytes: &[u8]) -> Result<usize, RelayFault>
         requires { self.old.fault ≡ None }
         ensures fits { IfOk result (λ taken. taken ≤ length bytes.now) }
         ensures stands { IfOk result (λ taken. PassesOn self.old self.new (take taken bytes.now)) }
         ensures waits { IfOk result (λ taken. WaitsFor self.new (drop taken bytes.now)) }
         ensures refused { IfErr result (λ named. IsRefusedBehind self.old self.new bytes.now named) }
+        ensures limit { IsTrue (is_too_large self.old bytes.now) → (result ≡ Err fault.TooLarge) × (self.new ≡ self.old) }
         ensures is_open { self.new.fault ≡ None }
         ensures whole { IsTrue (whole_at self.old.stage) → (result ≡ Ok 0) × (self.new ≡ self.old) }
+        ensures sides { KeepsSides self.old self.new }
+    {
+        if is_whole(self.stage) {
+            return Ok(0);
+        }
+        if bytes.len() > self.left {
+            return Err(RelayFault::TooLarge);
+        }
+        self.take_all(bytes)
+    }
+
+    /// Takes bytes of the input as far as there is room, and gives their number.
+    fn take_all(&mut self, bytes: &[u8]) -> Result<usize, RelayFault>
+        requires is_open { self.old.fault ≡ None }
+        requires within { length bytes.now ≤ self.old.left }
+        ensures fits { IfOk result (λ taken. taken ≤ length bytes.now) }
+        ensures stands { IfOk result (λ taken. PassesOn self.old self.new (take taken bytes.now)) }
+        ensures waits { IfOk result (λ taken. WaitsFor self.new (drop taken bytes.now)) }
+        ensures refused { IfErr result (λ named. IsRefusedBehind self.old self.new bytes.now named) }
+        ensures is_open { self.new.fault ≡ None }
         ensures sides { KeepsSides self.old self.new }
     {
         let mut taken = 0;
@@ -245,15 +282,16 @@ impl Relay {
 
     /// Takes the next bytes of the input, and gives their number: 0 if none can be taken. A fault changes nothing.
     fn take(&mut self, bytes: &[u8]) -> Result<usize, RelayFault>
-        requires { self.old.fault ≡ None }
+        requires is_open { self.old.fault ≡ None }
+        requires within { length bytes.now ≤ self.old.left }
         ensures fits { IfOk result (λ count. count ≤ length bytes.now) }
         ensures stands { IfOk result (λ count. PassesOn self.old self.new (take count bytes.now)) }
         ensures waits { IfOk result (λ count. count ≡ 0
             → (self.new ≡ self.old) × WaitsFor self.old bytes.now) }
         ensures refused { IfErr result (λ named. (self.new ≡ self.old)
-            × IsFalse (whole_at self.old.stage) × IsFaultAt named self.old.stage bytes.now) }
+            × IsFalse (whole_at self.old.stage) × IsFaultAt named self.old.stage self.old.left bytes.now) }
+        ensures counts { IfOk result (λ count. self.new.left + count ≡ self.old.left) }
         ensures is_open { self.new.fault ≡ None }
-        ensures whole { IsTrue (whole_at self.old.stage) → result ≡ Ok 0 }
         ensures sides { KeepsSides self.old self.new }
     {
         let room = self.window.saturating_sub(self.rest.len());
@@ -267,6 +305,7 @@ impl Relay {
             return Err(RelayFault::OutOfMemory);
         }
         self.stage = step.next;
+        self.left -= step.count;
         Ok(step.count)
     }
 }

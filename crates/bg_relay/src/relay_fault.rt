@@ -11,6 +11,9 @@ pub enum RelayFault {
     /// The input ended before the end of the body.
     #[error("the body was cut off")]
     Cut,
+    /// More bytes came than the body may have.
+    #[error("the body is too large")]
+    TooLarge,
     /// An allocation failed.
     #[error("out of memory")]
     OutOfMemory,

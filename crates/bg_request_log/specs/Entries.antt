@@ -1,5 +1,5 @@
 -- The entry of a connection in the access log.
-use Rattle.std.specs.Prelude.{ℕ, ◌+◌, min, Bool, true, ◌==◌, if◌then◌else◌, List, Option, Some, None, codes}
+use Rattle.std.specs.Prelude.{ℕ, ◌+◌, min, Bool, true, false, ◌==◌, if◌then◌else◌, List, Option, Some, None, codes}
 use Rattle.bg_rollout.specs.declared.ticket.Ticket.{Ticket}
 use Rattle.bg_dial.specs.declared.dialled.Route.{Route}
 use Rattle.bg_forward.specs.Reasons.{reason_name}
@@ -16,7 +16,7 @@ use Rattle.bg_event_loop.specs.declared.tunnel_ending.TunnelEnding.TheVariants a
 abbrev pub client_closed_request : ℕ
 client_closed_request = 499
 
--- the status code of the response or the refusal that was written
+-- the status code of the response or the refusal that was written, or of the refusal in whose place a response was cut off
 abbrev pub end_status : End → Option ℕ
 end_status (end.Answered code) = Some code
 end_status (end.Refused status) = Some status
@@ -24,13 +24,14 @@ end_status end.Closed = None
 end_status end.ReadFailed = None
 end_status end.WriteFailed = None
 
--- how a connection ended
-abbrev pub end_name : End → List ℕ
-end_name (end.Answered code) = codes "answered"
-end_name (end.Refused status) = codes "refused"
-end_name end.Closed = codes "closed"
-end_name end.ReadFailed = codes "read_failed"
-end_name end.WriteFailed = codes "write_failed"
+-- how a request ended, whose response was cut off or not
+abbrev pub end_name : Bool → End → List ℕ
+end_name is_cut (end.Answered code) = codes "answered"
+end_name false (end.Refused status) = codes "refused"
+end_name true (end.Refused status) = codes "cut"
+end_name is_cut end.Closed = codes "closed"
+end_name is_cut end.ReadFailed = codes "read_failed"
+end_name is_cut end.WriteFailed = codes "write_failed"
 
 -- the status in the log: that which was written, unless the client had gone before its answer
 abbrev pub logged_status : End → Option Reason → Option ℕ
@@ -38,11 +39,12 @@ logged_status e None = end_status e
 logged_status e (Some reason.ClientGone) = Some client_closed_request
 logged_status e (Some why) = end_status e
 
--- the end in the log: a request whose client had gone is refused, whether or not the refusal could be written
-abbrev pub logged_end : End → Option Reason → List ℕ
-logged_end e None = end_name e
-logged_end e (Some reason.ClientGone) = codes "refused"
-logged_end e (Some why) = end_name e
+-- the end in the log: a request whose client had gone is refused, whether or not the refusal could be written or its response was
+-- cut off
+abbrev pub logged_end : Bool → End → Option Reason → List ℕ
+logged_end is_cut e None = end_name is_cut e
+logged_end is_cut e (Some reason.ClientGone) = codes "refused"
+logged_end is_cut e (Some why) = end_name is_cut e
 
 -- a reason's name; if the head passes all rules, a malformed or large part is one of the body or of the trailers
 abbrev pub logged_reason : Bool → Reason → List ℕ

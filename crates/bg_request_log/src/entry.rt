@@ -15,6 +15,9 @@ use std::borrow::CowStr;
 /// The status of a request whose client has gone before its answer, as nginx has it. No client is sent it.
 const CLIENT_CLOSED_REQUEST: u16 = 499;
 
+/// The end of a request whose response was cut off after its client got a part of it.
+pub(crate) const CUT: &str = "cut";
+
 /// What the log tells of a request apart from what its event loop has noted.
 #[derive(Drop)]
 pub struct ConnectionFacts<'a> {
@@ -51,7 +54,7 @@ pub fn entry_of<'a>(ended: &EndedRequest, facts: ConnectionFacts<'a>) -> LogEntr
     ensures method { result.method ≡ facts.entry.method }
     ensures target { result.target ≡ facts.entry.target }
     ensures status { result.status ≡ logged_status ended.now.served.end ended.now.served.reason }
-    ensures end { result.end.now ≡ logged_end ended.now.served.end ended.now.served.reason }
+    ensures end { result.end.now ≡ logged_end ended.now.is_cut ended.now.served.end ended.now.served.reason }
     ensures reason { option_map (λ name. name.now) result.reason
         ≡ option_map (logged_reason ended.now.is_head_sound) ended.now.served.reason }
     ensures request_bytes { result.request_bytes ≡ ended.now.request_bytes }
@@ -81,7 +84,7 @@ pub fn entry_of<'a>(ended: &EndedRequest, facts: ConnectionFacts<'a>) -> LogEntr
         method: facts.method,
         target: facts.target,
         status: logged_status(served),
-        end: logged_end(served),
+        end: logged_end(served, ended.is_cut),
         reason: reason_name(served.reason, ended.is_head_sound),
         request_bytes: ended.request_bytes,
         response_bytes: ended.response_bytes,
@@ -165,13 +168,13 @@ fn logged_status(served: &Served) -> Option<u16>
     }
 }
 
-/// How the connection ended, by the log.
-fn logged_end(served: &Served) -> &'static str
-    ensures { result.now ≡ logged_end served.now.end served.now.reason }
+/// How the request ended, by the log.
+pub(crate) fn logged_end(served: &Served, is_cut: bool) -> &'static str
+    ensures { result.now ≡ logged_end is_cut served.now.end served.now.reason }
 {
     match served.reason {
         Some(Reason::ClientGone) => "refused",
-        _ => name_of(served.end),
+        _ => name_of(served.end, is_cut),
     }
 }
 
@@ -184,12 +187,13 @@ fn status_of(end: End) -> Option<u16>
     }
 }
 
-fn name_of(end: End) -> &'static str
-    ensures { result.now ≡ end_name end }
+fn name_of(end: End, is_cut: bool) -> &'static str
+    ensures { result.now ≡ end_name is_cut end }
 {
     match end {
         End::Closed => "closed",
         End::ReadFailed => "read_failed",
+        End::Refused(_) if is_cut => CUT,
         End::Refused(_) => "refused",
         End::Answered(_) => "answered",
         End::WriteFailed => "write_failed",

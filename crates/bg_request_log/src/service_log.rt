@@ -1,6 +1,6 @@
 //! The access log of the requests that the event loops of a client port serve.
 
-use crate::entry::{ConnectionFacts, entry_of};
+use crate::entry::{CUT, ConnectionFacts, entry_of, logged_end};
 use crate::request_text::text_of;
 use bg_access_log::AccessLog;
 use bg_event_loop::{EndedRequest, RequestLog};
@@ -30,6 +30,8 @@ pub struct ServiceLog<'a, R: Clock + Wait> {
     pub number_offset: u64,
     /// The counter of the requests that are refused because the history is full.
     pub refused_for_room: &'a AtomicU64,
+    /// The counter of the responses that are cut off, as the log tells it.
+    pub cut_responses: &'a AtomicU64,
 }
 
 impl<R: Clock + Wait> RequestLog for ServiceLog<'_, R> {
@@ -40,6 +42,9 @@ impl<R: Clock + Wait> RequestLog for ServiceLog<'_, R> {
     fn add(&self, ended: &EndedRequest<'_>) {
         if ended.served.reason == Some(Reason::HistoryFull) {
             self.refused_for_room.fetch_add(1, Ordering::SeqCst);
+        }
+        if logged_end(&ended.served, ended.is_cut) == CUT {
+            self.cut_responses.fetch_add(1, Ordering::SeqCst);
         }
         if let Some(log) = self.log {
             log.add(self.rt, &entry_of(ended, self.facts(log, ended)));

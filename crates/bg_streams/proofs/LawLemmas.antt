@@ -13,12 +13,12 @@ use Rattle.bg_http_read.specs.ResponseStates.{IsReadThen}
 use Rattle.bg_http_read.specs.Responses.{ReadsResponseBody, ReadsResponseThen, most_response_body, names_another, no_head, no_heads}
 use Rattle.bg_http_read.specs.WrittenHeads.{HasHeadOf, IsJudgedInChunks, IsLengthOf, IsReadAsWritten}
 use Rattle.bg_http_read.specs.declared.body.BodyStage.{BodyStage}
-use Rattle.bg_relay.specs.Framings.{ReadsBody}
-use Rattle.bg_relay.specs.Laws.{BeginsBodies, HoldsNoBody, IfItEnds, IsBody, PassesWhole, WaitsShortly as BodyWaitsShortly}
+use Rattle.bg_relay.specs.Framings.{ReadsBody, most_to_come}
+use Rattle.bg_relay.specs.Laws.{BeginsBodies, HoldsNoBody, IfItEnds, IsBody, KeepsLimit as KeepsRelayLimit, PassesWhole, WaitsShortly as BodyWaitsShortly}
 use Rattle.bg_relay.specs.Relays.{RelayState}
 use Rattle.bg_streams.specs.Framings.{incoming, tells_end}
 use Rattle.bg_streams.specs.HeadTexts.{head_text, length_streamed}
-use Rattle.bg_streams.specs.Laws.{Always, BeginsAnswer, GivesAnswer, GivesHead, GivesNoBody, IsAnswer, IsClosedInHead, IsDrainedAnswer, Law, WaitsShortly, whole_response}
+use Rattle.bg_streams.specs.Laws.{Always, BeginsAnswer, GivesAnswer, GivesHead, GivesNoBody, IsAnswer, IsClosedInHead, IsDrainedAnswer, KeepsLimit, Law, WaitsShortly, whole_response}
 use Rattle.bg_streams.specs.Passings.{head_rest}
 use Rattle.bg_streams.specs.ResponseRelays.{Answers, StandsWith}
 use Rattle.bg_streams.specs.declared.passing.Passing.{Passing}
@@ -87,6 +87,15 @@ gives_no_body law = always GivesNoBody (λ terms passing request input written h
       is_answer terms passing request input written h,
       none.0,
       none.1,
+    ))
+
+pub keeps_limit : ((relay : RelayState) (input written : List ℕ) → KeepsRelayLimit relay input written) → Always KeepsLimit
+keeps_limit law = always KeepsLimit (λ terms passing request input written h.
+    let within = law passing.relay h.came h.delivers.output h.delivers.stands in (
+      h.came,
+      h.delivers.output ++ passing.relay.rest,
+      is_answer terms passing request input written h,
+      omega (arith, within, h.most_is, ap (λ named. most_to_come named terms.most_body) h.incoming_is),
     ))
 
 -- ---- the head

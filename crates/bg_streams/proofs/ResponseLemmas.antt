@@ -1,8 +1,8 @@
 -- The response of an endpoint that is passed on.
-use Rattle.std.proofs.Common.{◌≡◌, ℕ, ◌+◌, ◌≤◌, Bool, true, false, nat_lt, List, [], ◌++◌, length, take, drop, refl, ap, sym, ◌∙◌, append_assoc, arith, subst, inl, inr, take-append-drop, Option, None, Some, Result, Ok, Err, IfErr, IfNone, IfOk, IfSome, IsErrAnd, OnOk}
+use Rattle.std.proofs.Common.{◌≡◌, ℕ, ◌+◌, ◌<◌, ◌≤◌, Bool, true, false, nat_lt, List, [], ◌++◌, length, take, drop, refl, ap, sym, ◌∙◌, append_assoc, arith, subst, inl, inr, take-append-drop, Option, None, Some, Result, Ok, Err, IfErr, IfNone, IfOk, IfSome, IsErrAnd, OnOk}
 use Rattle.std.proofs.Math.Seq.{take-add}
 use Rattle.std.proofs.lemmas.Bool.Decides.{nat_tests}
-use Rattle.std.proofs.lemmas.List.{append-nil, drop-drop, length-drop}
+use Rattle.std.proofs.lemmas.List.{append-nil, drop-drop, length-append, length-drop}
 use Rattle.bg_http.specs.Persistences.{keeps}
 use Rattle.bg_http.specs.declared.request.Request.{Request}
 use Rattle.bg_http.specs.declared.response.ResponseHead.{ResponseHead}
@@ -14,6 +14,7 @@ use Rattle.bg_http_read.specs.Heads.{HeadIsCut, response_heads}
 use Rattle.bg_http_read.specs.ResponseHeads.{AreHeads, HasTaken, HeadsState}
 use Rattle.bg_http_read.specs.Responses.{no_head}
 use Rattle.bg_http_read.specs.ResponseStates.{HeadsAreRefused}
+use Rattle.bg_relay.specs.Framings.{most_to_come}
 use Rattle.bg_relay.specs.Laws.{FailsBody, FailsWhole}
 use Rattle.bg_relay.specs.Relays.{IsFaultAt, RelayState}
 use Rattle.bg_relay.specs.declared.relay_fault.RelayFault.{RelayFault}
@@ -22,7 +23,7 @@ use Rattle.bg_streams.specs.Faults.{body_fault, refusal}
 use Rattle.bg_streams.specs.Framings.{incoming, outgoing}
 use Rattle.bg_streams.specs.HeadTexts.{IsStreamed}
 use Rattle.bg_streams.specs.Passings.{Delivers, DeliversOn, IsBrokenOff, IsKeptIn, KeepsHead, Starts}
-use Rattle.bg_streams.specs.ResponseRelays.{Answers, FailsBy, IsFaultOf, IsKept, IsRefusedAtBody, IsRefusedFor, PassesOn, Refuses, StandsFor, StandsWith, WaitsFor, cut_by, fault_in, fault_of}
+use Rattle.bg_streams.specs.ResponseRelays.{Answers, BodyFailsBy, FailsBy, IsFaultOf, IsKept, IsRefusedAtBody, IsRefusedFor, PassesOn, Refuses, StandsFor, StandsWith, WaitsFor, cut_by, fault_in, fault_of}
 use Rattle.bg_streams.specs.declared.passing.Passing.{Passing}
 use Rattle.bg_streams.specs.declared.response_relay.ResponseRelay.{ResponseRelay}
 use Rattle.bg_streams.specs.declared.stream_fault.StreamFault.{StreamFault}
@@ -45,6 +46,7 @@ head_came terms passing head named request input written starts heads none = rec
   incoming_is = starts.incoming_is ∙ ap incoming (sym starts.framing_is);
   outgoing_is = starts.outgoing_is ∙ ap (outgoing terms.reads_chunks) (sym starts.framing_is);
   window_is = starts.window_is;
+  most_is = starts.most_is ∙ ap (λ n. most_to_come (incoming n) terms.most_body) (sym starts.framing_is);
   delivers = subst (Delivers passing (keeps terms.persistence) []) (sym none) starts.delivers;
 }
 
@@ -63,6 +65,7 @@ body_came terms old new taken same delivers request input written h = record {
   incoming_is = same.sides.incoming ∙ h.incoming_is ∙ ap incoming (sym same.framing);
   outgoing_is = same.sides.outgoing ∙ h.outgoing_is ∙ ap (outgoing terms.reads_chunks) (sym same.framing);
   window_is = same.sides.window ∙ h.window_is;
+  most_is = same.sides.most ∙ h.most_is ∙ ap (λ n. most_to_come (incoming n) terms.most_body) (sym same.framing);
   delivers = delivers (keeps terms.persistence) h.came written h.delivers;
 }
 
@@ -187,30 +190,48 @@ fails_behind old mid new bytes first (stream.Cut fault) fits same passes fails =
   kept = fails.kept;
 }
 
--- the body is refused
-body_refused : ((relay : RelayState) (input written bytes : List ℕ) (failure : Failure) → FailsWhole relay input written bytes failure)
-    → (terms : StreamTerms) (old new : Passing) (bytes : List ℕ) (taken : ℕ) (fault : RelayFault) → KeepsHead old new
-    → DeliversOn old new (take taken bytes) → IsFaultAt fault new.relay.stage (drop taken bytes)
-    → (request : Request) (input written : List ℕ) → Answers terms old request input written
-    → IsRefusedFor terms.most_body request (input ++ bytes) (refusal fault)
-body_refused law terms old new bytes taken relay_fault.Malformed same delivers fails request input written h =
+-- the bytes of the body have this fault
+at_body : (terms : StreamTerms) (old : Passing) (bytes : List ℕ) (fault : ResponseFault) (request : Request) (input written : List ℕ)
+    → (h : Answers terms old request input written)
+    → BodyFailsBy terms.most_body fault (incoming old.framing) (h.came ++ bytes)
+    → IsRefusedFor terms.most_body request (input ++ bytes) fault
+at_body terms old bytes fault request input written h fails =
     let begins = h.are_heads (h.came ++ bytes) in
-    let after = delivers (keeps terms.persistence) h.came written h.delivers in
-    let whole = law new.relay (h.came ++ take taken bytes) after.output (drop taken bytes) malformed after.stands fails in
-    let side : new.relay.incoming ≡ incoming old.framing = same.sides.incoming ∙ h.incoming_is in
-    let body : FailsBody malformed (incoming old.framing) (h.came ++ bytes) =
-    subst (λ l. FailsBody malformed (incoming old.framing) l) (all_bytes h.came bytes taken)
-    (subst (λ n. FailsBody malformed n ((h.came ++ take taken bytes) ++ drop taken bytes)) side whole) in
     let input_is : input ++ bytes ≡ h.heads ++ (h.came ++ bytes) =
     ap (λ l. l ++ bytes) h.input_is ∙ append_assoc h.heads h.came bytes in
-    inr (subst (λ l. IsRefusedAtBody terms.most_body request l response.Bad) (sym input_is) (record {
+    inr (subst (λ l. IsRefusedAtBody terms.most_body request l fault) (sym input_is) (record {
       count = begins.count;
       few = begins.few;
       after = begins.after;
       skips = begins.skips;
-      holds = (h.head, old.framing, h.came ++ bytes, begins.holds, body);
+      holds = (h.head, old.framing, h.came ++ bytes, begins.holds, fails);
     }))
+
+-- more bytes came than may be taken
+above_limit : (relay : RelayState) (came bytes : List ℕ) (taken : ℕ) → relay.left + length (came ++ take taken bytes) ≡ relay.most
+    → relay.left < length (drop taken bytes) → relay.most < length (came ++ bytes)
+above_limit relay came bytes taken counts more =
+    omega (arith, counts, more, length-append (came ++ take taken bytes) (drop taken bytes), ap length (all_bytes came bytes taken))
+
+-- the body is refused
+body_refused : ((relay : RelayState) (input written bytes : List ℕ) (failure : Failure) → FailsWhole relay input written bytes failure)
+    → (terms : StreamTerms) (old new : Passing) (bytes : List ℕ) (taken : ℕ) (fault : RelayFault) → KeepsHead old new
+    → DeliversOn old new (take taken bytes) → IsFaultAt fault new.relay.stage new.relay.left (drop taken bytes)
+    → (request : Request) (input written : List ℕ) → Answers terms old request input written
+    → IsRefusedFor terms.most_body request (input ++ bytes) (refusal fault)
+body_refused law terms old new bytes taken relay_fault.Malformed same delivers fails request input written h =
+    let after = delivers (keeps terms.persistence) h.came written h.delivers in
+    let whole = law new.relay (h.came ++ take taken bytes) after.output (drop taken bytes) malformed after.stands fails in
+    let side : new.relay.incoming ≡ incoming old.framing = same.sides.incoming ∙ h.incoming_is in
+    at_body terms old bytes response.Bad request input written h
+    (subst (λ l. FailsBody malformed (incoming old.framing) l) (all_bytes h.came bytes taken)
+    (subst (λ n. FailsBody malformed n ((h.came ++ take taken bytes) ++ drop taken bytes)) side whole))
 body_refused law terms old new bytes taken relay_fault.Cut same delivers fails request input written h = absurd fails
+body_refused law terms old new bytes taken relay_fault.TooLarge same delivers fails request input written h =
+    let after = delivers (keeps terms.persistence) h.came written h.delivers in
+    at_body terms old bytes response.TooLarge request input written h
+    (subst (λ most. most < length (h.came ++ bytes)) (same.sides.most ∙ h.most_is)
+    (above_limit new.relay h.came bytes taken after.stands.1.counts fails))
 body_refused law terms old new bytes taken relay_fault.OutOfMemory same delivers fails request input written h =
     inl (memory_refuses terms.most_body request (input ++ bytes))
 

@@ -1,7 +1,7 @@
 -- The response of an endpoint that is passed on with the bytes that wait.
 use Rattle.std.proofs.Common.{◌≡◌, ℕ, ◌≤◌, ◌+◌, Bool, true, false, ◌&&◌, ◌||◌, not, List, [], ◌∷◌, ◌++◌, length, take, drop, refl, ap, ap₂, sym, ◌∙◌, append_assoc, arith, subst, inl, inr, take-append-drop, Option, None, Some, Result, Ok, Err, IfErr, IsErrAnd, OnOk, is_none}
 use Rattle.std.proofs.lemmas.Bool.Decides.{nat_tests}
-use Rattle.std.proofs.lemmas.List.{append-nil}
+use Rattle.std.proofs.lemmas.List.{append-nil, length-append}
 use Rattle.bg_http.specs.Codings.{is_empty}
 use Rattle.bg_http.specs.declared.request.Request.{Request}
 use Rattle.bg_http_read.specs.Bodies.{is_whole as whole_at}
@@ -89,6 +89,7 @@ cut_by : (fault : RelayFault) (passing : Option Passing) (bytes : List ℕ) → 
 cut_by relay_fault.Malformed passing bytes fails = fails
 cut_by relay_fault.Cut None bytes fails = fails
 cut_by relay_fault.Cut (Some passing) bytes fails = fails.1
+cut_by relay_fault.TooLarge passing bytes fails = fails
 cut_by relay_fault.OutOfMemory passing bytes fails = tt
 
 -- the relay was fed bytes, and failed
@@ -207,6 +208,33 @@ receives_no_more (Err named) old new bytes fault is relay begun memory =
     receives (Err named) old new bytes (λ request came passed h. tt)
     (λ request came passed h. adding_fails old new bytes named relay (is ∙ memory) request came passed h.0) tt begun
     (ap terms_of relay)
+
+-- bytes came, and wait behind those that waited
+kept : (old new : ResponseStream) (bytes : List ℕ) → waiting_of new ≡ waiting_of old ++ bytes → new.relay ≡ old.relay
+    → new.is_begun ≡ old.is_begun → (request : Request) (came passed : List ℕ) → Holds old request came passed
+    → Holds new request (came ++ bytes) passed
+kept old new bytes waits relay begun request came passed h = record {
+  input = h.input;
+  came_is = ap (λ l. l ++ bytes) h.came_is ∙ append_assoc h.input (waiting_of old) bytes ∙ ap (λ l. h.input ++ l) (sym waits);
+  stands = subst (λ r. RelayStandsFor r request h.input passed) (sym relay) h.stands;
+  is_open = ap fault_of relay ∙ h.is_open;
+  begins = λ e. h.begins (sym begun ∙ e);
+  begun = λ none. begun ∙ h.begun none;
+}
+
+-- they were fed with those that waited
+pub receives_behind : {T : Type 0} (result : Result T StreamFault) (old mid new : ResponseStream) (bytes : List ℕ)
+    → waiting_of mid ≡ waiting_of old ++ bytes → mid.relay ≡ old.relay → mid.is_begun ≡ old.is_begun
+    → ((request : Request) (came passed : List ℕ) → Holds mid request came passed → OnOk result (StandsFor new request came passed))
+    → ((request : Request) (came passed : List ℕ) → Holds mid request came passed → IfErr result (FailsFor new request came passed))
+    → OnOk result (length (waiting_of new) ≤ length (waiting_of mid)) → new.is_begun ≡ mid.is_begun
+    → terms_of new.relay ≡ terms_of mid.relay → Receives old new bytes result
+receives_behind result old mid new bytes waits relay begun stands fails few later terms =
+    receives result old new bytes
+    (λ request came passed h. stands request (came ++ bytes) passed (kept old mid bytes waits relay begun request came passed h.0))
+    (λ request came passed h. fails request (came ++ bytes) passed (kept old mid bytes waits relay begun request came passed h.0))
+    (subst (λ n. OnOk result (length (waiting_of new) ≤ n)) (ap length waits ∙ length-append (waiting_of old) bytes) few)
+    (later ∙ begun) (terms ∙ ap terms_of relay)
 
 -- ---- laws
 

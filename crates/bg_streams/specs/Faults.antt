@@ -11,6 +11,7 @@ use Rattle.bg_streams.specs.declared.stream_fault.StreamFault.TheVariants as str
 abbrev pub refusal : RelayFault → ResponseFault
 refusal relay.Malformed = response.Bad
 refusal relay.Cut = response.Closed
+refusal relay.TooLarge = response.TooLarge
 refusal relay.OutOfMemory = response.OutOfMemory
 
 -- why the response is not passed on to its end, as a fault of the response

@@ -15,6 +15,7 @@ use Rattle.bg_http_read.specs.ResponseHeads.{AreHeads}
 use Rattle.bg_http_read.specs.ResponseStates.{IsReadThen}
 use Rattle.bg_http_read.specs.Responses.{ResponseFails, length_of_response, most_response_body}
 use Rattle.bg_http_read.specs.WrittenHeads.{ReadsWrittenHead, written_head}
+use Rattle.bg_relay.specs.Framings.{most_to_come}
 use Rattle.bg_relay.specs.Laws.{BeginsBodies, IsBody, IsNoBody}
 use Rattle.bg_relay.specs.Relays.{Passes}
 use Rattle.bg_streams.specs.Framings.{body_end, incoming, keeps_after, outgoing}
@@ -71,6 +72,12 @@ GivesNoBody terms passing request input written =
     whole_at passing.relay.stage ≡ false
     → (came : List ℕ) × (output : List ℕ) × IsAnswer terms passing request input written came output
     × IsNoBody passing.relay.incoming came × IsNoBody passing.relay.outgoing output
+
+-- no more bytes of a body were taken than may come
+abbrev pub KeepsLimit : Law
+KeepsLimit terms passing request input written =
+    (came : List ℕ) × (output : List ℕ) × IsAnswer terms passing request input written came output
+    × (length came ≤ most_to_come passing.relay.incoming terms.most_body)
 
 -- whatever follows the text of the head, it is read as the head that was written, and then what follows; and before chunks it is
 -- judged as one before chunks

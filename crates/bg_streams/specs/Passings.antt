@@ -5,6 +5,7 @@ use Rattle.bg_http.specs.Persistences.{keeps}
 use Rattle.bg_http.specs.declared.response.ResponseHead.{ResponseHead}
 use Rattle.bg_http.specs.declared.response_rules.ResponseFraming.{ResponseFraming}
 use Rattle.bg_http_read.specs.Bodies.{is_whole}
+use Rattle.bg_relay.specs.Framings.{most_to_come}
 use Rattle.bg_relay.specs.Relays.{IsFaultAt, KeepsSides, StandsFor}
 use Rattle.bg_relay.specs.declared.relay_fault.RelayFault.{RelayFault}
 use Rattle.bg_relay.specs.declared.relay_fault.RelayFault.TheVariants as relay_fault
@@ -59,6 +60,7 @@ pub record Starts (terms : StreamTerms) (head : ResponseHead) (named : ResponseF
   pub incoming_is : passing.relay.incoming ≡ incoming named
   pub outgoing_is : passing.relay.outgoing ≡ outgoing terms.reads_chunks named
   pub window_is : passing.relay.window ≡ terms.window
+  pub most_is : passing.relay.most ≡ most_to_come (incoming named) terms.most_body
   pub is_open : passing.relay.fault ≡ None
   pub delivers : Delivers passing (keeps terms.persistence) [] []
 
@@ -79,7 +81,7 @@ pub record IsBrokenOff (old new : Passing) (bytes : List ℕ) (named : StreamFau
   pub fits : taken ≤ length bytes
   pub delivers : DeliversOn old new (take taken bytes)
   pub goes_on : IsFalse (is_whole new.relay.stage)
-  pub is_fault : IsFaultAt fault new.relay.stage (drop taken bytes)
+  pub is_fault : IsFaultAt fault new.relay.stage new.relay.left (drop taken bytes)
   pub kept : new.relay.fault ≡ Some fault
   pub named_is : named ≡ fault_of old fault
 

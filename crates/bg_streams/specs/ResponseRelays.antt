@@ -1,5 +1,5 @@
 -- The response of an endpoint that is passed on, and what stands for what was read and written.
-use Rattle.std.specs.Prelude.{◌≡◌, ◌≢◌, ◌⊎◌, ℕ, ◌≤◌, Bool, true, false, ◌&&◌, IsFalse, List, [], ◌++◌, drop, length, take, Option, None, Some, is_none, ⊤}
+use Rattle.std.specs.Prelude.{◌≡◌, ◌≢◌, ◌⊎◌, ℕ, ◌<◌, ◌≤◌, Bool, true, false, ◌&&◌, IsFalse, List, [], ◌++◌, drop, length, take, Option, None, Some, is_none, ⊤}
 use Rattle.bg_http.specs.Codings.{is_empty}
 use Rattle.bg_http.specs.Persistences.{keeps}
 use Rattle.bg_http.specs.declared.request.Request.{Request}
@@ -14,6 +14,7 @@ use Rattle.bg_http_read.specs.Heads.{HeadIsCut, response_heads}
 use Rattle.bg_http_read.specs.ResponseHeads.{AreHeads, HasTaken, HeadsState}
 use Rattle.bg_http_read.specs.Responses.{AfterInterim, FinalHeadThenWithin}
 use Rattle.bg_http_read.specs.ResponseStates.{HeadsAreRefused}
+use Rattle.bg_relay.specs.Framings.{most_to_come}
 use Rattle.bg_relay.specs.Laws.{FailsBody}
 use Rattle.bg_relay.specs.Relays.{IsFaultAt, WaitsFor as BodyWaitsFor, wants_input as body_wants_input}
 use Rattle.bg_relay.specs.declared.framing.Framing.{Framing}
@@ -123,6 +124,7 @@ pub record Answers (terms : StreamTerms) (passing : Passing) (request : Request)
   pub incoming_is : passing.relay.incoming ≡ incoming passing.framing
   pub outgoing_is : passing.relay.outgoing ≡ outgoing terms.reads_chunks passing.framing
   pub window_is : passing.relay.window ≡ terms.window
+  pub most_is : passing.relay.most ≡ most_to_come (incoming passing.framing) terms.most_body
   pub delivers : Delivers passing (keeps terms.persistence) came written
 
 -- before the head of the response is whole, only interim responses were taken, and nothing was written
@@ -148,17 +150,18 @@ WaitsFor (Some passing) bytes = BodyWaitsFor passing.relay bytes
 
 -- ---- faults
 
--- what the fault says of the bytes of a body
-abbrev pub BodyFailsBy : ResponseFault → Framing → List ℕ → Type 0
-BodyFailsBy response.Bad named came = FailsBody malformed named came
-BodyFailsBy response.Closed named came = FailsBody cut named came
-BodyFailsBy response.OutOfMemory named came = ⊤
-BodyFailsBy other named came = ⊥
+-- what the fault says of the bytes of a body, within a limit
+abbrev pub BodyFailsBy : ℕ → ResponseFault → Framing → List ℕ → Type 0
+BodyFailsBy most response.Bad named came = FailsBody malformed named came
+BodyFailsBy most response.Closed named came = FailsBody cut named came
+BodyFailsBy most response.TooLarge named came = most_to_come named most < length came
+BodyFailsBy most response.OutOfMemory named came = ⊤
+BodyFailsBy most other named came = ⊥
 
 -- the input is the heads of a response, judged within a limit, and then bytes of a body that has this fault
 abbrev pub IsRefusedAtBody : ℕ → Request → List ℕ → ResponseFault → Type 0
 IsRefusedAtBody most request input fault =
-    AfterInterim request input (FinalHeadThenWithin most request (λ named came. BodyFailsBy fault (incoming named) came))
+    AfterInterim request input (FinalHeadThenWithin most request (λ named came. BodyFailsBy most fault (incoming named) came))
 
 -- the response is refused for its heads, judged within a limit, whatever follows, or for its body
 abbrev pub IsRefusedFor : ℕ → Request → List ℕ → ResponseFault → Type 0
@@ -173,7 +176,7 @@ Refuses old bytes fault =
 abbrev pub IsFaultOf : RelayFault → Option Passing → List ℕ → Type 0
 IsFaultOf fault None bytes = ⊥
 IsFaultOf fault (Some passing) bytes =
-    IsFalse (whole_at passing.relay.stage) × IsFaultAt fault passing.relay.stage bytes
+    IsFalse (whole_at passing.relay.stage) × IsFaultAt fault passing.relay.stage passing.relay.left bytes
 
 -- a byte was written
 abbrev pub HasBegun : ResponseRelay → Type 0

@@ -70,6 +70,7 @@ StandsFor stream request came passed = Holds stream request came passed × Waits
 abbrev pub IsCutBy : RelayFault → Option Passing → List ℕ → Type 0
 IsCutBy relay_fault.Malformed passing bytes = IsFaultOf relay_fault.Malformed passing bytes
 IsCutBy relay_fault.Cut passing bytes = ⊥
+IsCutBy relay_fault.TooLarge passing bytes = IsFaultOf relay_fault.TooLarge passing bytes
 IsCutBy relay_fault.OutOfMemory passing bytes = ⊤
 
 -- the client took a byte, the relay stands for the first of the bytes that came, and those behind them have this fault

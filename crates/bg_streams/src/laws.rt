@@ -1,7 +1,7 @@
 //! The laws of a response that is passed on, for every input and output that it stands for.
 ghost use Rattle.std.specs.Prelude.{List, ℕ, Option};
 ghost use Rattle.bg_http.specs.declared.request.Request.{Request};
-ghost use Rattle.bg_streams.specs.Laws.{Always, BeginsAnswer, GivesAnswer, GivesHead, GivesNoBody, IsClosedInHead, IsDrainedAnswer, WaitsShortly};
+ghost use Rattle.bg_streams.specs.Laws.{Always, BeginsAnswer, GivesAnswer, GivesHead, GivesNoBody, IsClosedInHead, IsDrainedAnswer, KeepsLimit, WaitsShortly};
 ghost use Rattle.bg_streams.specs.declared.passing.Passing.{Passing};
 ghost use Rattle.bg_streams.specs.declared.response_relay.ResponseRelay.{ResponseRelay};
 
@@ -29,6 +29,14 @@ pub fn a_cut_response_has_no_end()
     ensures { Always GivesNoBody }
 {
     bg_relay::laws::a_part_is_no_body();
+}
+
+/// Of a body in chunks, with its chunk lines and trailers, and of one that goes to the end of the input, at most as many bytes are
+/// taken as the terms allow. A head that tells a greater length is refused.
+pub fn a_body_is_taken_within_its_limit()
+    ensures { Always KeepsLimit }
+{
+    bg_relay::laws::no_more_is_taken_than_the_limit();
 }
 
 /// Whatever follows the text of the head, a client reads it as the head that was written, and then what follows. If the body is in

@@ -54,7 +54,7 @@ impl Passing {
         let sides = sides(terms.reads_chunks, framing);
         let response = streamed(alloc, framing, head)?;
         let text = head_text(alloc, &response, sides.outgoing(), terms.persistence)?;
-        let relay = Relay::new(alloc, sides, terms.window)?;
+        let relay = Relay::new(alloc, sides, terms.window, terms.most_body)?;
         Ok(Passing {
             response,
             framing,

@@ -202,7 +202,7 @@ impl ResponseRelay {
     ///
     /// Up to 16 interim responses before the response are taken and dropped. A fault is a refusal while no byte was written to the
     /// client: those of `read_response` for a head, where TooLarge is that of a Content-Length above `most_body` of the terms, Bad
-    /// for a malformed body, or OutOfMemory. Afterwards, and only then, it is a cut. After a fault nothing more is taken: each call gives the same
+    /// for a malformed body, TooLarge for one of which more bytes came than that, or OutOfMemory. Afterwards, and only then, it is a cut. After a fault nothing more is taken: each call gives the same
     /// fault again.
     pub fn feed(&mut self, bytes: &[u8]) -> Result<usize, StreamFault>
         ensures fits { IfOk result (λ taken. taken ≤ length bytes.now) }

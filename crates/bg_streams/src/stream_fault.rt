@@ -37,6 +37,7 @@ fn refusal(fault: RelayFault) -> ResponseFault
     match fault {
         RelayFault::Malformed => ResponseFault::Bad,
         RelayFault::Cut => ResponseFault::Closed,
+        RelayFault::TooLarge => ResponseFault::TooLarge,
         RelayFault::OutOfMemory => ResponseFault::OutOfMemory,
     }
 }

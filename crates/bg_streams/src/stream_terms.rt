@@ -2,8 +2,8 @@
 
 use bg_http::Persistence;
 
-/// How a response is passed on: what is known of the client that gets it, and its limits. A body of chunks, or one that goes to the
-/// end of the input, has no limit: a relay holds only a window of it.
+/// How a response is passed on: what is known of the client that gets it, and its limits. A relay holds only a window of a body,
+/// whatever its size.
 #[derive(Clone, Copy, Drop)]
 pub struct StreamTerms {
     /// Whether it reads chunks: its request has version 1.1 (RFC 9112 section 7.1).
@@ -12,6 +12,7 @@ pub struct StreamTerms {
     pub persistence: Persistence,
     /// Bytes of the body are taken while fewer bytes of it are to be written; with 0 none are taken.
     pub window: usize,
-    /// The most bytes that a Content-Length may name: a response of more bytes is refused with TooLarge.
+    /// The most bytes of a body: a response whose Content-Length is greater is refused with TooLarge. A body in chunks, with its chunk
+    /// lines and trailers, or one that goes to the end of the input has this fault once more bytes of it came.
     pub most_body: usize,
 }

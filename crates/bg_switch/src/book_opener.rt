@@ -236,6 +236,7 @@ where
         &mut journal,
     );
     context.notices.write_refusals();
+    context.notices.write_cut_responses();
     context.notices.write_log_trouble();
     let book = desk.into_book();
     let calls = calls_of(&seats);

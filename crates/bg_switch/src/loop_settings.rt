@@ -26,10 +26,10 @@ pub fn settings_of<R>(context: &ServeContext<R>, service: Service) -> LoopSettin
     ensures drains { result.limits_drains ≡ is_some context.now.strategy.now.drain_limit }
     ensures address { result.endpoints.address ≡ context.now.words.now.endpoint_address }
     ensures stream { is_some result.endpoints.stream ≡ context.now.words.now.stream }
-    ensures limits { IfSome result.endpoints.stream AreStreamLimits }
+    ensures limits { IfSome result.endpoints.stream (AreStreamLimits context.now.words.now.max_response_body) }
     ensures uploads { is_some result.endpoints.uploads ≡ context.now.words.now.stream }
-    ensures upload_limits { IfSome result.endpoints.uploads
-        (AreUploadLimits context.now.words.now.buffer context.now.words.now.max_request_body) }
+    ensures upload_limits { IfSome result.endpoints.uploads (AreUploadLimits context.now.words.now.buffer
+        context.now.words.now.max_request_body context.now.words.now.max_response_body) }
     ensures arriving { result.clients.keeps_arriving ≡ context.now.words.now.stream }
     ensures duration { context.now.words.now.stream ≡ true → result.endpoints.timeouts.response ≡ 18446744073709551615 }
     ensures silence { context.now.words.now.stream ≡ true → seconds_of context.now.timeout < 2 ^ 32
@@ -56,7 +56,7 @@ pub fn settings_of<R>(context: &ServeContext<R>, service: Service) -> LoopSettin
         endpoints: EndpointSettings {
             address: context.words.endpoint_address,
             timeouts: timeouts_of(context.timeout, context.words.silence, context.words.stream),
-            stream: stream_limits(context.words.stream),
+            stream: stream_limits(context.words.stream, context.words.max_response_body),
             uploads: upload_settings(context.words),
             tunnel_millis: tunnel_millis(context),
             ..usual.endpoints
@@ -93,34 +93,42 @@ fn origin_of<R>(context: &ServeContext<R>) -> Option<OriginSettings>
     })
 }
 
-/// The limits of responses that are passed on as they come, if they are. Their bodies may have any length.
-fn stream_limits(is_streamed: bool) -> Option<StreamLimits>
+/// The limits of responses that are passed on as they come, if they are. Without a limit their bodies may have any length.
+fn stream_limits(is_streamed: bool, most_body: Option<u64>) -> Option<StreamLimits>
     ensures stream { is_some result ≡ is_streamed }
-    ensures limits { IfSome result AreStreamLimits }
+    ensures limits { IfSome result (AreStreamLimits most_body) }
 {
     if !is_streamed {
         return None;
     }
     Some(StreamLimits {
         window: STREAM_WINDOW,
-        most_body: usize::MAX,
+        most_body: most_bytes(most_body),
     })
 }
 
-/// The limits of requests that are passed on before they are whole, if they are. Without a limit their bodies may have any length.
+/// The limits of requests that are passed on before they are whole, and of their responses, if they are. Without a limit their bodies
+/// may have any length.
 fn upload_settings(words: &ServeSettings<'_>) -> Option<UploadSettings>
     ensures uploads { is_some result ≡ words.now.stream }
-    ensures limits { IfSome result (AreUploadLimits words.now.buffer words.now.max_request_body) }
+    ensures limits { IfSome result (AreUploadLimits words.now.buffer words.now.max_request_body words.now.max_response_body) }
 {
     if !words.stream {
         return None;
     }
     Some(UploadSettings {
         most_held: words.buffer.unwrap_or(USUAL_BUFFER) as usize,
-        most_body: words.max_request_body.unwrap_or(u64::MAX) as usize,
+        most_body: most_bytes(words.max_request_body),
         window: STREAM_WINDOW,
-        most_response: usize::MAX,
+        most_response: most_bytes(words.max_response_body),
     })
+}
+
+/// The most bytes of a body, any number of 64 bits if the words do not say it.
+fn most_bytes(most: Option<u64>) -> usize
+    ensures { result ≡ unwrap_or most 18446744073709551615 }
+{
+    most.unwrap_or(u64::MAX) as usize
 }
 
 /// The time for which a tunnel may be silent; `None` if no upgrade is passed on.

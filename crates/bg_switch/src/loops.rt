@@ -83,6 +83,7 @@ fn serve_port<'a, N: Names + Send + Sync, R: Threads + Wait + Clock + Sync>(
         keeps_connections: context.words.keep_alive.is_some(),
         number_offset: context.number_offset,
         refused_for_room: context.notices.refused_requests(),
+        cut_responses: context.notices.cut_responses(),
     };
     let loop_context = LoopContext {
         alloc: context.alloc,

@@ -211,6 +211,7 @@ fn serve_seats<'a, N: Names, R: Wait + Clock>(
         },
     };
     let refused_for_room = AtomicU64::new(0);
+    let cut_responses = AtomicU64::new(0);
     let log = ServiceLog {
         rt: run.rt,
         alloc: run.alloc,
@@ -220,6 +221,7 @@ fn serve_seats<'a, N: Names, R: Wait + Clock>(
         keeps_connections: run.words.persistence == Persistence::Keep,
         number_offset: 0,
         refused_for_room: &refused_for_room,
+        cut_responses: &cut_responses,
     };
     let context = LoopContext {
         alloc: run.alloc,

@@ -1,6 +1,7 @@
-//! The limit on the length of a response that is passed on.
+//! The limit on the body of a response that is passed on.
 use bg_http::{Persistence, ResponseFault};
 use bg_http_read::request_in;
+use bg_relay::RelayFault;
 use bg_streams::{ResponseRelay, StreamFault, StreamTerms};
 use std::alloc::Global;
 use std::test::Fail;
@@ -26,10 +27,17 @@ const CHUNKS: &[u8] = b"HTTP/1.1 200 OK\r\nTransfer-Encoding: chunked\r\n\r\n2\r
 
 const CHUNKS_HEAD: &[u8] = b"HTTP/1.1 200 OK\r\nTransfer-Encoding: chunked\r\n\r\n";
 
-/// What comes, the most bytes that its Content-Length may name, the answer to it, and what is to be written first.
+/// A body that goes to the end of the input.
+const TO_THE_END: &[u8] = b"HTTP/1.1 200 OK\r\n\r\nhello";
+
+/// Whole chunks, with 18 bytes of chunk lines, data and trailers, and bytes behind them.
+const WHOLE_CHUNKS: &[u8] =
+    b"HTTP/1.1 200 OK\r\nTransfer-Encoding: chunked\r\n\r\n2\r\nhe\r\n0\r\nA: b\r\n\r\nGET";
+
+/// What comes, the most bytes that its body may have, the answer to it, and what is to be written first.
 type LimitRow<'a> = (&'a [u8], usize, Result<usize, StreamFault>, &'a [u8]);
 
-static ROWS: [LimitRow<'static>; 8] = [
+static ROWS: [LimitRow<'static>; 14] = [
     (LONG, usize::MAX, Ok(52), LONG_HEAD),
     (LONG, 5_000_000_000, Ok(52), LONG_HEAD),
     (LONG, 4_999_999_999, TOO_LARGE, b""),
@@ -37,19 +45,30 @@ static ROWS: [LimitRow<'static>; 8] = [
     (LONGEST, usize::MAX, Ok(57), LONGEST),
     (ONE_MORE, usize::MAX, TOO_LARGE, b""),
     (TENFOLD, usize::MAX, TOO_LARGE, b""),
-    (CHUNKS, 0, Ok(54), CHUNKS_HEAD),
+    (CHUNKS, usize::MAX, Ok(54), CHUNKS_HEAD),
+    (CHUNKS, 7, Ok(54), CHUNKS_HEAD),
+    (CHUNKS, 6, TOO_LARGE, b""),
+    (WHOLE_CHUNKS, 21, Ok(65), CHUNKS_HEAD),
+    (WHOLE_CHUNKS, 17, TOO_LARGE, b""),
+    (TO_THE_END, 5, Ok(24), CHUNKS_HEAD),
+    (TO_THE_END, 4, TOO_LARGE, b""),
 ];
 
-/// Whether a response is passed on, or refused, under a limit.
-fn is_judged(alloc: Global, row: &LimitRow<'_>) -> Result<bool, Fail> {
+/// A response to GET under a limit, before its first byte.
+fn limited(alloc: Global, most_body: usize) -> Result<ResponseRelay, Fail> {
     let request = request_in(alloc, GET)?;
     let terms = StreamTerms {
         reads_chunks: true,
         persistence: Persistence::Keep,
         window: 1000,
-        most_body: row.1,
+        most_body,
     };
-    let mut relay = ResponseRelay::new(alloc, &request, terms);
+    Ok(ResponseRelay::new(alloc, &request, terms))
+}
+
+/// Whether a response is passed on, or refused, under a limit.
+fn is_judged(alloc: Global, row: &LimitRow<'_>) -> Result<bool, Fail> {
+    let mut relay = limited(alloc, row.1)?;
     let answer = relay.feed(row.0);
     Ok(answer == row.2 && relay.rest() == row.3)
 }
@@ -67,5 +86,28 @@ fn first_wrong(alloc: Global) -> Result<Option<usize>, Fail> {
 #[test]
 fn a_length_is_passed_on_up_to_its_limit(rt: HostRuntime) -> Result<(), Fail> {
     assert_eq!(rt; first_wrong(rt.alloc())?, None);
+    Ok(())
+}
+
+/// A body whose length is not told has the fault once a byte above its limit comes: its response is cut off for ever, and what came
+/// before is written.
+#[test]
+fn a_body_is_cut_off_above_its_limit(rt: HostRuntime) -> Result<(), Fail> {
+    let mut relay = limited(rt.alloc(), 11)?;
+    assert_eq!(rt; relay.feed(CHUNKS), Ok(54));
+    relay.wrote(CHUNKS_HEAD.len());
+    relay.wrote(2);
+    assert_eq!(rt; relay.feed(b"0\r\n\r"), Ok(3));
+    assert_eq!(rt;
+        relay.feed(b"\r\n"),
+        Err(StreamFault::Cut(RelayFault::TooLarge))
+    );
+    assert_eq!(rt;
+        relay.feed(b""),
+        Err(StreamFault::Cut(RelayFault::TooLarge))
+    );
+    assert_eq!(rt; relay.wants_input(), false);
+    assert_eq!(rt; relay.is_whole(), false);
+    assert_eq!(rt; relay.rest(), b"\nhe\r\n".as_slice());
     Ok(())
 }

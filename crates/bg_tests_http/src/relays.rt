@@ -61,7 +61,7 @@ struct Passed {
 
 fn pass_all(alloc: Global, sides: Sides, window: usize, input: &[u8], pieces: Pieces) -> Passed {
     let mut written = Vec::new(alloc);
-    let result = match Relay::new(alloc, sides, window) {
+    let result = match Relay::new(alloc, sides, window, usize::MAX) {
         Ok(mut relay) => pass(&mut relay, input, pieces, &mut written),
         Err(_) => Err(RelayFault::OutOfMemory),
     };
@@ -255,7 +255,7 @@ fn bodies_are_passed_on_in_whatever_pieces_they_come(rt: HostRuntime) -> Result<
 /// Feeds bytes of a body of ten bytes to a relay with a window of four, and writes some of what it gives. Gives the numbers of
 /// bytes that were taken, whether more of the input was to be fed after each call, and what was written.
 fn fill(alloc: Global, written: &mut Vec<u8>) -> Result<([usize; 4], [bool; 4]), RelayFault> {
-    let made = Relay::new(alloc, Sides::Length(10), 4);
+    let made = Relay::new(alloc, Sides::Length(10), 4, usize::MAX);
     let Ok(mut relay) = made else {
         return Err(RelayFault::OutOfMemory);
     };
@@ -342,7 +342,7 @@ fn the_line_of_a_chunk_has_a_limit(rt: HostRuntime) {
 
 /// A fault, and what a relay gives after it: of more bytes, and of the end of the input.
 fn after_a_fault(alloc: Global) -> Result<[Option<RelayFault>; 3], AllocError> {
-    let mut relay = Relay::new(alloc, Sides::IntoChunks(Framing::Chunks), 16)?;
+    let mut relay = Relay::new(alloc, Sides::IntoChunks(Framing::Chunks), 16, usize::MAX)?;
     let first = relay.feed(b"2\r\nhex").err();
     let more = relay.feed(b"0\r\n\r\n").err();
     Ok([first, more, relay.end_input().err()])
@@ -364,7 +364,12 @@ const FIVE_CHUNKS: &[u8] = b"1\r\nh\r\n1\r\ne\r\n1\r\nl\r\n1\r\nl\r\n1\r\no\r\n0
 /// Whether a relay has the whole of this body to write. If an allocation of it fails: whether it has only complete chunks, and
 /// gives the same fault again.
 fn has_complete_chunks(alloc: Global) -> Result<bool, AllocError> {
-    let mut relay = Relay::new(alloc, Sides::IntoChunks(Framing::Length(5)), 100)?;
+    let mut relay = Relay::new(
+        alloc,
+        Sides::IntoChunks(Framing::Length(5)),
+        100,
+        usize::MAX,
+    )?;
     let refused = Err(RelayFault::OutOfMemory);
     for piece in b"hello".chunks(1) {
         if relay.feed(piece) == refused {

@@ -32,6 +32,9 @@ fn has_fault(passed: &Passed, fault: ResponseFault) -> bool {
         Err(StreamFault::Refused(refused)) => !is_begun && refused == fault,
         Err(StreamFault::Cut(RelayFault::Malformed)) => is_begun && fault == ResponseFault::Bad,
         Err(StreamFault::Cut(RelayFault::Cut)) => is_begun && fault == ResponseFault::Closed,
+        Err(StreamFault::Cut(RelayFault::TooLarge)) => {
+            is_begun && fault == ResponseFault::TooLarge
+        }
         Err(StreamFault::Cut(RelayFault::OutOfMemory)) => false,
     }
 }

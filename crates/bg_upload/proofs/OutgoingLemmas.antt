@@ -27,23 +27,26 @@ taken_on o relay came more left s none came_is passes open_is sides = record {
   text_is = s.text_is;
   stands = passes s.input s.output s.stands;
   waits = λ still. (refl, open_is);
-  fails = subst (λ fault. IfSome fault (λ f. IsFailure f relay.stage left)) (sym none) tt;
+  fails = subst (λ fault. IfSome fault (λ f. IsFailure f relay.stage relay.left left)) (sym none) tt;
   incoming_ends = ap tells_end sides.incoming ∙ s.incoming_ends;
   outgoing_ends = ap tells_end sides.outgoing ∙ s.outgoing_ends;
 }
 
 -- the fault of a relay is that of the request
-failure : (named : RelayFault) (stage : BodyStage) (bytes : List ℕ) → IsFalse (is_whole stage) → IsFaultAt named stage bytes
-    → IsFailure named stage bytes
-failure relay_fault.Malformed stage bytes goes_on is = (goes_on, is)
-failure relay_fault.Cut stage bytes goes_on is = goes_on
-failure relay_fault.OutOfMemory stage bytes goes_on is = tt
+failure : (named : RelayFault) (stage : BodyStage) (left : ℕ) (bytes : List ℕ) → IsFalse (is_whole stage)
+    → IsFaultAt named stage left bytes → IsFailure named stage left bytes
+failure relay_fault.Malformed stage left bytes goes_on is = (goes_on, is)
+failure relay_fault.Cut stage left bytes goes_on is = goes_on
+failure relay_fault.TooLarge stage left bytes goes_on is = (goes_on, is)
+failure relay_fault.OutOfMemory stage left bytes goes_on is = tt
 
 -- a relay gives no cut while it is fed
-pub no_cut : (named : RelayFault) (stage : BodyStage) (bytes : List ℕ) → IsFaultAt named stage bytes → named ≡ relay_fault.Cut → ⊥
-no_cut relay_fault.Malformed stage bytes is e = cc
-no_cut relay_fault.Cut stage bytes is e = is
-no_cut relay_fault.OutOfMemory stage bytes is e = cc
+pub no_cut : (named : RelayFault) (stage : BodyStage) (left : ℕ) (bytes : List ℕ) → IsFaultAt named stage left bytes
+    → named ≡ relay_fault.Cut → ⊥
+no_cut relay_fault.Malformed stage left bytes is e = cc
+no_cut relay_fault.Cut stage left bytes is e = is
+no_cut relay_fault.TooLarge stage left bytes is e = cc
+no_cut relay_fault.OutOfMemory stage left bytes is e = cc
 
 -- these bytes more came behind those that the relay took, and it refused a part of them
 pub refused_on : (o : OutgoingState) (relay : RelayState) (came bytes : List ℕ) (named : RelayFault) → (s : IsSound o)
@@ -58,7 +61,7 @@ refused_on o relay came bytes named s came_is (broken, kept) sides = record {
   text_is = s.text_is;
   stands = broken.stands s.input s.output s.stands;
   waits = λ still. absurd (is_some still);
-  fails = failure named relay.stage (drop broken.taken bytes) broken.goes_on broken.is_fault;
+  fails = failure named relay.stage relay.left (drop broken.taken bytes) broken.goes_on broken.is_fault;
   incoming_ends = ap tells_end sides.incoming ∙ s.incoming_ends;
   outgoing_ends = ap tells_end sides.outgoing ∙ s.outgoing_ends;
 }
@@ -104,7 +107,7 @@ body_sent o relay written count s none written_is stands same = record {
       ∙ append_assoc o.head s.output more;
   stands = stands s.input s.output s.stands;
   waits = λ still. ((s.waits still).0, ap (λ r. r.fault) same ∙ (s.waits still).1);
-  fails = subst (λ r. IfSome o.fault (λ f. IsFailure f r.stage s.behind)) (sym same) s.fails;
+  fails = subst (λ r. IfSome o.fault (λ f. IsFailure f r.stage r.left s.behind)) (sym same) s.fails;
   incoming_ends = ap (λ r. tells_end r.incoming) same ∙ s.incoming_ends;
   outgoing_ends = ap (λ r. tells_end r.outgoing) same ∙ s.outgoing_ends;
 }

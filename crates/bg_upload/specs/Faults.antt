@@ -14,6 +14,7 @@ use Rattle.bg_upload.specs.declared.upload_fault.UploadFault.TheVariants as uplo
 abbrev pub request_fault : RelayFault → RequestFault
 request_fault relay.Malformed = request.Bad
 request_fault relay.Cut = request.Closed
+request_fault relay.TooLarge = request.TooLarge
 request_fault relay.OutOfMemory = request.OutOfMemory
 
 -- the fault of a body that is passed on

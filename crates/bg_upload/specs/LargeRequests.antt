@@ -1,5 +1,5 @@
 -- Requests that are too large to be held until they are whole.
-use Rattle.std.specs.Prelude.{◌≡◌, ◌⊎◌, ℕ, ◌≤◌, List, drop, length, None, Ok, Err}
+use Rattle.std.specs.Prelude.{◌≡◌, ◌⊎◌, ℕ, ◌≤◌, List, drop, length, None, Ok, Err, IsFalse}
 use Rattle.bg_http.specs.RequestRules.{owes_continue, request_framing_within}
 use Rattle.bg_http.specs.declared.request.Request.{Request}
 use Rattle.bg_http.specs.declared.request.RequestHead.{RequestHead}
@@ -8,6 +8,7 @@ use Rattle.bg_http.specs.declared.request_rules.Framing.{Framing}
 use Rattle.bg_http.specs.declared.request_rules.Framing.TheVariants as framing
 use Rattle.bg_http_read.specs.HeadFaults.{RequestHeadFails}
 use Rattle.bg_http_read.specs.Heads.{HeadIsCut, ReadsRequestHead, request_heads}
+use Rattle.bg_http_read.specs.RequestStates.{is_of_stream}
 use Rattle.bg_upload.specs.declared.large_request.LargeRequest.{LargeRequest}
 
 -- the request has the parts of the head, and no body
@@ -38,9 +39,10 @@ HasNoLarge most bytes =
     HeadIsCut request_heads bytes
     ⊎ ((head : RequestHead) × (behind : List ℕ) × BeginsWith most bytes framing.NoBody head behind)
 
--- the bytes do not begin with a head, or the head breaks a rule, the first one with this fault
+-- the bytes do not begin with a head, and the fault is not one of the stream; or the head breaks a rule, the first one with this
+-- fault
 abbrev pub IsRefusedLarge : ℕ → List ℕ → RequestFault → Type 0
 IsRefusedLarge most bytes fault =
-    RequestHeadFails bytes fault
+    (RequestHeadFails bytes fault × IsFalse (is_of_stream fault))
     ⊎ ((head : RequestHead) × (behind : List ℕ) × ReadsRequestHead bytes head behind
     × (request_framing_within most head ≡ Err fault))

@@ -1,5 +1,5 @@
 -- A request that is written to its endpoint as it comes.
-use Rattle.std.specs.Prelude.{◌≡◌, ℕ, Bool, true, false, ◌&&◌, if◌then◌else◌, is_none, List, [], ◌++◌, drop, take, Option, None, Some, Result, Ok, Err, IfSome, IsFalse, OnOk, IfErr, ⊤}
+use Rattle.std.specs.Prelude.{◌≡◌, ℕ, Bool, true, false, ◌&&◌, if◌then◌else◌, is_none, nat_lt, not, List, [], ◌++◌, drop, length, take, Option, None, Some, Result, Ok, Err, IfSome, IsFalse, IsTrue, IsErr, OnOk, IfErr, ⊤}
 use Rattle.bg_http.specs.Codings.{is_empty}
 use Rattle.bg_http.specs.Texts.{framed_head_text}
 use Rattle.bg_http.specs.declared.request.Request.{Request}
@@ -7,7 +7,7 @@ use Rattle.bg_http.specs.declared.request_rules.Framing.{Framing as NamedFraming
 use Rattle.bg_http.specs.declared.request_rules.Framing.TheVariants as named_framing
 use Rattle.bg_http_read.specs.Bodies.{is_whole as whole_at}
 use Rattle.bg_http_read.specs.declared.body.BodyStage.{BodyStage}
-use Rattle.bg_relay.specs.Framings.{incoming_of, outgoing_of}
+use Rattle.bg_relay.specs.Framings.{incoming_of, most_to_come, outgoing_of}
 use Rattle.bg_relay.specs.Relays.{IsFaultAt, KeepsSides, RelayState, StandsFor, WaitsFor, wants_input as relay_wants_input, with_written as relay_with_written}
 use Rattle.bg_relay.specs.declared.framing.Framing.{Framing}
 use Rattle.bg_relay.specs.declared.framing.Framing.TheVariants as framing
@@ -38,11 +38,12 @@ state_of head sent relay waiting fault came written = record {
   written = written;
 }
 
--- what a fault says of a body whose relay is at this stage, and of the bytes behind
-abbrev pub IsFailure : RelayFault → BodyStage → List ℕ → Type 0
-IsFailure relay_fault.Malformed stage behind = IsFalse (whole_at stage) × IsFaultAt relay_fault.Malformed stage behind
-IsFailure relay_fault.Cut stage behind = IsFalse (whole_at stage)
-IsFailure relay_fault.OutOfMemory stage behind = ⊤
+-- what a fault says of a body whose relay is at this stage and takes so many bytes more, and of the bytes behind
+abbrev pub IsFailure : RelayFault → BodyStage → ℕ → List ℕ → Type 0
+IsFailure relay_fault.Malformed stage left behind = IsFalse (whole_at stage) × IsFaultAt relay_fault.Malformed stage left behind
+IsFailure relay_fault.Cut stage left behind = IsFalse (whole_at stage)
+IsFailure relay_fault.TooLarge stage left behind = IsFalse (whole_at stage) × IsFaultAt relay_fault.TooLarge stage left behind
+IsFailure relay_fault.OutOfMemory stage left behind = ⊤
 
 -- a body in this framing ends by itself, and not with its connection
 abbrev pub tells_end : Framing → Bool
@@ -60,7 +61,7 @@ pub record IsSound (o : OutgoingState) : Type 0 where
   pub text_is : o.written ++ o.left ≡ o.head ++ output
   pub stands : StandsFor o.relay input output
   pub waits : o.fault ≡ None → (behind ≡ o.waiting) × (o.relay.fault ≡ None)
-  pub fails : IfSome o.fault (λ fault. IsFailure fault o.relay.stage behind)
+  pub fails : IfSome o.fault (λ fault. IsFailure fault o.relay.stage o.relay.left behind)
   pub incoming_ends : tells_end o.relay.incoming ≡ true
   pub outgoing_ends : tells_end o.relay.outgoing ≡ true
 
@@ -71,12 +72,13 @@ sides_of named_framing.Chunks = sides.IntoChunks framing.Chunks
 sides_of (named_framing.Length size) = sides.Length size
 
 -- a request of which no byte of the body came and nothing was written
-pub record Begins (request : Request) (named : NamedFraming) (port window : ℕ) (o : OutgoingState) : Type 0 where
+pub record Begins (request : Request) (named : NamedFraming) (port window most : ℕ) (o : OutgoingState) : Type 0 where
   pub head_is : o.head ≡ framed_head_text false named request port
   pub left_is : o.left ≡ o.head
   pub incoming_is : o.relay.incoming ≡ incoming_of (sides_of named)
   pub outgoing_is : o.relay.outgoing ≡ outgoing_of (sides_of named)
   pub window_is : o.relay.window ≡ window
+  pub most_is : o.relay.most ≡ most_to_come (incoming_of (sides_of named)) most
   pub none_waits : o.waiting ≡ []
   pub no_fault : o.fault ≡ None
   pub none_came : o.came ≡ []
@@ -93,6 +95,10 @@ wants_input o = is_none o.fault && relay_wants_input o.relay
 -- the whole body was taken
 abbrev pub is_whole : OutgoingState → Bool
 is_whole o = whole_at o.relay.stage
+
+-- more bytes of the body came than may
+abbrev pub is_too_large : OutgoingState → Bool
+is_too_large o = not (is_whole o) && nat_lt o.relay.most (length o.came)
 
 -- so many bytes more were written, at most all that were to be written
 abbrev pub with_body_written : ℕ → OutgoingState → OutgoingState
@@ -125,6 +131,7 @@ pub record PassesOn {T : Type 0} (result : Result T RelayFault) (old new : Outgo
   pub came_is : new.came ≡ old.came
   pub fault_is : new.fault ≡ fault_in result
   pub waits : OnOk result (WaitsFor new.relay new.waiting)
+  pub limit : IsTrue (is_too_large old) → IsErr result
   pub not_cut : IfErr result (λ fault. ¬ (fault ≡ relay_fault.Cut))
 
 -- these bytes came and wait

@@ -1,5 +1,5 @@
 -- A large request and its response, while both are passed on.
-use Rattle.std.specs.Prelude.{◌≡◌, ℕ, ◌+◌, ◌-◌, ◌==◌, Bool, true, false, ◌&&◌, ◌||◌, not, if◌then◌else◌, min, nat_le, nat_lt, List, [], ◌++◌, drop, length, Result, Err, IsOk}
+use Rattle.std.specs.Prelude.{◌≡◌, ℕ, ◌+◌, ◌==◌, Bool, true, false, ◌&&◌, ◌||◌, not, if◌then◌else◌, min, nat_le, nat_lt, List, [], ◌++◌, drop, length, Result, IsOk}
 use Rattle.bg_endpoint_side.specs.Outcomes.{told}
 use Rattle.bg_endpoint_side.specs.declared.outcome.ForwardFault.TheVariants as forward
 use Rattle.bg_endpoint_side.specs.declared.outcome.Health.{Health}
@@ -7,7 +7,6 @@ use Rattle.bg_http.specs.Codings.{is_empty}
 use Rattle.bg_http.specs.declared.request.Request.{Request}
 use Rattle.bg_http.specs.declared.request_fault.RequestFault.TheVariants as request_fault
 use Rattle.bg_http.specs.declared.request_rules.Framing.{Framing}
-use Rattle.bg_http.specs.declared.request_rules.Framing.TheVariants as framing
 use Rattle.bg_http_read.specs.Requests.{continue_text}
 use Rattle.bg_http.specs.declared.persistence.Persistence.TheVariants as persistence
 use Rattle.bg_relay.specs.declared.relay_fault.RelayFault.{RelayFault}
@@ -72,12 +71,6 @@ late_fault u =
     else (if reads_client u && is_empty (to_endpoint u) then fault.Request request_fault.ReadFailed
     else fault.Forward forward.ResponseTimeout)
 
--- the most bytes that may come of a body
-abbrev pub most_to_come : Framing → ℕ → ℕ
-most_to_come framing.NoBody most = 18446744073709551615
-most_to_come framing.Chunks most = most
-most_to_come (framing.Length size) most = 18446744073709551615
-
 -- the endpoint reads no more of the request
 abbrev pub unread : Upload → Upload
 unread u = record u { is_unread = true }
@@ -93,12 +86,11 @@ response_terms request terms = record {
 
 -- a large request that got a connection now
 pub record IsBegun (request : Request) (named : Framing) (terms : UploadTerms) (now : ℕ) (u : Upload) : Type 0 where
-  pub request_is : Begins request named terms.port terms.window u.request
+  pub request_is : Begins request named terms.port terms.window terms.most_body u.request
   pub response_is : StandsFor u.response request [] []
   pub none_taken : response_is_begun u.response ≡ false
   pub response_terms_are : terms_of (relay_of u.response) ≡ response_terms request terms
   pub interim_is : rest_of_continue u.interim_sent ≡ (if terms.owes_continue then continue_text else [])
-  pub left_is : u.body_left ≡ most_to_come named terms.most_body
   pub is_read : u.is_unread ≡ false
   pub none_came : u.has_come ≡ false
   pub silence_is : u.silence_millis ≡ terms.silence_millis
@@ -116,18 +108,11 @@ pub record OfResponse {T : Type 0}
   pub result_is : result ≡ as_upload response_fault given
   pub others_are : new ≡ record others { response = new.response }
 
--- these bytes of the body came, and they may
-abbrev pub Sends : {T : Type 0} → List ℕ → ℕ → Result T UploadFault → Upload → Upload → Type 0
-Sends {T} bytes now result old new =
-    (given : Result T RelayFault) × Receives bytes given old.request new.request
-    × OfRequest given result (record (renewed (length bytes) now old) { body_left = old.body_left - length bytes }) new
-
-abbrev pub SendsIf : {T : Type 0} → Bool → List ℕ → ℕ → Result T UploadFault → Upload → Upload → Type 0
-SendsIf true bytes now result old new = (result ≡ Err (fault.Request request_fault.TooLarge)) × (new ≡ old)
-SendsIf false bytes now result old new = Sends bytes now result old new
-
+-- these bytes of the body came
 abbrev pub ClientSends : {T : Type 0} → List ℕ → ℕ → Result T UploadFault → Upload → Upload → Type 0
-ClientSends bytes now result old new = SendsIf (nat_lt old.body_left (length bytes)) bytes now result old new
+ClientSends {T} bytes now result old new =
+    (given : Result T RelayFault) × Receives bytes given old.request new.request
+    × OfRequest given result (renewed (length bytes) now old) new
 
 -- the client ended its input
 abbrev pub ClientEnds : {T : Type 0} → Result T UploadFault → Upload → Upload → Type 0

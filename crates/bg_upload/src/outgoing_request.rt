@@ -5,6 +5,7 @@ ghost use Rattle.bg_relay.specs.declared.relay_fault.RelayFault.TheVariants as r
 ghost use Rattle.bg_upload.specs.OutgoingRequests as spec;
 ghost use Rattle.bg_upload.specs.OutgoingRequests.{Begins, EndsInput, IsSound, Keeps, PassesOn, PassesWaiting, Receives};
 
+use crate::upload_terms::UploadTerms;
 use bg_http::{Framing, Persistence, Request, write_framed_request_head};
 use bg_http_read::Seen;
 use bg_relay::{Framing as BodyFraming, Relay, RelayFault, Sides};
@@ -61,20 +62,20 @@ impl Model for OutgoingRequest {
 }
 
 impl OutgoingRequest {
-    /// A request of which no byte of the body came and nothing was written. `request` is the request without its body. At most about
-    /// `window` bytes of the body are held; with 0 none is taken. The only error is an allocation failure.
+    /// A request of which no byte of the body came and nothing was written. `request` is the request without its body. It is sent to
+    /// the port of the terms, at most about their window of its body is held, and a body in chunks has their limit. The only error is an
+    /// allocation failure.
     pub fn new(
         alloc: Global,
         request: &Request,
         framing: Framing,
-        port: u16,
-        window: usize,
+        terms: UploadTerms,
     ) -> io::Result<OutgoingRequest>
-        ensures { IfOk result (Begins request.now framing port window) }
+        ensures { IfOk result (Begins request.now framing terms.port terms.window terms.most_body) }
     {
         let mut head = Vec::with_capacity(alloc, USUAL_HEAD)?;
-        write_framed_request_head(request, framing, port, Persistence::Close, &mut head)?;
-        let relay = Relay::new(alloc, sides(framing), window)?;
+        write_framed_request_head(request, framing, terms.port, Persistence::Close, &mut head)?;
+        let relay = Relay::new(alloc, sides(framing), terms.window, terms.most_body)?;
         Ok(OutgoingRequest {
             head,
             sent: 0,
@@ -136,7 +137,7 @@ impl OutgoingRequest {
 
     /// These bytes of the body came. All of them are taken over: what is not passed on yet waits.
     ///
-    /// The fault is Malformed or OutOfMemory. After a fault nothing more is taken: each call gives the same fault again.
+    /// The fault is Malformed, TooLarge or OutOfMemory. After a fault nothing more is taken: each call gives the same fault again.
     pub fn receive(&mut self, bytes: &[u8]) -> Result<(), RelayFault>
         ensures { Receives bytes.now result self.old self.new }
     {

@@ -192,7 +192,7 @@ const OK: &[u8] = b"HTTP/1.1 200 OK\r\nContent-Length: 2\r\n\r\nok";
 
 const OK_SENT: &[u8] = b"HTTP/1.1 200 OK\r\nContent-Length: 2\r\nConnection: close\r\n\r\n";
 
-static RUNS: [Run; 7] = [
+static RUNS: [Run; 9] = [
     Run {
         name: "a body with its length, in pieces",
         head: LENGTH,
@@ -265,7 +265,7 @@ static RUNS: [Run; 7] = [
         ],
     },
     Run {
-        name: "a body that is malformed, and one that is too large",
+        name: "a body that is malformed",
         head: CHUNKS,
         owes_continue: false,
         window: 100,
@@ -273,11 +273,45 @@ static RUNS: [Run; 7] = [
         steps: &[
             Step::EndpointTakes(1_000, 0),
             Step::Client(b"3\r\nabc\r\n", 1),
-            Step::Client(b"123", 1),
-            Step::Fault(Some(UploadFault::Request(RequestFault::TooLarge))),
             Step::Client(b"x\r", 1),
             Step::Fault(Some(UploadFault::Request(RequestFault::Bad))),
             Step::ToEndpoint(b"3\r\nabc\r\n"),
+        ],
+    },
+    Run {
+        name: "a body with a byte more than it may have",
+        head: CHUNKS,
+        owes_continue: false,
+        window: 100,
+        most_body: 13,
+        steps: &[
+            Step::EndpointTakes(1_000, 0),
+            Step::Client(b"3\r\nabc\r\n", 1),
+            Step::Client(b"0\r\n\r", 1),
+            Step::Fault(None),
+            Step::Reads(true, true),
+            Step::Client(b"xy", 2),
+            Step::Fault(Some(UploadFault::Request(RequestFault::TooLarge))),
+            Step::Client(b"\n", 2),
+            Step::Fault(Some(UploadFault::Request(RequestFault::TooLarge))),
+            Step::Reads(false, true),
+            Step::Whole(false, false),
+            Step::ToEndpoint(b"3\r\nabc\r\n"),
+        ],
+    },
+    Run {
+        name: "a body with as many bytes as it may have",
+        head: CHUNKS,
+        owes_continue: false,
+        window: 100,
+        most_body: 13,
+        steps: &[
+            Step::EndpointTakes(1_000, 0),
+            Step::Client(b"3\r\nabc\r\n0\r\n", 1),
+            Step::Client(b"\r\n", 1),
+            Step::Fault(None),
+            Step::Whole(false, true),
+            Step::ToEndpoint(b"3\r\nabc\r\n0\r\n\r\n"),
         ],
     },
     Run {

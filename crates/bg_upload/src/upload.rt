@@ -30,8 +30,6 @@ pub struct Upload {
     response: ResponseStream,
     /// The number of bytes of `100 Continue` that were written; all of them if it is not owed.
     interim_sent: usize,
-    /// How many bytes more may come of the body.
-    body_left: usize,
     /// Whether the endpoint reads no more of the request.
     is_unread: bool,
     /// Whether a byte came from the endpoint.
@@ -48,7 +46,6 @@ impl Drop for Upload {
             request: _,
             response: _,
             interim_sent: _,
-            body_left: _,
             is_unread: _,
             has_come: _,
             silence_millis: _,
@@ -76,14 +73,13 @@ impl Upload {
             most_body: terms.most_response,
         };
         Ok(Upload {
-            request: OutgoingRequest::new(alloc, request, framing, terms.port, terms.window)?,
+            request: OutgoingRequest::new(alloc, request, framing, terms)?,
             response: ResponseStream::new(alloc, request, response_terms),
             interim_sent: if terms.owes_continue {
                 0
             } else {
                 CONTINUE.len()
             },
-            body_left: most_to_come(framing, terms.most_body),
             is_unread: false,
             has_come: false,
             silence_millis: terms.silence_millis,
@@ -173,10 +169,6 @@ impl Upload {
     pub fn client_sent(&mut self, bytes: &[u8], now: u64) -> Result<(), UploadFault>
         ensures { ClientSends bytes.now now result self.old self.new }
     {
-        if bytes.len() > self.body_left {
-            return Err(UploadFault::Request(RequestFault::TooLarge));
-        }
-        self.body_left -= bytes.len();
         self.renew(bytes.len(), now);
         match self.request.receive(bytes) {
             Ok(()) => Ok(()),
@@ -291,7 +283,6 @@ impl Upload {
             request: _,
             response,
             interim_sent,
-            body_left: _,
             is_unread: _,
             has_come: _,
             silence_millis: _,
@@ -310,16 +301,6 @@ impl Upload {
         if count > 0 {
             self.until = now.saturating_add(self.silence_millis);
         }
-    }
-}
-
-/// The most bytes that may come of a body: those of one in chunks are counted as they come.
-fn most_to_come(framing: Framing, most: usize) -> usize
-    ensures { result ≡ spec.most_to_come framing most }
-{
-    match framing {
-        Framing::Chunks => most,
-        Framing::NoBody | Framing::Length(_) => usize::MAX,
     }
 }
 

@@ -23,6 +23,7 @@ pub(crate) fn request_fault(fault: RelayFault) -> RequestFault
     match fault {
         RelayFault::Malformed => RequestFault::Bad,
         RelayFault::Cut => RequestFault::Closed,
+        RelayFault::TooLarge => RequestFault::TooLarge,
         RelayFault::OutOfMemory => RequestFault::OutOfMemory,
     }
 }

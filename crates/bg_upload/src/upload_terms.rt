@@ -11,7 +11,7 @@ pub struct UploadTerms {
     pub window: usize,
     /// The most bytes of a body in chunks, with its chunk lines and trailers.
     pub most_body: usize,
-    /// The most bytes that the Content-Length of the response may name.
+    /// The most bytes of the body of the response, counted in the same way.
     pub most_response: usize,
     /// The time for which no byte may pass in either direction.
     pub silence_millis: u64,

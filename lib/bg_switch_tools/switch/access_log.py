@@ -13,7 +13,7 @@ import time
 from collections.abc import Callable, Mapping, Sequence
 from typing import BinaryIO, NamedTuple
 
-ENDS = ("answered", "refused", "closed", "read_failed", "write_failed")
+ENDS = ("answered", "refused", "cut", "closed", "read_failed", "write_failed")
 CLIENT_SERVICES = ("active", "preview")
 LONGEST_LINE = 65536  # bytes; a target is cut at 1,024 before it is escaped
 PIECE = 1 << 22  # bytes that are read at a time
@@ -104,8 +104,9 @@ class LogEntry(NamedTuple):
 
     @property
     def is_error(self) -> bool:
-        """Whether the client got a status from 500 on, or no answer. A client that had gone before
-        its answer is no error."""
+        """Whether the client got a status from 500 on, or no answer. A response that was cut off has
+        the status of the refusal that its client would have got before. A client that had gone
+        before its answer is no error."""
         return self.status is None or self.status >= SERVER_ERROR
 
     @property

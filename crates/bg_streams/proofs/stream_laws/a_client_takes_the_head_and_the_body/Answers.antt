@@ -1,4 +1,4 @@
-use Rattle.bg_streams.specs.Laws.{BeginsAnswer, GivesAnswer, GivesNoBody}
+use Rattle.bg_streams.specs.Laws.{BeginsAnswer, GivesAnswer, GivesNoBody, KeepsLimit}
 use Rattle.bg_streams.proofs.StreamLemmas.{on_streams}
 use Rattle.bg_streams.proofs.stream_laws.a_client_takes_the_head_and_the_body.Goals as goal
 
@@ -10,3 +10,6 @@ returns-clause-whole c = on_streams GivesAnswer c.a_client_gets_the_whole_body.e
 
 pub returns-clause-cut : goal.returns-clause-cut
 returns-clause-cut c = on_streams GivesNoBody c.a_cut_response_has_no_end.ensures
+
+pub returns-clause-limit : goal.returns-clause-limit
+returns-clause-limit c = on_streams KeepsLimit c.a_body_is_taken_within_its_limit.ensures

@@ -1,7 +1,6 @@
-use Rattle.std.proofs.Common.{◌≡◌, ◌≤◌, IsTrue, Ok, arith, drop, length, rules, subst, sym, take}
+use Rattle.std.proofs.Common.{◌≤◌, arith, drop, length, rules, subst, sym, take}
 use Rattle.std.proofs.Math.Seq.{take-add}
 use Rattle.std.proofs.lemmas.List.{length-drop}
-use Rattle.bg_http_read.specs.Bodies.{is_whole}
 use Rattle.bg_relay.specs.Relays.{PassesOn}
 use Rattle.bg_relay.proofs.RelayLemmas.{passes_both, refused_behind, sides_both}
 use Rattle.bg_relay.proofs.relay.Relay.take_all.Goals as goal
@@ -31,9 +30,6 @@ loop-count-preserved c =
           (passes_both c.args.self.now c.loop-count.self c.take.new.self (take taken bytes) (take count (drop taken bytes))
           before.stands stands);
       is_open = c.in-Ok.ensures.is_open;
-      whole = λ whole.
-          let same = before.whole whole in
-          let none : Ok count ≡ Ok 0 = c.in-Ok.ensures.whole (subst (λ relay. IsTrue (is_whole relay.stage)) (sym same.1) whole) in
-          absurd (c.in-Ok.count-test.1 cc);
+      within = omega (arith, before.within, c.in-Ok.ensures.counts);
       sides = sides_both c.args.self.now c.loop-count.self c.take.new.self before.sides c.in-Ok.ensures.sides;
     }
