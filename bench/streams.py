@@ -166,7 +166,8 @@ def endpoint(size: int, folder: pathlib.Path) -> Iterator[int]:
 def sink(folder: pathlib.Path) -> Iterator[int]:
     """The port of an endpoint that drops what is sent to it."""
     port = reserved(PORTS)
-    with proxies.started([sys.executable, "-B", upload_sink.__file__, str(port)], folder):
+    words = [sys.executable, "-B", "-m", upload_sink.__name__, str(port)]
+    with proxies.started(words, folder, {"PYTHONPATH": str(TOP / "scripts")}):
         proxies.need(functools.partial(is_open, port), "the sink does not listen", folder)
         yield port
 

@@ -110,8 +110,7 @@ class Uploads(unittest.TestCase):
         def refuse() -> None:
             client = listener.accept()[0]
             with client:
-                head, behind = upload_sink.read_head(client)
-                upload_sink.drop(client, upload_sink.length_of(head) - behind)
+                upload_sink.drop_request(client)
                 client.sendall(b"HTTP/1.1 413 Content Too Large\r\nContent-Length: 0\r\n\r\n")
 
         threading.Thread(target=refuse, daemon=True).start()

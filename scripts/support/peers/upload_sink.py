@@ -1,16 +1,17 @@
 """An endpoint that drops the bodies of requests as they come, and answers each once it was whole. The
 system drops the bytes (MSG_TRUNC, tcp(7)), so a body costs the endpoint no copy.
 
-As a program: `upload_sink.py PORT` listens at the port.
+As a program: `python3 -m support.peers.upload_sink PORT` listens at the port.
 """
 import contextlib
 import socket
 import sys
 import threading
 
-HOST = "127.0.0.1"
+from support.endpoints import read_head
+from support.ports import HOST
+
 BACKLOG = 4096
-END_OF_HEAD = b"\r\n\r\n"
 LENGTH = b"content-length"
 ANSWER = b"HTTP/1.1 200 OK\r\nContent-Length: 2\r\nConnection: close\r\n\r\nok"
 # As many bytes are dropped at once at most. Nothing is written there.
@@ -23,18 +24,6 @@ def length_of(head: bytes) -> int:
     return next((int(value) for name, _, value in fields if name.lower() == LENGTH), 0)
 
 
-def read_head(connection: socket.socket) -> tuple[bytes, int]:
-    """A head, and how many bytes came behind it. `EOFError` if the connection ends before."""
-    head = b""
-    while END_OF_HEAD not in head:
-        piece = connection.recv(65536)
-        if not piece:
-            raise EOFError
-        head += piece
-    head, _, behind = head.partition(END_OF_HEAD)
-    return head, len(behind)
-
-
 def drop(connection: socket.socket, count: int) -> None:
     """Drops so many bytes. `EOFError` if the connection ends before."""
     while count > 0:
@@ -44,11 +33,19 @@ def drop(connection: socket.socket, count: int) -> None:
         count -= dropped
 
 
+def drop_request(connection: socket.socket) -> None:
+    """Drops a request. `EOFError` if the connection ends before it is whole."""
+    read = read_head(connection)
+    if read is None:
+        raise EOFError
+    head, behind = read
+    drop(connection, length_of(head) - len(behind))
+
+
 def serve(connection: socket.socket) -> None:
     """Answers one request, if it comes whole."""
     with connection, contextlib.suppress(EOFError, OSError):
-        head, behind = read_head(connection)
-        drop(connection, length_of(head) - behind)
+        drop_request(connection)
         connection.sendall(ANSWER)
 
 
