@@ -3,11 +3,12 @@ and how they end."""
 import contextlib
 import hashlib
 import pathlib
+import select
 import socket
 import tempfile
 import threading
 import time
-from collections.abc import Iterator, Sequence
+from collections.abc import Callable, Iterator, Mapping, Sequence
 
 from support import checks
 from support.access_logs import entries_of
@@ -16,7 +17,7 @@ from support.clients import asked, connect, received, reset
 from support.endpoints import LONGEST, Endpoint, Request
 from support.kept import KeptClient
 from support.messages import BAD_GATEWAY, BY_HAND, request, response
-from support.ports import free_ports
+from support.ports import free_ports, unread_at
 from support.switch import Switch
 from support.traffic import ACCESS_LOG, prepared_log
 
@@ -34,6 +35,9 @@ ACCEPTED = b"HTTP/1.1 101 Switching Protocols\r\nUpgrade: websocket\r\nConnectio
 # comes, until the input ends.
 TO_OTHER, REFUSES, WAITS, RESETS = b"/to-other", b"/refuses", b"/waits", b"/resets"
 FLOODS, SPEAKS_FIRST, HOLDS = b"/floods", b"/speaks-first", b"/holds"
+LISTENS, STALLS = b"/listens", b"/stalls"
+ENDS_AND_RESETS, ENDS_AND_READS = b"/ends-and-resets", b"/ends-and-reads"
+PLAIN = b"/plain"
 MEBIBYTE = 1 << 20
 LAST_WORDS = b"last words"
 DELAYED = """{"spec": {"strategy": {"blueGreen": {"activeService": "web", "scaleDownDelaySeconds": 5}}}}"""
@@ -41,57 +45,123 @@ LIMITED = DELAYED.replace("5}", '5, "drainLimitSeconds": 10}')
 
 
 class Peer(Endpoint):
-    """An endpoint that accepts upgrades. It keeps what came of each request, and what came before it
-    accepted."""
+    """An endpoint that accepts upgrades. It keeps what came of each request, what came before it
+    accepted, and how many inputs ended, bytes came late and connections were reset. What waits goes
+    on once `may_go` is set."""
 
     def __init__(self) -> None:
         self.requests: list[Request] = []
         self.early = b""
-        self.may_accept = threading.Event()
+        self.ended = self.late = self.resets = 0
+        self.may_go = threading.Event()
         super().__init__(self.answer_by_target)
 
     def answer_by_target(self, asked_for: Request, connection: socket.socket) -> None:
         with self.lock:
             self.requests.append(asked_for)
-        target = asked_for.target
-        if target == TO_OTHER:
-            connection.sendall(ACCEPTS.replace(b"websocket", b"h2c"))
-        elif target == REFUSES:
-            connection.sendall(response(b"no upgrade"))
-        elif target == WAITS:
-            connection.settimeout(0.5)
-            with contextlib.suppress(TimeoutError):
-                self.early = connection.recv(1)
-            connection.settimeout(LONGEST)
-            send_back(connection)
-        elif target == RESETS:
-            connection.sendall(ACCEPTS)
-            connection.recv(1)
-            reset(connection)
-        elif target == FLOODS:
-            connection.sendall(ACCEPTS)
-            with contextlib.suppress(OSError):
-                while True:
-                    connection.sendall(bytes(MEBIBYTE))
-        elif target == SPEAKS_FIRST:
-            connection.sendall(ACCEPTS + b"welcome")
-            connection.recv(1)
-        elif target == HOLDS:
-            self.may_accept.wait(LONGEST)
-            send_back(connection)
-        elif target == b"/plain":
-            connection.sendall(response(b"plain"))
+        if asked_for.target in RESPONSES:
+            connection.sendall(RESPONSES[asked_for.target])
         else:
-            send_back(connection)
+            ACTS.get(asked_for.target, Peer.send_back)(self, connection)
+
+    def wait(self) -> None:
+        self.may_go.wait(LONGEST)
+
+    def send_back(self, connection: socket.socket) -> None:
+        """Accepts the upgrade, sends back what comes, and says a last word after the end of the
+        input."""
+        connection.sendall(ACCEPTS)
+        while piece := connection.recv(65536):
+            connection.sendall(piece)
+        connection.sendall(LAST_WORDS)
+
+    def accept_late(self, connection: socket.socket) -> None:
+        connection.settimeout(0.5)
+        with contextlib.suppress(TimeoutError):
+            self.early = connection.recv(1)
+        connection.settimeout(LONGEST)
+        self.send_back(connection)
+
+    def hold(self, connection: socket.socket) -> None:
+        self.wait()
+        self.send_back(connection)
+
+    def reset(self, connection: socket.socket) -> None:
+        connection.sendall(ACCEPTS)
+        connection.recv(1)
+        reset(connection)
+
+    def flood(self, connection: socket.socket) -> None:
+        connection.sendall(ACCEPTS)
+        with contextlib.suppress(OSError):
+            while True:
+                connection.sendall(bytes(MEBIBYTE))
+
+    def speak_first(self, connection: socket.socket) -> None:
+        connection.sendall(ACCEPTS + b"welcome")
+        connection.recv(1)
+
+    def listen(self, connection: socket.socket) -> None:
+        """Reads to the end of the input, and says nothing, until a reset."""
+        connection.sendall(ACCEPTS)
+        while connection.recv(65536):
+            pass
+        with self.lock:
+            self.ended += 1
+        self.note_reset_of(connection)
+
+    def stall(self, connection: socket.socket) -> None:
+        """Reads nothing until a reset."""
+        connection.sendall(ACCEPTS)
+        self.note_reset_of(connection)
+
+    def end_and_reset(self, connection: socket.socket) -> None:
+        """Ends its side at once, and resets the connection later."""
+        connection.sendall(ACCEPTS)
+        connection.shutdown(socket.SHUT_WR)
+        self.wait()
+        reset(connection)
+
+    def end_and_read(self, connection: socket.socket) -> None:
+        """Ends its side at once, and reads to the end of the input later."""
+        connection.sendall(ACCEPTS)
+        connection.shutdown(socket.SHUT_WR)
+        self.wait()
+        while piece := connection.recv(65536):
+            with self.lock:
+                self.late += len(piece)
+
+    def note_reset_of(self, connection: socket.socket) -> None:
+        """Waits until a connection is reset, and reads nothing of it."""
+        if is_over(connection, LONGEST):
+            with self.lock:
+                self.resets += 1
 
 
-def send_back(connection: socket.socket) -> None:
-    """Accepts the upgrade, sends back what comes, and says a last word after the end of the
-    input."""
-    connection.sendall(ACCEPTS)
-    while piece := connection.recv(65536):
-        connection.sendall(piece)
-    connection.sendall(LAST_WORDS)
+RESPONSES: Mapping[bytes, bytes] = {
+    TO_OTHER: ACCEPTS.replace(b"websocket", b"h2c"),
+    REFUSES: response(b"no upgrade"),
+    PLAIN: response(b"plain"),
+}
+ACTS: Mapping[bytes, Callable[[Peer, socket.socket], None]] = {
+    WAITS: Peer.accept_late,
+    HOLDS: Peer.hold,
+    RESETS: Peer.reset,
+    FLOODS: Peer.flood,
+    SPEAKS_FIRST: Peer.speak_first,
+    LISTENS: Peer.listen,
+    STALLS: Peer.stall,
+    ENDS_AND_RESETS: Peer.end_and_reset,
+    ENDS_AND_READS: Peer.end_and_read,
+}
+
+
+def is_over(connection: socket.socket, seconds: float) -> bool:
+    """Whether a connection, of which a side is open, is over within so many seconds, as by a
+    reset."""
+    poll = select.poll()
+    poll.register(connection, 0)
+    return bool(poll.poll(1000 * seconds))
 
 
 class Tunnels:
@@ -131,7 +201,7 @@ def tunnels(*flags: str, rollout: str = BY_HAND, concurrency: int = 8) -> Iterat
                 check(line, switch.answer_to(line).partition(" ")[0], "ok")
             yield Tunnels(switch, peer, log)
         finally:
-            peer.may_accept.set()
+            peer.may_go.set()
             if switch.process.poll() is None:
                 switch.stop()
             peer.stop()
@@ -207,7 +277,7 @@ def not_accepted() -> None:
             check("an ordinary response", answer.partition(END)[2], b"no upgrade")
             check(
                 "the next request",
-                client.answer_to(request(b"/plain")).partition(END)[2],
+                client.answer_to(request(PLAIN)).partition(END)[2],
                 b"plain",
             )
         check(
@@ -272,7 +342,7 @@ def takes_nothing() -> None:
                 if line.startswith("VmRSS")
             )
 
-        asked(pair.switch.active, request(b"/plain"))
+        asked(pair.switch.active, request(PLAIN))
         before = resident()
         with pair.open(FLOODS), pair.open() as other:
             time.sleep(1)
@@ -280,7 +350,7 @@ def takes_nothing() -> None:
             check("another tunnel", taken(other, 4), b"ping")
             check(
                 "another request",
-                (asked(pair.switch.active, request(b"/plain")) or b"").partition(END)[2],
+                (asked(pair.switch.active, request(PLAIN)) or b"").partition(END)[2],
                 b"plain",
             )
             check("KiB that it takes", resident() - before < 2048, True)
@@ -319,6 +389,49 @@ def resets() -> None:
             ["endpoint_failed", "client_failed"],
         )
         check("none is open", comes(lambda: pair.switch.open_requests() == [0]), True)
+
+
+def resets_beside_silence() -> None:
+    """A reset of one peer is one for the other at once, also if no byte passes: that of a client or of
+    an endpoint that has ended its input, and of a client whose bytes wait."""
+    with tunnels(UPGRADE, "--silence", "3600") as pair:
+        peer = pair.peer
+        client = pair.open(LISTENS)
+        client.sendall(b"ping")
+        client.shutdown(socket.SHUT_WR)
+        check("the end of its input", comes(lambda: peer.ended == 1), True)
+        reset(client)
+        check("a client that has ended its input", comes(lambda: peer.resets == 1), True)
+        client = pair.open(STALLS)
+        client.settimeout(1)
+        with contextlib.suppress(TimeoutError):
+            client.sendall(bytes(64 * MEBIBYTE))
+        reset(client)
+        check("a client whose bytes wait", comes(lambda: peer.resets == 2), True)
+        with pair.open(ENDS_AND_RESETS) as client:
+            check("the end of the endpoint's input", client.recv(1), b"")
+            peer.may_go.set()
+            check("an endpoint that has ended its input", comes(lambda: is_over(client, 0)), True)
+        ends = ["client_failed", "client_failed", "endpoint_failed"]
+        check("the log", [one.tunnel for one in pair.entries(3)], ends)
+        check("none is open", comes(lambda: pair.switch.open_requests() == [0]), True)
+
+
+def ends_beside_bytes_that_wait() -> None:
+    """A client that has ended its input, and was told the end of its endpoint's, is not taken for one
+    that is reset: all that it sent reaches its endpoint, however late that reads it."""
+    with tunnels(UPGRADE) as pair, pair.open(ENDS_AND_READS) as client:
+        check("the end of the endpoint's input", client.recv(1), b"")
+        sent, active = 0, pair.switch.active
+        # until bytes wait at the switch that it does not read
+        while not (unread_at(active) and not comes(lambda: unread_at(active) == 0, 0.5)):
+            sent += client.send(bytes(16_384))
+        client.shutdown(socket.SHUT_WR)
+        time.sleep(0.5)
+        check("it is open", pair.switch.open_requests(), [1])
+        pair.peer.may_go.set()
+        check("all of it comes", comes(lambda: pair.peer.late == sent), True)
+        check("the log", [one.tunnel for one in pair.entries(1)], ["whole"])
 
 
 def deploy_another(pair: Tunnels, peer: Peer) -> None:
@@ -416,7 +529,7 @@ def latencies(port: int, count: int) -> Sequence[float]:
     with KeptClient(port) as client:
         for _ in range(count):
             began = time.monotonic()
-            client.answer_to(request(b"/plain"))
+            client.answer_to(request(PLAIN))
             seconds.append(time.monotonic() - began)
     return seconds
 
@@ -433,6 +546,8 @@ if __name__ == "__main__":
             takes_nothing,
             silence,
             resets,
+            resets_beside_silence,
+            ends_beside_bytes_that_wait,
             drains,
             shutdown,
             goes_meanwhile,

@@ -1,8 +1,9 @@
 //! The tunnels of clients, and how the bytes that pass through them are read and written.
-ghost use Rattle.std.specs.Prelude.{◌≡◌, None, Some};
+ghost use Rattle.std.specs.Prelude.{◌≡◌, None, Some, if◌then◌else◌};
 ghost use Rattle.std.specs.Option.{option_and_then, option_map};
 ghost use Rattle.bg_tunnel.specs.Tunnels.{begun, failed, looked};
-ghost use Rattle.bg_event_loop.specs.TunnelSteps.{is_due as is_tunnel_due, reads as tunnel_reads, writes as tunnel_writes};
+ghost use Rattle.bg_event_loop.specs.TunnelSteps.{is_due as is_tunnel_due, is_gone as is_peer_gone};
+ghost use Rattle.bg_event_loop.specs.TunnelSteps.{reads as tunnel_reads, writes as tunnel_writes};
 
 use crate::client::Client;
 use crate::endpoint::Endpoint;
@@ -111,6 +112,8 @@ impl Client {
                 now,
             );
         }
+        fail_if_gone(tunnel, Peer::Client, self.ready);
+        fail_if_gone(tunnel, Peer::Endpoint, endpoint.ready);
         client_due || endpoint_due
     }
 
@@ -134,6 +137,23 @@ fn is_due(tunnel: &Tunnel, peer: Peer, ready: Readiness) -> bool
     ensures { result ≡ is_tunnel_due tunnel.now peer ready }
 {
     writes(tunnel, peer, ready) || tunnel.is_to_shut(peer) || reads(tunnel, peer, ready)
+}
+
+/// Whether the connection of this peer is over, and no step on it is due, which would tell. One whose writing side was shut does not
+/// count: it is over, too, once the peer has ended its own side, and the tunnel may go on then.
+fn is_gone(tunnel: &Tunnel, peer: Peer, ready: Readiness) -> bool
+    ensures { result ≡ is_peer_gone tunnel.now peer ready }
+{
+    ready.reset && !is_due(tunnel, peer, ready) && !tunnel.is_shut(peer)
+}
+
+/// Notes that the connection of this peer failed if it is gone. A step finds that of other connections that are over.
+fn fail_if_gone(tunnel: &mut Tunnel, peer: Peer, ready: Readiness)
+    ensures { tunnel.new ≡ if is_peer_gone tunnel.old peer ready then failed peer tunnel.old else tunnel.old }
+{
+    if is_gone(tunnel, peer, ready) {
+        tunnel.fail(peer);
+    }
 }
 
 /// Whether bytes are to be written to this peer, and a write may take some.

@@ -21,6 +21,7 @@ enum Step {
     Rest(Peer, &'static [u8]),
     WantsInput(Peer, bool),
     IsToShut(Peer, bool),
+    IsShut(Peer, bool),
     Passed(Peer, u64),
     Ending(Option<TunnelEnd>),
 }
@@ -57,6 +58,7 @@ fn holds(alloc: Global, tunnel: &mut Tunnel, step: &Step) -> bool {
         Step::Rest(peer, bytes) => return rest_is(tunnel, *peer, bytes),
         Step::WantsInput(peer, wants) => return tunnel.wants_input(*peer) == *wants,
         Step::IsToShut(peer, is_to_shut) => return tunnel.is_to_shut(*peer) == *is_to_shut,
+        Step::IsShut(peer, is_shut) => return tunnel.is_shut(*peer) == *is_shut,
         Step::Passed(peer, count) => return tunnel.passed(*peer) == *count,
         Step::Ending(ending) => {
             return tunnel.ending() == *ending && tunnel.is_over() == ending.is_some();
@@ -104,8 +106,11 @@ static RUNS: [Run; 4] = [
             Step::NoteShut(Peer::Client),
             Step::Take(Peer::Client, 9, 5),
             Step::IsToShut(Peer::Client, true),
+            Step::IsShut(Peer::Client, false),
             Step::NoteShut(Peer::Client),
             Step::IsToShut(Peer::Client, false),
+            Step::IsShut(Peer::Client, true),
+            Step::IsShut(Peer::Endpoint, false),
             Step::Ending(None),
             Step::EndInput(Peer::Client),
             Step::Take(Peer::Endpoint, 3, 6),

@@ -103,6 +103,13 @@ impl Tunnel {
             && !direction.is_shut()
     }
 
+    /// Whether the writing side of the connection to this peer was shut.
+    pub fn is_shut(&self, peer: Peer) -> bool
+        ensures { result ≡ (spec.direction peer self.now).is_shut }
+    {
+        self.direction(peer).is_shut()
+    }
+
     /// Whether the tunnel is over: both connections are to be closed then.
     pub fn is_over(&self) -> bool
         ensures { result ≡ spec.is_over self.now }
