@@ -12,7 +12,7 @@ from collections.abc import Callable, Iterator, Mapping, Sequence
 
 from support import checks
 from support.access_logs import entries_of
-from support.checks import check, comes
+from support.checks import check, check_soon, comes
 from support.clients import asked, connect, received, reset
 from support.endpoints import LONGEST, Endpoint, Request
 from support.kept import KeptClient
@@ -39,6 +39,8 @@ LISTENS, STALLS = b"/listens", b"/stalls"
 ENDS_AND_RESETS, ENDS_AND_READS = b"/ends-and-resets", b"/ends-and-reads"
 PLAIN = b"/plain"
 MEBIBYTE = 1 << 20
+SILENCE = SHUTDOWN = 3  # seconds
+SOON = 2.5  # for how many seconds more a tunnel may be open
 LAST_WORDS = b"last words"
 DELAYED = """{"spec": {"strategy": {"blueGreen": {"activeService": "web", "scaleDownDelaySeconds": 5}}}}"""
 LIMITED = DELAYED.replace("5}", '5, "drainLimitSeconds": 10}')
@@ -359,17 +361,17 @@ def takes_nothing() -> None:
 def silence() -> None:
     """A tunnel on which no byte passes for --silence seconds is reset on both sides; one byte of
     either peer renews the time."""
-    with tunnels(UPGRADE, "--silence", "2") as pair:
+    with tunnels(UPGRADE, "--silence", str(SILENCE)) as pair:
         with pair.open() as client:
-            began = time.monotonic()
-            for _ in range(4):
-                time.sleep(0.8)
+            began = last = time.monotonic()
+            while last < began + 1.5 * SILENCE:
+                time.sleep(SILENCE / 4)
+                last = time.monotonic()
                 client.sendall(b"p")
                 check("a byte", taken(client, 1), b"p")
-            check("it lives for longer", time.monotonic() - began > 3, True)
-            quiet = time.monotonic()
             check("then it is reset", is_reset(client), True)
-            check("after the time", 1.9 < time.monotonic() - quiet < 4.5, True)
+            check("not before the time", time.monotonic() - last > SILENCE - 0.1, True)
+            check_soon("its reset", time.monotonic() - last, SILENCE + SOON)
         check("the log", [one.tunnel for one in pair.entries(1)], ["silent"])
 
 
@@ -472,7 +474,7 @@ def drains() -> None:
 
 def shutdown() -> None:
     """A graceful shutdown ends tunnels after its time, and the program ends."""
-    with tunnels(UPGRADE, "--shutdown-timeout", "2") as pair:
+    with tunnels(UPGRADE, "--shutdown-timeout", str(SHUTDOWN)) as pair:
         with pair.open() as client:
             operator, began = pair.switch.operator(), time.monotonic()
             operator.send_quit()
@@ -480,7 +482,8 @@ def shutdown() -> None:
             client.sendall(b"ping")
             check("it passes on", taken(client, 4), b"ping")
             check("then it is ended", is_reset(client), True)
-            check("after the time", 1.5 < time.monotonic() - began < 5, True)
+            check("not before the time", time.monotonic() - began > SHUTDOWN - 0.1, True)
+            check_soon("its end", time.monotonic() - began, SHUTDOWN + SOON)
         check("the end", pair.switch.wait().status, 0)
         operator.close()
         check("the log", [one.tunnel for one in pair.entries(1)], ["given_up"])
@@ -513,7 +516,7 @@ def many() -> None:
                 {b"half" + LAST_WORDS},
             )
             worst = max(latencies(pair.switch.active, 200))
-            check("no request is late", worst < 1, True)
+            check_soon("the longest wait of another request", worst, 1)
             for client in clients[1::2]:
                 client.sendall(b"ping")
             check("the others", {taken(client, 4) for client in clients[1::2]}, {b"ping"})
