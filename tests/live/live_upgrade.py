@@ -17,7 +17,7 @@ from support.clients import asked, connect, received, reset
 from support.endpoints import LONGEST, Endpoint, Request
 from support.kept import KeptClient
 from support.messages import BAD_GATEWAY, BY_HAND, request, response
-from support.ports import free_ports, unread_at
+from support.ports import HOST, free_ports, unread_at
 from support.switch import Switch
 from support.traffic import ACCESS_LOG, prepared_log
 
@@ -25,6 +25,7 @@ from support.traffic import ACCESS_LOG, prepared_log
 from bg_switch_tools.switch.access_log import LogEntry
 
 UPGRADE, KEEP_ALIVE, STREAM = "--upgrade", "--keep-alive", "--stream"
+FORWARDED = "--forwarded"
 END = b"\r\n\r\n"
 ASKS = request(b"/chat").replace(
     b"Host: x\r\n", b"Host: x\r\nConnection: keep-alive, Upgrade\r\nUpgrade: websocket\r\n"
@@ -233,7 +234,12 @@ def is_reset(client: socket.socket) -> bool:
 def accepted() -> None:
     """An upgrade that is accepted: both heads, bytes both ways, both ends one after the other, and
     the log."""
-    for flags in ((UPGRADE,), (UPGRADE, STREAM, KEEP_ALIVE)):
+    for flags in (
+        (UPGRADE,),
+        (UPGRADE, FORWARDED),
+        (UPGRADE, STREAM, KEEP_ALIVE),
+        (UPGRADE, STREAM, KEEP_ALIVE, FORWARDED),
+    ):
         name = " ".join(flags)
         with tunnels(*flags) as pair:
             with pair.open() as client:
@@ -257,6 +263,38 @@ def accepted() -> None:
                 (len(ASKS) + 4, len(ACCEPTED) + 4 + len(LAST_WORDS)),
             )
             check(f"{name}: none is open", comes(lambda: pair.switch.open_requests() == [0]), True)
+
+
+def origins() -> None:
+    """With --forwarded, an upgrade tells its endpoint where it comes from, too, and no Connection field
+    of its client takes that away."""
+    hostile = ASKS.replace(b"keep-alive, Upgrade", b"upgrade, X-Forwarded-For, X-Request-Id, X-A")
+    hostile = hostile.removesuffix(b"\r\n") + b"X-Forwarded-For: 192.0.2.1\r\nX-A: 1\r\n\r\n"
+    with tunnels(UPGRADE, FORWARDED, KEEP_ALIVE) as pair:
+        for text in (ASKS, hostile):
+            with connect(pair.switch.active) as client:
+                client.sendall(text)
+                check("the head", taken(client, len(ACCEPTED)), ACCEPTED)
+            fields = pair.peer.requests[-1].fields
+            named = {name.lower(): value for name, value in fields}
+            check("no field stands twice", len(fields), len(named))
+            check("Upgrade", named[b"upgrade"], b"websocket")
+            check("Connection", named[b"connection"], b"upgrade")
+            check("X-Forwarded-For", named[b"x-forwarded-for"], HOST.encode())
+            check("X-Request-Id", len(named[b"x-request-id"]), 32)
+            check("a field of the client's connection", named.get(b"x-a"), None)
+        with KeptClient(pair.switch.active) as client:
+            client.answer_to(ASKS.replace(b"/chat", REFUSES, 1))
+            client.answer_to(request(PLAIN))
+        last = pair.peer.requests[-1]
+        check("another request", (last.target, last.value(b"Upgrade")), (PLAIN, None))
+        check("it tells the same", last.value(b"X-Forwarded-For"), HOST.encode())
+    with tunnels(STREAM, FORWARDED) as pair:
+        check("without --upgrade", asked(pair.switch.active, ASKS), BAD_GATEWAY)
+        last = pair.peer.requests[-1]
+        check("its Upgrade", last.value(b"Upgrade"), None)
+        check("its Connection", last.value(b"Connection"), b"close")
+        check("its X-Forwarded-For", last.value(b"X-Forwarded-For"), HOST.encode())
 
 
 def behind_both_heads() -> None:
@@ -542,6 +580,7 @@ if __name__ == "__main__":
         "live_upgrade",
         (
             accepted,
+            origins,
             behind_both_heads,
             not_accepted,
             without_the_flag,

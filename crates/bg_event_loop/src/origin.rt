@@ -1,12 +1,14 @@
 //! How a request tells its endpoint where it comes from.
-ghost use Rattle.std.specs.Prelude.{◌≡◌, IfOk};
+ghost use Rattle.std.specs.Prelude.{◌≡◌, ◌++◌, IfOk, OnOk};
 ghost use Rattle.bg_event_loop.specs.Origins as spec;
+ghost use Rattle.bg_upgrade.specs.HeadTexts.{upgrade_fields};
 
 use crate::client::Client;
 use crate::settings::OriginSettings;
-use bg_http::Fields;
+use bg_http::{Fields, Request, RuledName};
 use bg_origin::{Origin, origin_fields, request_id, request_id_in};
-use std::alloc::Global;
+use bg_upgrade::asks_for_upgrade;
+use std::alloc::{AllocError, Global};
 use std::io;
 use std::net::IpAddr;
 
@@ -37,7 +39,7 @@ impl Client {
         let Some(request) = self.sides.request() else {
             return false;
         };
-        let fields = told_fields(alloc, &request.fields, self.address, (settings, number));
+        let fields = told_fields(alloc, request, self.address, (settings, number));
         match fields {
             Ok(fields) => {
                 self.record.keep_id(alloc, request_id_in(&fields));
@@ -48,14 +50,15 @@ impl Client {
     }
 }
 
-/// The fields of a request that tells where it comes from. The only error is an allocation failure.
+/// The fields of a request that tells where it comes from. One that asks for an upgrade still asks. The only error is an allocation
+/// failure.
 fn told_fields(
     alloc: Global,
-    fields: &Fields,
+    request: &Request,
     client: Option<IpAddr>,
     terms: (OriginSettings, u64),
 ) -> io::Result<Fields>
-    ensures { IfOk result (λ told. told ≡ spec.told_fields terms.0 client terms.1 fields.now) }
+    ensures { IfOk result (λ told. told ≡ spec.told_fields terms.0 client terms.1 request.now) }
 {
     let (settings, number) = terms;
     let id = request_id(
@@ -68,5 +71,30 @@ fn told_fields(
         request_id: id.as_slice(),
         trusts_client: settings.trusts_clients,
     };
-    origin_fields(alloc, fields, &origin)
+    let mut told = origin_fields(alloc, &request.fields, &origin)?;
+    if asks_for_upgrade(request) {
+        ask_for_upgrade(&mut told, &request.fields)?;
+    }
+    Ok(told)
+}
+
+/// Adds the Upgrade fields of a request that asks for an upgrade, and a Connection field that names no other one, so that no field of
+/// the client takes away what the endpoint is told (RFC 9110 sections 7.6.1 and 7.8).
+fn ask_for_upgrade(told: &mut Fields, fields: &Fields) -> Result<(), AllocError>
+    ensures { OnOk result (told.new ≡ spec.with_upgrade fields.now told.old) }
+{
+    add_upgrade_fields(told, fields)?;
+    told.add(b"Connection", b"upgrade")
+}
+
+/// Adds the Upgrade fields, in their order.
+fn add_upgrade_fields(told: &mut Fields, fields: &Fields) -> Result<(), AllocError>
+    ensures { OnOk result (told.new ≡ told.old ++ upgrade_fields fields.now) }
+{
+    for field in fields.get() {
+        if field.is(RuledName::Upgrade) {
+            told.add(field.name(), field.value())?;
+        }
+    }
+    Ok(())
 }
