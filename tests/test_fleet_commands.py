@@ -487,8 +487,10 @@ class WithoutQuorum(WithCluster):
     def test_members_that_are_stopped_and_killed(self) -> None:
         person = Person(self.cluster, timeout_seconds=2)
         self.assertEqual(person.run("members", "add", "web-1").status, 0)
+        # the others may have to elect a leader, which takes longer on a busy machine
+        patient = Person(self.cluster, timeout_seconds=10)
         self.cluster.members[0].stop()
-        run = person.run("members")  # the next endpoint is asked
+        run = patient.run("members")  # the next endpoint is asked
         self.cluster.members[0].go_on()
         self.assertEqual(run, ("web-1\n", "", 0))
         for member in self.cluster.members[1:]:
